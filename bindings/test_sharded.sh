@@ -9,8 +9,8 @@
 # five seconds and continued, a disk is full, a folder may only be read, a byte of each file is damaged (test_faults.py). The full disk
 # needs a user who may mount one.
 #
-# It needs a python3 with distributed (Debian's python3-distributed): PYTHON may name one. UCSTORE_LIBRARY may name the shared object;
-# else ./install at the top puts it into a temporary folder. It takes four minutes.
+# It needs a python3 with distributed (Debian's python3-distributed): PYTHON may name one. UCSTORE_LIBRARY and UCSTORE_DB_LIBRARY may
+# name the shared objects; else ./install at the top puts them into a temporary folder. It takes four minutes.
 set -euo pipefail
 here=$(cd "$(dirname "${BASH_SOURCE[0]}")" && pwd)
 work=$(mktemp -d)
@@ -39,9 +39,10 @@ run() {
 }
 
 python=$(find_python)
-if [ -z "${UCSTORE_LIBRARY:-}" ]; then
+if [ -z "${UCSTORE_LIBRARY:-}" ] || [ -z "${UCSTORE_DB_LIBRARY:-}" ]; then
     PREFIX="$work/usr" "$here/../install" > "$work/installed"
-    export UCSTORE_LIBRARY=$work/usr/lib/libucstore.so.2
+    export UCSTORE_LIBRARY=$work/usr/lib/libucstore.so.2 UCSTORE_DB_LIBRARY=$work/usr/lib/libucstore_db.so.1
+    [ -e "$UCSTORE_DB_LIBRARY" ] || fail "the database isn't installed: it needs cargo"
 fi
 export PYTHONPATH=$here/python PYTHONDONTWRITEBYTECODE=1 TMPDIR=$work
 cd "$work"

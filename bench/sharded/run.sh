@@ -8,8 +8,8 @@
 # one), before it is acknowledged. Both compact by themselves. The scheduler and the workers are processes on the loopback address,
 # and new ones for each run. A worker has one shard. Batches and keys are made before any clock starts.
 #
-# It needs a python3 with distributed (Debian's python3-distributed): PYTHON may name one. OURS is the shared object, or ./install at
-# the top makes it. Each program runs in turn, TURNS times (3), and all must come to the same answers. Each figure is the median of its
+# It needs a python3 with distributed (Debian's python3-distributed): PYTHON may name one. OURS is the shared object, beside which that of
+# the database is, or ./install at the top makes both. Each program runs in turn, TURNS times (3), and all must come to the same answers. Each figure is the median of its
 # turns. RESULTS names a file for the figures as JSON, of which plot.py makes batches.svg. It takes six minutes.
 set -u -o pipefail
 
@@ -56,7 +56,8 @@ find_library() {
         OURS=$folder/usr/lib/libucstore.so.2
     fi
     UCSTORE_LIBRARY=$(realpath -e "$OURS") || exit 2
-    export UCSTORE_LIBRARY PYTHONPATH=$here/../../bindings/python PYTHONDONTWRITEBYTECODE=1
+    UCSTORE_DB_LIBRARY=$(realpath -e "$(dirname "$OURS")/libucstore_db.so.1") || exit 2
+    export UCSTORE_LIBRARY UCSTORE_DB_LIBRARY PYTHONPATH=$here/../../bindings/python PYTHONDONTWRITEBYTECODE=1
     # As SHARDS.md advises for one machine.
     export DASK_DISTRIBUTED__COMM__COMPRESSION=None
 }

@@ -292,6 +292,64 @@ struct told {
     char text[256];
 };
 
+/* The batch that puts a key of a byte to a value of a byte, at a sequence below 256. */
+static const uint8_t *batch_at(uint8_t sequence, char key, char value) {
+    static uint8_t batch[17] = {0, 0, 0, 0, 0, 0, 0, 0, 1, 0, 0, 0, 1, 1, 0, 1, 0};
+    batch[0] = sequence;
+    batch[14] = (uint8_t)key;
+    batch[16] = (uint8_t)value;
+    return batch;
+}
+
+/* A database is recovered to a sequence, with snapshots at marks behind a base of one of them. */
+static void try_recovery(void) {
+    static const uint64_t marks[] = {20, 7};
+    struct ucstore_db_options options;
+    struct ucstore_db *db = open_texts("parts"), *other = NULL;
+    struct ucstore_db_snapshot *snapshot = NULL, *unset = NULL;
+    uint64_t sequence = 0;
+    OK(ucstore_db_options_init(&options));
+    CHECK(options.recover_to == UINT64_MAX && options.give_up_until == UINT64_MAX && options.marks_count == 0);
+    OK(ucstore_db_write_bytes(db, batch_at(7, 'a', '1'), 17, true));
+    OK(ucstore_db_snapshot(db, &snapshot));
+    OK(ucstore_db_write_bytes(db, batch_at(20, 'a', '2'), 17, false));
+    OK(ucstore_db_write_bytes(db, batch_at(0, 'a', '3'), 17, true));
+    CHECK(is_refused(ucstore_db_write_bytes(db, batch_at(21, 'a', '4'), 17, true), UCSTORE_DB_SEQUENCE_BACK, "above the last"));
+    CHECK(is_refused(ucstore_db_write_bytes(db, batch_at(30, 'a', '4'), 16, true), UCSTORE_DB_NOT_A_BATCH, "write batch"));
+    CHECK(ucstore_db_write_bytes(db, NULL, 17, true) == UCSTORE_DB_NULL);
+    OK(ucstore_db_in_memory(&options, &other));
+    CHECK(is_refused(ucstore_db_checkpoint_to(other, snapshot), UCSTORE_DB_OTHER_DATABASE, "another database"));
+    OK(ucstore_db_close(other));
+    OK(ucstore_db_checkpoint_to(db, snapshot));
+    OK(ucstore_db_checkpoint_to(db, snapshot));
+    OK(ucstore_db_next_log(db));
+    CHECK(ucstore_db_next_log(NULL) == UCSTORE_DB_NULL);
+    CHECK(ucstore_db_checkpoint_to(db, NULL) == UCSTORE_DB_NULL && ucstore_db_checkpoint_to(NULL, snapshot) == UCSTORE_DB_NULL);
+    OK(ucstore_db_snapshot_close(snapshot));
+    CHECK(ucstore_db_take_mark(db, 7, &unset) == UCSTORE_DB_NOT_PROTECTED && unset == NULL);
+    OK(ucstore_db_close(db));
+    options.recover_to = 8;
+    CHECK(is_refused(ucstore_db_open(below("parts"), &options, &db), UCSTORE_DB_NOT_RECOVERABLE, "000001.log can't be recovered at"));
+    options.recover_to = 20;
+    options.give_up_until = 20;
+    CHECK(is_refused(ucstore_db_open(below("parts"), &options, &db), UCSTORE_DB_NOT_RECOVERABLE, "20 was acknowledged"));
+    options.give_up_until = 21;
+    options.marks_count = 2;
+    CHECK(ucstore_db_open(below("parts"), &options, &db) == UCSTORE_DB_NULL);
+    options.marks = marks;
+    db = open_with("parts", &options);
+    CHECK(has(db, "a", "2"));
+    OK(ucstore_db_take_mark(db, 7, &snapshot));
+    OK(ucstore_db_snapshot_sequence(snapshot, &sequence));
+    CHECK(sequence == 7 && ucstore_db_take_mark(db, 7, &unset) == UCSTORE_DB_NOT_PROTECTED);
+    OK(ucstore_db_snapshot_close(snapshot));
+    put(db, "b", "1");
+    OK(ucstore_db_close(db));
+    db = open_texts("parts");
+    CHECK(has(db, "a", "2") && has(db, "b", "1"));
+    OK(ucstore_db_close(db));
+}
+
 static void hear_event(void *context, const struct ucstore_db_event *event) {
     struct told *told = (struct told *)context;
     struct ucstore_db_stats stats;
@@ -331,7 +389,7 @@ static void try_events(void) {
     OK(ucstore_db_compact(told.db));
     OK(ucstore_db_checkpoint(told.db));
     CHECK(told.events[UCSTORE_DB_FLUSHED] == 4 && told.events[UCSTORE_DB_CHECKPOINTED] == 1);
-    CHECK(strcmp(told.text, "000002.base") == 0 || told.events[UCSTORE_DB_COMPACTED] > 0);
+    CHECK(strcmp(told.text, "000002-4.base") == 0 || told.events[UCSTORE_DB_COMPACTED] > 0);
     stats.size = 1;
     CHECK(ucstore_db_stats(told.db, &stats) == UCSTORE_DB_BAD_SIZE);
     stats.size = sizeof stats;
@@ -494,6 +552,7 @@ int main(int argc, char **argv) {
     try_pages(db);
     try_snapshots(db);
     try_sources();
+    try_recovery();
     try_events();
     try_damage();
     try_full_device();

@@ -14,8 +14,9 @@ from pathlib import Path
 
 import ucstore
 from ucstore import (
-    BadOption, BatchFull, Closed, Damaged, Db, DbOptions, EventKind, FileFault, Forked, Locked, Operator,
-    OtherOperator, Progress, ReadOnly, Sync, TooLong, UcstoreError, UnknownOperator, _db, _db_library, _db_reader,
+    BadOption, BatchFull, Closed, Damaged, Db, DbOptions, Delete, EventKind, FileFault, Forked, Locked, Merge, NotABatch,
+    NotProtected, NotRecoverable, Operator, OtherDatabase, OtherOperator, Progress, Put, ReadOnly, SequenceBack, Sync, TooLong,
+    UcstoreError, UnknownOperator, _db, _db_library, _db_reader, batch_bytes,
 )
 
 THREADS = 8
@@ -280,6 +281,76 @@ class Refusals(InFolder):
             return own[b"k"] == b"v" and calls[-1]() == 0
 
 
+def batch_at(first, *operations):
+    """Operations as RocksDB spells them, from a sequence on."""
+    return batch_bytes(operations, first)
+
+
+class Recovered(InFolder):
+    """A database that is a part of something greater: another log says what was acknowledged."""
+
+    def files(self):
+        return {path.name: path.read_bytes() for path in self.folder.iterdir()}
+
+    def test_batches_have_their_own_sequences(self):
+        with Db(self.folder) as db:
+            db.write_bytes(batch_at(7, Put(b"a", b"1"), Put(b"b", b"2")))
+            db.write_bytes(batch_at(0, Put(b"c", b"3")), synced=False)
+            db.write_bytes(bytearray(batch_at(20, Delete(b"a"))))
+            for wrong, refusal in (b"", NotABatch), (b"?" * 11, NotABatch), (batch_at(20, Put(b"a", b"4")), SequenceBack):
+                with self.assertRaises(refusal):
+                    db.write_bytes(wrong)
+            with self.assertRaises(TypeError):
+                db.write_bytes("text")
+        with Db(self.folder) as db, db.snapshot() as snapshot:
+            self.assertEqual((snapshot.sequence, dict(db.items())), (20, {b"b": b"2", b"c": b"3"}))
+
+    def test_what_is_behind_a_sequence_is_given_up(self):
+        with Db(self.folder) as db:
+            for first in 1, 5, 9:
+                db.write_bytes(batch_at(first, Merge(b"k", b"%d" % first), Put(b"l", b"")))
+        before = self.files()
+        for to, until, text in ((1, None, "no batch ends at sequence 1"), (11, None, "the batches end at sequence 10, before 11"),
+                                (2, 8, "a batch begins at sequence 9, so that 8 was acknowledged")):
+            with self.assertRaisesRegex(NotRecoverable, f"^000001.log can't be recovered at [0-9]+: {text}"):
+                Db(self.folder, recover_to=to, give_up_until=until)
+        for wrong in ({"recover_to": -1}, {"recover_to": 1 << 64}, {"give_up_until": (1 << 64) - 1}, {"marks": [1 << 64]}):
+            with self.assertRaises(BadOption):
+                Db(self.folder, **wrong)
+        with Db(self.folder, recover_to=6, give_up_until=9) as db:
+            self.assertEqual(db[b"k"], b"1,5")
+        self.assertEqual(self.files(), before)
+        with Db(self.folder, recover_to=6) as db:
+            db.merge(b"k", b"more")
+        with Db(self.folder) as db:
+            self.assertEqual((db[b"k"], db.stats().last), (b"1,5,more", 7))
+
+    def test_marks_are_made_again_behind_a_base_of_a_snapshot(self):
+        with Db(self.folder, options=DbOptions(checkpoint_least=(1 << 64) - 1)) as db, Db.in_memory() as other:
+            db.merge(b"k", b"1")
+            with db.snapshot() as old:
+                db.merge(b"k", b"2")
+                db.merge(b"k", b"3")
+                with old.again() as again:
+                    old.close()
+                    self.assertEqual(again[b"k"], b"1")
+                    db.checkpoint_to(again)
+                    with self.assertRaises(OtherDatabase):
+                        other.checkpoint_to(again)
+                for call in (old.again, lambda: db.checkpoint_to(old)):
+                    with self.assertRaises(Closed):
+                        call()
+        self.assertIn("000001-1.base", self.files())
+        with Db(self.folder, recover_to=3, marks=[2, 1, 2]) as db:
+            with db.take_mark(2) as snapshot, db.take_mark(1) as older:
+                self.assertEqual((snapshot.sequence, snapshot[b"k"], older[b"k"], db[b"k"]), (2, b"1,2", b"1", b"1,2,3"))
+            for sequence in 1, 2, 3:
+                with self.assertRaises(NotProtected):
+                    db.take_mark(sequence)
+        with self.assertRaisesRegex(NotRecoverable, "before 4"):
+            Db(self.folder, marks=[4])
+
+
 class Told(InFolder):
     def test_events(self):
         told = []
@@ -290,7 +361,7 @@ class Told(InFolder):
         self.assertEqual([event.kind for event in told], [EventKind.FLUSHED, EventKind.CHECKPOINTED])
         flushed, checkpointed = told
         self.assertTrue(flushed.runs == 1 and flushed.bytes > 0 and flushed.error is None and flushed.seconds >= 0)
-        self.assertEqual((checkpointed.text, checkpointed.bytes), ("000002.base", os.path.getsize(self.folder / "000002.base")))
+        self.assertEqual((checkpointed.text, checkpointed.bytes), ("000002-1.base", os.path.getsize(self.folder / "000002-1.base")))
 
     def test_a_function_that_is_told_may_call(self):
         seen = []

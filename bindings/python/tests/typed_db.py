@@ -30,6 +30,7 @@ def write(db: Db, batch: DbBatch) -> None:
     batch.delete_range(b"a", b"b")
     db.write(batch)
     db.write(batch, synced=True)
+    db.write_bytes(b"batch", synced=False)
 
 
 def read(db: Db, snapshot: DbSnapshot) -> Dict[bytes, bytes]:
@@ -57,3 +58,6 @@ def main(folder: Path) -> None:
         db.flush()
         db.compact()
         db.checkpoint()
+    with Db(folder, recover_to=7, give_up_until=8, marks=[3, 5]) as again, again.take_mark(3) as mark:
+        again.checkpoint_to(mark.again())
+        again.next_log()

@@ -259,11 +259,11 @@ class Refused(OnCluster):
     def test_damage_names_its_shard_and_file(self):
         with self.create() as store:
             store.write([Put(b"%d" % number, b"v") for number in range(100)])
-        path = self.folder / "shard-2.log"
+        path = self.folder / "shard-2" / "000001.log"
         log = path.read_bytes()
         for damaged in (log[:-1], log[:20] + bytes([log[20] ^ 1]) + log[21:], b""):
             path.write_bytes(damaged)
-            with self.assertRaisesRegex(LogDamaged, f"shard 2: {path} can be read up to byte 0 of the {len(log)} "):
+            with self.assertRaisesRegex(LogDamaged, f"shard 2: {path} (is damaged|can't be recovered) at 0: "):
                 self.open()
         path.write_bytes(log + b"torn")
         with self.open() as store:
@@ -277,12 +277,12 @@ class Refused(OnCluster):
         with self.create() as store:
             for number in range(3):
                 store.write([Put(b"%d" % key, b"%d" % number) for key in range(100)])
-        log, shards = path.read_bytes(), {shard: shard.read_bytes() for shard in self.folder.glob("shard-*.log")}
+        log, shards = path.read_bytes(), {shard: shard.read_bytes() for shard in self.folder.glob("shard-*/*.log")}
         size = len(log) // 4
         for damaged, wrong in (
             (log[:-1] + bytes([log[-1] ^ 1]), f"sequencer.log is damaged at byte {3 * size}"),
-            (log[:2 * size], "a batch from sequence 201 on: 200 was acknowledged, and sequencer.log ends at 100"),
-            (log[:2 * size + 5], "a batch from sequence 201 on: 200 was acknowledged, and sequencer.log ends at 100"),
+            (log[:2 * size], "begins at sequence 201, so that 200 was acknowledged, and sequencer.log ends at 100"),
+            (log[:2 * size + 5], "begins at sequence 201, so that 200 was acknowledged, and sequencer.log ends at 100"),
         ):
             path.write_bytes(damaged)
             with self.subTest(wrong=wrong), self.assertRaisesRegex(LogDamaged, wrong):
@@ -297,9 +297,9 @@ class Refused(OnCluster):
         shape = json.loads(path.read_text())
         shape.pop("sha256")
         for changes, wrong in (
-            ({"shards": 5}, "shard-4.log isn't there"),
+            ({"shards": 5}, "shard-4 isn't there"),
             ({"shards": 3}, None),
-            ({"format": 5}, "its format is 5"),
+            ({"format": 6}, "its format is 6"),
             ({"placement": "sha1"}, "neither by crc32 nor by split points"),
         ):
             path.write_bytes(sealed({**shape, **changes}))
@@ -339,7 +339,7 @@ class Killed(OnCluster):
         with store.snapshot() as before:
             worker = next(iter(self.client.scheduler_info()["workers"]))
             limits = self.client.run(limit_files, 20000, workers=[worker])[worker]
-            with self.assertRaisesRegex(ShardedError, "shard [0-3]: .*shard-[0-3].log: File too large"):
+            with self.assertRaisesRegex(ShardedError, "shard [0-3]: .*shard-[0-3]: .*000001.log: File too large"):
                 store.write([Put(b"%d" % number, b"2" * 100) for number in range(1000)])
             self.client.run(limit_files, limits[0], workers=[worker])
             self.assertEqual(dict(before.scan()), dict(first))

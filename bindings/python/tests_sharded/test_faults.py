@@ -14,7 +14,7 @@ import test_cluster
 from test_cluster import OnCluster
 from ucstore import Operator, Put
 from ucstore._shard import sealed
-from ucstore.sharded import BadManifest, LogDamaged, ShardedError, ShardedStore, ShardTimeout
+from ucstore.sharded import BadManifest, LogDamaged, OlderFormat, ShardedError, ShardedStore, ShardTimeout
 
 LEAST = 20_000
 
@@ -43,7 +43,11 @@ class WithBases(OnCluster):
         return store
 
     def files(self):
-        return {path.name: path.read_bytes() for path in self.folder.iterdir()}
+        return {str(path.relative_to(self.folder)): path.read_bytes() for path in self.folder.rglob("*") if path.is_file()}
+
+    def shards(self):
+        """The files of the shards."""
+        return {name: text for name, text in self.files().items() if name.startswith("shard-")}
 
 
 class Cut(WithBases):
@@ -59,12 +63,11 @@ class Cut(WithBases):
         beside.compare_all()
         while beside.snapshots:
             beside.release()
-        written = beside.sharded._log.lengths
         beside.write()
         beside.write()
         beside.sharded.close()
-        kept = sum(len(text) for name, text in self.files().items() if name.startswith("shard-"))
-        self.assertGreater(sum(written), 2 * kept)
+        # A batch has some 17 bytes a write.
+        self.assertGreater(17 * beside.single.last, 2 * sum(map(len, self.shards().values())))
         self.assertTrue([name for name in self.files() if name.endswith(".base")])
         self.assertEqual(self.rows(self.open()), dict(beside.single.scan_at(b"", None, beside.single.take_snapshot())))
 
@@ -72,7 +75,6 @@ class Cut(WithBases):
         store, value, cluster = self.create(sync=False), b"v" * 16000, test_cluster.cluster
         for number in range(250):
             store.write([Put(b"%d" % key, b"%d" % number + value) for key in range(40)])
-        self.assertGreater(sum(store._log.lengths), 150_000_000)
         store.close()
         self.assertLess(sum(map(len, self.files().values())), 15_000_000)
         cluster.kill_workers()
@@ -84,21 +86,23 @@ class Cut(WithBases):
         for worker, after in self.client.run(peak).items():
             self.assertLess(after - before[worker], 30_000_000)
 
-    def test_a_store_of_format_3_is_opened_and_its_logs_are_cut(self):
+    def test_a_store_of_an_older_format_is_refused_as_it_is(self):
         store = self.create()
         store.write(puts(1))
         store.close()
         path = self.folder / "manifest.json"
         new, shape = path.read_bytes(), json.loads(path.read_text())
         shape.pop("sha256")
-        path.write_bytes(sealed({**shape, "format": 3}))
-        store = self.open()
-        self.assertEqual((path.read_bytes(), set(self.rows(store).values())), (new, {b"1" * 20}))
-        for number in range(300):
-            store.write(puts(number))
-        store.close()
-        self.assertTrue([name for name in self.files() if name.endswith(".base")])
-        self.assertEqual(set(self.rows(self.open()).values()), {b"299" * 20})
+        for number in (2, 3, 4):
+            path.write_bytes(sealed({**shape, "format": number}))
+            before = self.files()
+            with self.assertRaisesRegex(OlderFormat, f"manifest.json is refused: its format is {number}, and only 5 is known"):
+                self.open()
+            with self.assertRaises(OlderFormat):
+                ShardedStore.reader(self.client, self.folder)
+            self.assertEqual(self.files(), before)
+        path.write_bytes(new)
+        self.assertEqual(set(self.rows(self.open()).values()), {b"1" * 20})
 
 
 def peak():
@@ -211,7 +215,7 @@ class ReadOnly(WithBases):
 def only_read(folder):
     """Lets this process only read a folder. What the superuser may isn't bounded by modes: another user is taken then."""
     is_root = os.geteuid() == 0
-    for path in [folder, *folder.iterdir()]:
+    for path in [folder, *folder.rglob("*")]:
         path.chmod(0o555 if path.is_dir() else 0o444)
     if is_root:
         above = [path for path in folder.parents if path.stat().st_mode & 0o005 != 0o005]
@@ -223,7 +227,7 @@ def only_read(folder):
     finally:
         if is_root:
             os.seteuid(0)
-        for path in [folder, *folder.iterdir()]:
+        for path in [folder, *folder.rglob("*")]:
             path.chmod(0o755 if path.is_dir() else 0o644)
 
 
@@ -238,7 +242,7 @@ class Damaged(WithBases):
         files, wanted = self.files(), {put.key: put.value for put in puts(59, 60, 30)}
         self.assertGreater(sum(name.endswith(".base") for name in files), 3)
         for name, text in sorted(files.items()):
-            # Nothing is read of these two, and logs that were cut are empty.
+            # Nothing is read of these, and logs that were cut are empty.
             places = self.draws.sample(range(len(text)), min(3, len(text))) if name not in ("lock", "epoch") else []
             for place in places:
                 (self.folder / name).write_bytes(text[:place] + bytes([text[place] ^ 0x10]) + text[place + 1:])
@@ -247,8 +251,7 @@ class Damaged(WithBases):
                 (self.folder / name).write_bytes(text)
         kept = {name: text for name, text in self.files().items() if name != "epoch"}
         self.assertEqual(kept["manifest.json"], files["manifest.json"])
-        self.assertEqual({name: kept[name] for name in kept if name.startswith("shard-")},
-                         {name: files[name] for name in files if name.startswith("shard-")})
+        self.assertEqual(self.shards(), {name: files[name] for name in files if name.startswith("shard-")})
         self.assertEqual(self.rows(self.open()), wanted)
 
 

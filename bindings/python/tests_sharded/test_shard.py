@@ -22,12 +22,11 @@ from pathlib import Path
 from unittest import mock
 
 import drawn
-from ucstore import Delete, DeleteRange, Merge, NotProtected, Operator, Options, Put, Store, _shard_log, batch_bytes
-from ucstore._shard import (
-    AnotherWriter, BadManifest, Claim, LogDamaged, Manifest, Refusal, Sequencer, Shard, ShardedError, Writer, acknowledged,
-    batch_of, dumps, last_numbers, packed, sealed, unsealed,
-)
-from ucstore.sharded import Scan
+from ucstore import Db, Delete, DeleteRange, FileFault, Merge, NotProtected, Operator, Options, Put, Store, batch_bytes
+from ucstore._shard import Claim, Manifest, Sequencer, acknowledged, batch_of, dumps, last_numbers, packed, sealed, unsealed
+from ucstore._shard_files import Writer
+from ucstore._shard_part import Refusal, Shard
+from ucstore.sharded import AnotherWriter, BadManifest, LogDamaged, OlderFormat, Scan, ShardedError
 
 
 def part(*operations):
@@ -85,12 +84,12 @@ class Folder(unittest.TestCase):
 
 class Manifests(Folder):
     def shape(self, **changes):
-        shape = {"format": 4, "shards": 3, "placement": "crc32", "operator": "TAIL", "options": Options()._asdict()}
+        shape = {"format": 5, "shards": 3, "placement": "crc32", "operator": "TAIL", "options": Options()._asdict()}
         return {**shape, **changes}
 
     def test_each_wrong_shape_is_named(self):
         for wrong, changes in (
-            ("its format is 5, and only 4 is known", {"format": 5}),
+            ("its format is 6, and only 5 is known", {"format": 6}),
             ("0 isn't a number of shards", {"shards": 0}),
             ("'3' isn't a number of shards", {"shards": "3"}),
             ("there is no operator 'SUM'", {"operator": "SUM"}),
@@ -117,7 +116,7 @@ class Manifests(Folder):
         self.assertEqual(Manifest.read(self.folder), manifest)
         with self.assertRaisesRegex(BadManifest, "isn't empty"):
             make(manifest, self.folder)
-        for name in ("shard-1.log", "epoch", "sequencer.log", "lock"):
+        for name in ("shard-1", "epoch", "sequencer.log", "lock"):
             (self.folder / name).rename(self.folder / "moved")
             with self.assertRaisesRegex(BadManifest, f"manifest.json is refused: .*{name} isn't there"):
                 Manifest.read(self.folder)
@@ -129,27 +128,18 @@ class Manifests(Folder):
         with self.assertRaisesRegex(BadManifest, "manifest.json is refused: .*No such file"):
             Manifest.read(self.folder)
 
-    def test_the_options_of_format_2_are_read_under_their_new_names(self):
+    def test_a_store_of_an_older_format_is_refused_and_stays_as_it_is(self):
         make(Manifest(3, None, Operator.TAIL, Options()), self.folder)
-        old = {"memtable": 4096, "trigger": 40, "ratio": 2, "percent": 100, "least": 3, "greatest": 9, "first_id": 7}
-        (self.folder / "manifest.json").write_bytes(sealed(self.shape(format=2, options=old)))
-        self.assertEqual(Manifest.read(self.folder).options, Options(4096, 40, 40, 2, 100, 3, 9))
-        for options in ("usual", {**old, "trigger": "40"}, {**old, "memory": 1}):
-            (self.folder / "manifest.json").write_bytes(sealed(self.shape(format=2, options=options)))
-            with self.assertRaisesRegex(BadManifest, "manifest.json is refused"):
-                Manifest.read(self.folder)
-
-    def test_a_manifest_of_an_older_format_is_written_anew(self):
-        manifest = Manifest(3, None, Operator.TAIL, Options())
-        make(manifest, self.folder)
         path = self.folder / "manifest.json"
-        new = path.read_bytes()
-        path.write_bytes(sealed(self.shape(format=3)))
-        self.assertEqual(Manifest.read(self.folder), manifest)
-        manifest.renew(self.folder)
-        self.assertEqual(path.read_bytes(), new)
-        with mock.patch("os.replace", side_effect=OSError):
-            manifest.renew(self.folder)
+        old = {"memtable": 4096, "trigger": 40, "ratio": 2, "percent": 100, "least": 3, "greatest": 9, "first_id": 7}
+        for text in (
+            sealed(self.shape(format=2, options=old)), sealed(self.shape(format=3)), sealed(self.shape(format=4)),
+            json.dumps(self.shape(format=4)).encode(),
+        ):
+            path.write_bytes(text)
+            with self.assertRaisesRegex(OlderFormat, f"^{path} is refused: its format is [234], and only 5 is known: write a scan"):
+                Manifest.read(self.folder)
+            self.assertEqual(path.read_bytes(), text)
 
     def test_each_flipped_bit_is_refused(self):
         make(Manifest(3, (b"key-3", b"key-6"), Operator.APPEND, Options()), self.folder)
@@ -165,8 +155,8 @@ class Manifests(Folder):
         make(Manifest(3, None, Operator.TAIL, Options()), self.folder)
         path, shape = self.folder / "manifest.json", self.shape()
         for text, wrong in (
-            (json.dumps({**shape, "format": 1}), "its format is 1, and only 4 is known"),
-            (sealed({**shape, "format": 5}).decode(), "its format is 5, and only 4 is known"),
+            (json.dumps({**shape, "format": 1}), "its format is 1, and only 5 is known"),
+            (sealed({**shape, "format": 6}).decode(), "its format is 6, and only 5 is known"),
             (json.dumps(shape), "it doesn't have its checksum"),
             (sealed(shape).decode().replace('"shards": 3', '"shards": 2'), "it doesn't have its checksum"),
             ("[]", "it isn't an object"),
@@ -194,6 +184,8 @@ class Manifests(Folder):
         manifest, outer = Manifest(2, None, Operator.APPEND, Options()), self.folder / "outer"
         with self.assertRaises(KeyboardInterrupt), manifest.created(outer / "inner"):
             self.assertEqual(Manifest.read(outer / "inner"), manifest)
+            # What a worker makes of a shard goes too.
+            Db(outer / "inner" / "shard-1").close()
             raise KeyboardInterrupt
         self.assertFalse(outer.exists())
         with self.assertRaises(OSError), mock.patch("os.replace", side_effect=OSError(errno.ENOSPC, "no space")):
@@ -273,7 +265,7 @@ class Sequencers(Folder):
         for cut in range(size + 1):
             self.path.write_bytes(text[:len(text) - cut])
             found = self.opened()
-            self.assertEqual((found.last, found.lengths), (5, [0, 70]) if cut else (9, [40, 70]))
+            self.assertEqual((found.last, found.reached), (5, [0, 70]) if cut else (9, [40, 70]))
         # A file may have got its length, but not what is in it.
         self.path.write_bytes(text[:-size] + bytes(size))
         self.assertEqual(self.opened().last, 5)
@@ -297,21 +289,21 @@ class Sequencers(Folder):
             with self.subTest(room=room):
                 with files_of_at_most(size + room), self.assertRaises(OSError):
                     sequencer.append(9, {0: 40})
-                self.assertEqual((sequencer.last, sequencer.lengths), (5, [0, 70]))
+                self.assertEqual((sequencer.last, sequencer.reached), (5, [0, 70]))
                 # There is room again, but nothing is written at the end.
                 sequencer.close()
                 self.assertEqual(self.path.stat().st_size, size + room)
                 sequencer = self.opened()
-                self.assertEqual((sequencer.last, sequencer.lengths), (5, [0, 70]))
+                self.assertEqual((sequencer.last, sequencer.reached), (5, [0, 70]))
                 size = self.path.stat().st_size
 
     def test_a_device_that_fails_acknowledges_nothing(self):
         for call in ("os.fsync", "ucstore._shard.Writer.check"):
             sequencer = self.opened()
-            before = sequencer.last, sequencer.lengths
+            before = sequencer.last, sequencer.reached
             with mock.patch(call, side_effect=OSError(errno.EIO, "broken")), self.assertRaisesRegex(OSError, "broken"):
                 sequencer.append(before[0] + 1, {0: 40})
-            self.assertEqual((sequencer.last, sequencer.lengths), before)
+            self.assertEqual((sequencer.last, sequencer.reached), before)
             sequencer.close()
 
     def test_a_long_log_is_begun_anew(self):
@@ -320,14 +312,14 @@ class Sequencers(Folder):
             for last in range(1, 100):
                 sequencer.append(last, {last % 2: 10 * last})
                 self.assertLessEqual(self.path.stat().st_size, 280 + 28)
-                self.assertEqual(list(last_numbers(self.path, 3)), [last, *sequencer.lengths])
+                self.assertEqual(list(last_numbers(self.path, 3)), [last, *sequencer.reached])
             self.epoch = new_epoch(self.folder)
             new = self.opened()
             # A writer that was thought dead begins no file over the newer one's.
             for last in range(100, 120):
                 with self.assertRaises((AnotherWriter, ValueError)):
                     sequencer.append(last, {})
-        self.assertEqual((new.last, new.lengths), (99, [980, 990]))
+        self.assertEqual((new.last, new.reached), (99, [980, 990]))
         self.assertEqual(list(last_numbers(self.path, 3)), [99, 980, 990])
 
     def test_readers_see_the_last_record_that_is_whole(self):
@@ -369,7 +361,7 @@ class Sequencers(Folder):
             old.append(9, {0: 40})
         new.append(7, {1: 90})
         found = self.opened()
-        self.assertEqual((found.last, found.lengths), (7, [0, 90]))
+        self.assertEqual((found.last, found.reached), (7, [0, 90]))
 
 
 class Claims(Folder):
@@ -453,69 +445,81 @@ class Shards(Folder):
     def setUp(self):
         super().setUp()
         make(Manifest(4, None, Operator.APPEND, drawn.OPTIONS), self.folder)
-        self.path = self.folder / "shard-3.log"
+        self.path = self.folder / "shard-3"
+        self.log = self.path / "000001.log"
         self.epoch = new_epoch(self.folder)
 
-    def opened(self, length=0, keeps=(), options=drawn.OPTIONS, last=1000, least=1 << 30):
+    def opened(self, place=0, keeps=(), options=drawn.OPTIONS, last=1000, least=1 << 30):
         manifest = Manifest(4, None, Operator.APPEND, options)
-        return Shard.start(Writer(self.folder, manifest, self.epoch, True, 0.1, least), 3, length, last, keeps)
+        return Shard.start(Writer(self.folder, manifest, self.epoch, True, 0.1, least), 3, place, last, keeps)
 
     def rows(self, shard, at):
         """What a shard held at a place."""
-        return list(shard._view_at(at).scan())
+        return list(shard._view_at(at).items())
+
+    def value(self, shard, key):
+        return shard._view_at(shard.last).get(key)
 
     def test_a_log_is_cut_at_each_of_its_last_hundred_bytes(self):
         shard = self.opened()
         first = shard.apply(0, 1, part(Put(b"a", b"1" * 80), Put(b"b", b"2")))
         acknowledged = shard.apply(first, 5, part(Merge(b"a", b"3" * 30)))
+        self.assertEqual((first, acknowledged), (2, 5))
+        end = self.log.stat().st_size
         shard.apply(acknowledged, 10, part(Put(b"a", b"4" * 70), Put(b"c", b"5" * 9)))
         del shard
-        log = self.path.read_bytes()
-        self.assertGreater(len(log) - acknowledged, 100)
+        log = self.log.read_bytes()
+        self.assertGreater(len(log) - end, 100)
         for cut in range(101):
-            self.path.write_bytes(log[:len(log) - cut])
+            self.log.write_bytes(log[:len(log) - cut])
             shard = self.opened(acknowledged, last=9)
-            self.assertEqual(shard.get(b"a"), b"1" * 80 + b"," + b"3" * 30)
+            self.assertEqual(self.value(shard, b"a"), b"1" * 80 + b"," + b"3" * 30)
             self.assertEqual(shard.last, 5)
-            self.assertEqual(shard.apply(acknowledged, 10, part(Put(b"a", b"6"))), self.path.stat().st_size)
+            self.assertEqual(shard.apply(acknowledged, 10, part(Put(b"a", b"6"))), 10)
             del shard
+            self.assertEqual(self.log.read_bytes()[:end], log[:end])
+            self.assertLess(self.log.stat().st_size, end + 50)
+            self.assertEqual(self.value(self.opened(10), b"a"), b"6")
         for cut in range(1, 101):
-            self.path.write_bytes(log[:acknowledged - cut])
+            self.log.write_bytes(log[:end - cut])
             with self.assertRaises(LogDamaged) as raised:
                 self.opened(acknowledged)
-            said = f"shard 3: {self.path} can be read up to byte \\d+ of the {acknowledged} that were acknowledged: "
+            said = f"shard 3: {self.log} .*the batches end at sequence [02], before 5, and sequencer.log ends at 1000"
             self.assertRegex(str(raised.exception), said)
-            self.assertEqual(self.path.stat().st_size, acknowledged - cut)
+            self.assertEqual(self.log.stat().st_size, end - cut)
 
     def test_each_byte_that_is_changed_is_damage(self):
         shard = self.opened()
         first = shard.apply(0, 1, part(Put(b"a", b"1"), Put(b"b", b"2")))
-        length = shard.apply(first, 5, part(Merge(b"a", b"3")))
+        last = shard.apply(first, 5, part(Merge(b"a", b"3")))
         del shard
-        log = self.path.read_bytes()
-        for place in range(length):
-            self.path.write_bytes(log[:place] + bytes([log[place] ^ 1]) + log[place + 1:])
-            with self.assertRaisesRegex(LogDamaged, f"shard 3: {self.path} can be read up to byte "):
-                self.opened(length)
+        log = self.log.read_bytes()
+        for place in range(len(log)):
+            self.log.write_bytes(log[:place] + bytes([log[place] ^ 1]) + log[place + 1:])
+            with self.assertRaisesRegex(LogDamaged, f"shard 3: {self.log} "):
+                self.opened(last)
 
     def test_a_batch_is_appended_once(self):
         shard = self.opened()
-        length = shard.apply(0, 7, part(Merge(b"a", b"1")))
-        self.assertEqual(shard.apply(0, 7, part(Merge(b"a", b"1"))), length)
-        self.assertEqual(self.path.stat().st_size, length)
-        self.assertEqual(shard.get(b"a"), b"1")
+        last = shard.apply(0, 7, part(Merge(b"a", b"1")))
+        size = self.log.stat().st_size
+        self.assertEqual(shard.apply(0, 7, part(Merge(b"a", b"1"))), last)
+        self.assertEqual(self.log.stat().st_size, size)
+        self.assertEqual(self.value(shard, b"a"), b"1")
 
     def test_a_shard_that_refuses_lets_go_of_its_log(self):
         shard = self.opened()
-        length = shard.apply(0, 1, part(Put(b"a", b"1")))
-        full = mock.patch("os.fsync", side_effect=OSError(errno.ENOSPC, "no space"))
+        last = shard.apply(0, 1, part(Put(b"a", b"1")))
+        size = self.log.stat().st_size
         # The error is kept, and with it the shard.
-        with full, self.assertRaisesRegex(ShardedError, f"shard 3: {self.path}: no space") as raised:
-            shard.apply(length, 2, part(Put(b"a", b"2")))
-        shard = self.opened(length)
-        self.assertEqual(shard.get(b"a"), b"1")
-        self.assertGreater(self.path.stat().st_size, length)
-        self.assertEqual(shard.apply(length, 2, part(Put(b"a", b"3"))), self.path.stat().st_size)
+        with files_of_at_most(size + 10), self.assertRaisesRegex(ShardedError, f"shard 3: {self.path}: .*000001.log: File too") as raised:
+            shard.apply(last, 2, part(Put(b"a", b"2")))
+        shard = self.opened(last)
+        self.assertEqual(self.value(shard, b"a"), b"1")
+        self.assertGreater(self.log.stat().st_size, size)
+        self.assertEqual(shard.apply(last, 2, part(Put(b"a", b"3"))), 2)
+        del shard
+        self.assertEqual(self.value(self.opened(2), b"a"), b"3")
         del raised
 
     def test_a_batch_behind_one_that_isnt_acknowledged_is_damage(self):
@@ -524,51 +528,51 @@ class Shards(Folder):
         second = shard.apply(first, 5, part(Put(b"a", b"3")))
         shard.apply(second, 9, part(Put(b"a", b"4")))
         del shard
-        log = self.path.read_bytes()
-        for length, last, begun in ((0, 0, 5), (first, 4, 9), (first, 3, 5), (second, 7, 9)):
-            lost = f"shard 3: .* a batch from sequence {begun} on: {begun - 1} was acknowledged, and .* ends at {last}$"
-            with self.subTest(length=length), self.assertRaisesRegex(LogDamaged, lost):
-                self.opened(length, last=last)
-            self.assertEqual(self.path.read_bytes(), log)
+        log = self.log.read_bytes()
+        for place, last, begun in ((0, 0, 5), (first, 4, 9), (first, 3, 5), (second, 7, 9)):
+            lost = f"shard 3: {self.log} .*begins at sequence {begun}, so that {begun - 1} was acknowledged, and .* ends at {last}$"
+            with self.subTest(place=place), self.assertRaisesRegex(LogDamaged, lost):
+                self.opened(place, last=last)
+            self.assertEqual(self.log.read_bytes(), log)
         # One batch may be under way when a writer ends.
-        self.assertEqual(self.opened(second, last=8).get(b"a"), b"3")
-        self.path.write_bytes(log[:-1])
-        self.assertEqual(self.opened(first, last=4).get(b"a"), b"1")
+        self.assertEqual(self.value(self.opened(second, last=8), b"a"), b"3")
+        self.log.write_bytes(log[:-1])
+        self.assertEqual(self.value(self.opened(first, last=4), b"a"), b"1")
         # An older one that failed stays in a log that no later batch touched.
-        self.assertEqual(self.opened(first, last=20).get(b"a"), b"1")
+        self.assertEqual(self.value(self.opened(first, last=20), b"a"), b"1")
 
     def test_a_log_is_cut_by_the_first_batch(self):
         shard = self.opened()
-        length = shard.apply(0, 1, part(Put(b"a", b"1")))
-        shard.apply(length, 2, part(Put(b"a", b"2" * 1000)))
+        last = shard.apply(0, 1, part(Put(b"a", b"1")))
+        shard.apply(last, 2, part(Put(b"a", b"2" * 1000)))
         del shard
-        log = self.path.read_bytes()
-        shard = self.opened(length)
-        self.assertEqual(self.path.read_bytes(), log)
-        end = shard.apply(length, 2, part(Put(b"a", b"3")))
-        self.assertEqual(self.path.stat().st_size, end)
+        log = self.log.read_bytes()
+        shard = self.opened(last)
+        self.assertEqual(self.log.read_bytes(), log)
+        end = shard.apply(last, 2, part(Put(b"a", b"3")))
+        self.assertLess(self.log.stat().st_size, 100)
         del shard
-        self.assertEqual(self.opened(end).get(b"a"), b"3")
+        self.assertEqual(self.value(self.opened(end), b"a"), b"3")
 
     def test_an_error_of_a_call_is_its_answer(self):
         shard = self.opened()
-        at = length = shard.call("apply", 0, 1, part(Put(b"a", b"1")))
+        at = shard.call("apply", 0, 1, part(Put(b"a", b"1")))
         self.assertIsNone(shard.call("keep", at))
         wrong_limit, wrong_text = dumps([(0, (b"", None, -1))]), dumps([(0, ("a", None, 1))])
         for kind, call in (
             (ValueError, ("answers", wrong_limit, at)), (TypeError, ("answers", wrong_text, at)),
-            (struct.error, ("apply", length, -1, part(Put(b"a", b"2")))), (LookupError, ("release", at + 1)),
+            (struct.error, ("apply", at, -1, part(Put(b"a", b"2")))), (LookupError, ("release", at + 1)),
         ):
             answer = shard.call(*call)
             self.assertIsInstance(answer, Refusal)
             with self.subTest(kind=kind), self.assertRaises(kind):
                 raise answer.error.with_traceback(None)
             answer = shard.call(*call)
-        self.assertEqual(shard.get(b"a"), b"1")
-        # The error is kept, but neither the shard nor its log's lock.
+        self.assertEqual(self.value(shard, b"a"), b"1")
+        # The error is kept, but neither the shard nor its database's lock.
         del shard
         self.assertIsNone(answer.error.__traceback__)
-        self.opened(length)
+        self.opened(at)
 
     def test_one_process_has_the_log_open(self):
         shard = self.opened()
@@ -579,110 +583,115 @@ class Shards(Folder):
 
     def test_an_older_writer_appends_nothing(self):
         shard = self.opened()
-        length = shard.apply(0, 1, part(Put(b"a", b"1")))
+        last = shard.apply(0, 1, part(Put(b"a", b"1")))
+        size = self.log.stat().st_size
         old, self.epoch = self.epoch, new_epoch(self.folder)
         with self.assertRaises(AnotherWriter):
-            shard.apply(length, 2, part(Put(b"a", b"2")))
-        self.assertEqual(self.path.stat().st_size, length)
+            shard.apply(last, 2, part(Put(b"a", b"2")))
+        self.assertEqual(self.log.stat().st_size, size)
         del shard
-        self.opened(length)
+        self.opened(last)
         self.epoch = old
         with self.assertRaises(AnotherWriter):
-            self.opened(length)
+            self.opened(last)
 
     def test_a_long_log_is_opened_with_a_snapshot(self):
         options = Options(write_buffer_size=1)
-        shard, length, at = self.opened(options=options), 0, 0
+        shard, last, at = self.opened(options=options), 0, 0
         for number in range(700):
             if number == 600:
-                at = length
+                at = last
                 shard.keep(at)
-            length = shard.apply(length, number + 1, part(Merge(b"%d" % (number % 3), b"%d" % number)))
-        rows = self.rows(shard, length), self.rows(shard, at)
+            last = shard.apply(last, number + 1, part(Merge(b"%d" % (number % 3), b"%d" % number)))
+        rows = self.rows(shard, last), self.rows(shard, at)
         self.assertNotEqual(*rows)
         del shard
-        shard = self.opened(length, [at], options)
-        self.assertEqual((self.rows(shard, length), self.rows(shard, at)), rows)
+        shard = self.opened(last, [at], options)
+        self.assertEqual((self.rows(shard, last), self.rows(shard, at)), rows)
 
     def test_snapshots_are_taken_again(self):
         for seed in range(10):
             draws = random.Random(seed)
-            self.path.write_bytes(b"")
-            shard, single, last, length, keeps = self.opened(), Store(Operator.APPEND, drawn.OPTIONS), 0, 0, []
+            shutil.rmtree(self.path)
+            shard, single, last, place, keeps = self.opened(), Store(Operator.APPEND, drawn.OPTIONS), 0, 0, []
             for _ in range(12):
                 for _ in range(draws.randrange(3)):
-                    shard.keep(length)
-                    keeps.append((length, single.take_snapshot()))
+                    shard.keep(place)
+                    keeps.append((place, single.take_snapshot()))
                 first, operations = last + draws.randrange(1, 4), drawn.batch(draws, 100)
                 last = first + len(operations) + draws.randrange(3)
-                length = shard.apply(length, first, part(*operations))
+                place = shard.apply(place, first, part(*operations))
                 single.write(operations, first)
-            shard.keep(length)
-            keeps.append((length, single.take_snapshot()))
+            shard.keep(place)
+            keeps.append((place, single.take_snapshot()))
             alive = [keep for keep in keeps if draws.random() < 0.6]
             del shard
-            shard = self.opened(length, [keep[0] for keep in alive])
+            shard = self.opened(place, [keep[0] for keep in alive], last=last)
             self.assertEqual(shard.last, single.last)
             for at, same in alive:
                 self.assertEqual(self.rows(shard, at), list(single.scan_at(b"", None, same)))
             for at, _ in alive:
                 shard.release(at)
             with self.assertRaises(NotProtected):
-                shard.release(length)
+                shard.release(place)
             self.assertEqual(shard.report().snapshots, 0)
             single.close()
             del shard
 
 
 class Cuts(Folder):
-    """A shard's log that is cut: its bases and segments."""
+    """A shard's logs that are cut: its bases."""
 
     def setUp(self):
         super().setUp()
         make(Manifest(1, None, Operator.APPEND, drawn.OPTIONS), self.folder)
-        self.epoch, self.first, self.length, self.wanted = new_epoch(self.folder), 1, 0, {}
+        self.path = self.folder / "shard-0"
+        self.epoch, self.first, self.place, self.wanted = new_epoch(self.folder), 1, 0, {}
 
     def opened(self, keeps=(), least=2000):
         writer = Writer(self.folder, Manifest(1, None, Operator.APPEND, drawn.OPTIONS), self.epoch, True, 5.0, least)
-        return Shard.start(writer, 0, self.length, self.first - 1, keeps)
+        return Shard.start(writer, 0, self.place, self.first - 1, keeps)
 
     def put(self, shard, count, size=90):
         """Writes so many batches over ten keys, and waits until no base is being written."""
         for _ in range(count):
             key, value = b"k%d" % (self.first % 10), b"%d" % self.first * (size // 4)
-            self.length = shard.apply(self.length, self.first, part(Put(key, value)))
+            self.place = shard.apply(self.place, self.first, part(Put(key, value)))
             self.first += 1
             self.wanted[key] = value
             self.wait(shard)
 
     def wait(self, shard):
-        until = time.monotonic() + 20
-        while shard._log._is_busy:
-            self.assertLess(time.monotonic(), until)
-            time.sleep(0.001)
+        if shard._base is not None:
+            shard._base.join(20)
+            self.assertFalse(shard._base.is_alive())
 
     def files(self):
-        return {path.name: path.read_bytes() for path in self.folder.glob("shard-0*")}
+        return {path.name: path.read_bytes() for path in self.path.iterdir() if path.name != "LOCK"}
+
+    def base(self):
+        """The last sequence of the newest base: 0 if there is none."""
+        return max((int(name[7:-5]) for name in self.files() if name.endswith(".base")), default=0)
 
     def restore(self, files):
-        for path in self.folder.glob("shard-0*"):
+        for path in self.path.iterdir():
             path.unlink()
         for name, text in files.items():
-            (self.folder / name).write_bytes(text)
+            (self.path / name).write_bytes(text)
 
     def rows(self, shard, at=None):
-        return dict(shard._view_at(self.length if at is None else at).scan())
+        return dict(shard._view_at(self.place if at is None else at).items())
 
     def test_a_log_is_cut_while_batches_come(self):
-        shard = self.opened()
+        shard, written = self.opened(), 0
         for _ in range(40):
             self.put(shard, 10)
-            self.assertLess(sum(map(len, self.files().values())), 16000)
-        self.assertGreater(self.length, 30000)
-        self.assertEqual(self.files()["shard-0.log"], b"")
+            self.assertLess(sum(map(len, self.files().values())), 20000)
+        self.assertGreater(shard._logged, 30000)
         self.assertEqual(self.rows(shard), self.wanted)
         del shard
         before = self.files()
+        self.assertNotIn("000001.log", before)
         shard = self.opened()
         self.assertEqual((self.rows(shard), self.files()), (self.wanted, before))
         self.put(shard, 30)
@@ -692,13 +701,13 @@ class Cuts(Folder):
     def test_a_base_has_the_rows_of_the_oldest_snapshot(self):
         shard = self.opened()
         self.put(shard, 100)
-        old, at = dict(self.wanted), self.length
+        old, at = dict(self.wanted), self.place
         shard.keep(at)
         self.put(shard, 100)
-        newer, then = dict(self.wanted), self.length
+        newer, then = dict(self.wanted), self.place
         shard.keep(then)
         self.put(shard, 100)
-        self.assertLessEqual(shard._log.base, at)
+        self.assertLessEqual(self.base(), at)
         for _ in range(2):
             found = self.rows(shard, at), self.rows(shard, then), self.rows(shard)
             self.assertEqual(found, (old, newer, self.wanted))
@@ -706,29 +715,26 @@ class Cuts(Folder):
             shard = self.opened([then, at])
         shard.release(at)
         self.put(shard, 100)
-        self.assertEqual((shard._log.base > at, shard._log.base <= then), (True, True))
+        self.assertEqual((self.base() > at, self.base() <= then), (True, True))
         self.assertEqual(self.rows(shard, then), newer)
         shard.release(then)
         self.put(shard, 100)
-        self.assertGreater(shard._log.base, then)
+        self.assertGreater(self.base(), then)
         del shard
         self.assertEqual(self.rows(self.opened()), self.wanted)
 
-    def test_each_byte_that_is_changed_is_damage_or_changes_nothing(self):
+    def test_each_byte_that_is_changed_is_damage(self):
         shard = self.opened()
         self.put(shard, 60)
         del shard
-        files = self.files()
-        self.assertEqual(sorted(len(text) > 0 for text in files.values()), [False, True, True])
-        refused = 0
+        files, refused = self.files(), 0
+        self.assertEqual(sorted(name[6:] for name in files), [f"-{self.base()}.base", ".log", "OR"])
         for name, text in files.items():
             for place in range(len(text)):
                 self.restore({**files, name: text[:place] + bytes([text[place] ^ 1 << place % 8]) + text[place + 1:]})
-                with self.subTest(name=name, place=place):
-                    try:
-                        self.assertEqual(self.rows(self.opened()), self.wanted)
-                    except LogDamaged:
-                        refused += 1
+                with self.subTest(name=name, place=place), self.assertRaisesRegex(LogDamaged, f"shard 0: {self.path}/{name} "):
+                    self.opened()
+                refused += 1
         self.assertEqual(refused, sum(map(len, files.values())))
 
     def test_each_file_that_is_cut_or_missing_is_damage(self):
@@ -739,110 +745,84 @@ class Cuts(Folder):
         for name, text in files.items():
             for size in range(len(text)):
                 self.restore({**files, name: text[:size]})
-                with self.subTest(name=name, size=size), self.assertRaisesRegex(LogDamaged, f"shard 0: {self.folder}/{name} "):
+                with self.subTest(name=name, size=size), self.assertRaisesRegex(LogDamaged, f"shard 0: {self.path}/{name} "):
                     self.opened()
-            self.restore({other: files[other] for other in files if other != name})
-            with self.subTest(name=name), self.assertRaises(ShardedError):
-                self.opened()
-
-    def test_a_crash_at_each_step_loses_nothing(self):
-        """What each call leaves that changes the folder: each state is opened, read and written."""
-        shard, states = self.opened(), []
-        self.put(shard, 15)
-
-        one = threading.Lock()
-
-        def seen(call):
-            def called(*arguments, **named):
-                with one:
-                    answer = call(*arguments, **named)
-                    states.append((self.files(), self.first, self.length, dict(self.wanted)))
-                return answer
-            return called
-
-        with mock.patch.multiple("os", **{name: seen(getattr(os, name)) for name in ("replace", "fsync", "truncate")}):
-            with mock.patch.object(Path, "unlink", seen(Path.unlink)):
-                self.put(shard, 60)
-        del shard
-        self.assertGreater(len({tuple(sorted(files)) for files, *_ in states}), 5)
-        for files, self.first, self.length, wanted in states:
-            self.restore(files)
-            self.wanted = dict(wanted)
-            shard = self.opened()
-            self.assertEqual(self.rows(shard), wanted)
-            self.put(shard, 30)
-            del shard
-            self.assertEqual(self.rows(self.opened()), self.wanted)
+            # One without the operator's name gets it: it has no data.
+            if name != "OPERATOR":
+                self.restore({other: files[other] for other in files if other != name})
+                with self.subTest(name=name), self.assertRaises(ShardedError):
+                    self.opened()
 
     def test_a_full_device_writes_no_base_and_loses_nothing(self):
         shard = self.opened()
-        def refuse(*_):
-            raise OSError(errno.ENOSPC, "no space")
 
-        with mock.patch.object(_shard_log.ShardLog, "_write_base", refuse), mock.patch("threading.excepthook") as said:
+        # A new error each time: one that is kept keeps the shard.
+        def refuse(*_):
+            raise FileFault("no space")
+
+        with mock.patch.object(Db, "checkpoint_to", refuse), mock.patch("threading.excepthook") as said:
             self.put(shard, 100)
-        self.assertEqual((shard._log.base, said.call_count), (0, 0))
-        with mock.patch("ucstore._shard_log.sync_folder", refuse):
+        self.assertEqual((self.base(), said.call_count, self.rows(shard)), (0, 0, self.wanted))
+        with mock.patch.object(Db, "next_log", refuse):
             self.put(shard, 100)
-        self.assertEqual((shard._log.base, self.rows(shard)), (0, self.wanted))
-        self.put(shard, 60)
-        self.assertGreater(shard._log.base, 0)
+        self.assertEqual((self.base(), self.rows(shard)), (0, self.wanted))
+        self.put(shard, 160)
+        self.assertGreater(self.base(), 0)
         del shard
         self.assertEqual(self.rows(self.opened()), self.wanted)
 
-    def test_the_lock_is_kept_while_a_base_is_written(self):
-        shard, replace, reached, go_on = self.opened(), os.replace, threading.Event(), threading.Event()
+    def test_a_shard_that_ends_while_a_base_is_written_loses_nothing(self):
+        shard, checkpoint, reached, go_on = self.opened(), Db.checkpoint_to, threading.Event(), threading.Event()
 
-        def stopped(*paths):
+        def stopped(*arguments):
             reached.set()
             self.assertTrue(go_on.wait(30))
-            replace(*paths)
+            checkpoint(*arguments)
 
-        with mock.patch("os.replace", stopped):
-            while not shard._log._is_busy:
-                self.length = shard.apply(self.length, self.first, part(Put(b"a", b"%d" % self.first * 99)))
+        with mock.patch.object(Db, "checkpoint_to", stopped):
+            while shard._base is None:
+                self.place = shard.apply(self.place, self.first, part(Put(b"a", b"%d" % self.first * 99)))
                 self.first += 1
             self.assertTrue(reached.wait(30))
+            base = shard._base
             del shard
-            with self.assertRaisesRegex(ShardedError, "is open in another process"):
-                self.opened()
+            again = self.opened()
             go_on.set()
-            self.assertEqual(self.rows(self.opened()), {b"a": b"%d" % (self.first - 1) * 99})
+            base.join(30)
+            self.assertEqual(self.rows(again), {b"a": b"%d" % (self.first - 1) * 99})
 
-    def test_a_log_is_read_in_windows(self):
+    def test_what_is_large_is_read_again(self):
         draws, shard, keeps, single = random.Random(1), self.opened(), [], Store(Operator.APPEND, drawn.OPTIONS)
         for number in range(60):
             operations = [Put(b"%d" % draws.randrange(40), bytes([number]) * draws.choice((0, 9, 900, 70000))) for _ in range(9)]
-            self.length = shard.apply(self.length, self.first, part(*operations))
+            self.place = shard.apply(self.place, self.first, part(*operations))
             self.first += 9
             single.write(operations)
             self.wait(shard)
             if number in (30, 45):
-                shard.keep(self.length)
-                keeps.append((self.length, single.take_snapshot()))
-        self.assertGreater(shard._log.base, 0)
+                shard.keep(self.place)
+                keeps.append((self.place, single.take_snapshot()))
+        self.assertGreater(self.base(), 0)
         del shard
-        with mock.patch("ucstore._shard_log.WINDOW", _shard_log.BLOCK):
-            shard = self.opened([at for at, _ in keeps])
-        for at, same in [*keeps, (self.length, single.take_snapshot())]:
+        shard = self.opened([at for at, _ in keeps])
+        for at, same in [*keeps, (self.place, single.take_snapshot())]:
             self.assertEqual(self.rows(shard, at), dict(single.scan_at(b"", None, same)))
 
     def test_a_log_behind_what_was_acknowledged_is_damage(self):
         shard = self.opened()
         self.put(shard, 15)
-        early = self.length, self.first
+        early = self.place, self.first
         self.put(shard, 60)
         del shard
-        files, (self.length, self.first) = self.files(), early
-        place = max(int(name.split(".")[1]) for name in files if name.endswith(".base"))
-        with self.assertRaisesRegex(LogDamaged, f"goes on behind byte {place}, that .* and sequencer.log ends at 15"):
+        files, (self.place, self.first) = self.files(), early
+        with self.assertRaisesRegex(LogDamaged, f"-{self.base()}.base .* no batch ends at sequence 15: .* sequencer.log ends at 15"):
             self.opened()
         self.assertEqual(self.files(), files)
 
     def test_what_was_held_stays_for_readers_for_a_while(self):
         shard = self.opened()
         self.put(shard, 5)
-        at, old = self.length, dict(self.wanted)
+        at, old = self.place, dict(self.wanted)
         self.put(shard, 5)
         self.assertEqual(self.rows(shard, at), old)
         shard.lease(at, 1.5)

@@ -32,10 +32,10 @@ __all__ = [
     "BadOption", "BatchFault", "BatchFull", "Checkpoint", "Closed", "Damaged", "Db", "DbBatch", "DbError",
     "DbOptions", "DbSnapshot", "DbStats", "Delete", "DeleteRange", "End", "Ended", "Event", "EventKind", "FileFault",
     "Forked", "IdsSpent", "Job", "Locked", "LogFault", "LogWrites", "LookupSource", "Merge", "Missing", "NoCheckpoint",
-    "NoJob", "NoStore", "NoView", "NotABatch", "NotProtected", "Operation", "Operator", "Options", "OtherOperator",
-    "OutOfMemory", "Progress", "Put", "ReadOnly", "Report", "RunsClaimed", "SequenceBack", "SequencesSpent",
-    "Snapshot", "Store", "Sync", "TooLong", "UcstoreError", "UnknownOperator", "View", "Write", "WriteBatch",
-    "batch_bytes", "log_writes",
+    "NoJob", "NoStore", "NoView", "NotABatch", "NotProtected", "NotRecoverable", "Operation", "Operator", "Options",
+    "OtherDatabase", "OtherOperator", "OutOfMemory", "Progress", "Put", "ReadOnly", "Report", "RunsClaimed",
+    "SequenceBack", "SequencesSpent", "Snapshot", "Store", "Sync", "TooLong", "UcstoreError", "UnknownOperator", "View",
+    "Write", "WriteBatch", "batch_bytes", "log_writes",
 ]
 
 
@@ -1249,6 +1249,6 @@ def log_writes(log: bytes) -> LogWrites:
 # Behind what they use of this module.
 from ._db import Db, DbBatch, DbSnapshot  # noqa: E402
 from ._db_types import (  # noqa: E402
-    Closed, Damaged, DbError, DbOptions, DbStats, Event, EventKind, FileFault, Forked, Locked, Missing, OtherOperator,
-    Progress, ReadOnly, Sync,
+    Closed, Damaged, DbError, DbOptions, DbStats, Event, EventKind, FileFault, Forked, Locked, Missing, NotRecoverable,
+    OtherDatabase, OtherOperator, Progress, ReadOnly, Sync,
 )

@@ -11,7 +11,7 @@ import ctypes
 import os
 import weakref
 from types import TracebackType
-from typing import Callable, Optional, Type, Union
+from typing import Callable, Optional, Sequence, Type, Union
 
 from . import Operator, UcstoreError
 from ._db_library import OK, Options, Stats, event_function, library, progress_function
@@ -93,8 +93,17 @@ class DbSnapshot(Alone, Reader):
     _close = "snapshot_close"
     _prefix = "snapshot_"
 
-    def __init__(self, db: Db) -> None:
-        super().__init__(db._library, "snapshot", db._at)
+    def __init__(self, db: Db, function: str = "snapshot", *arguments: object) -> None:
+        super().__init__(db._library, function, db._at, *arguments)
+
+    def again(self) -> DbSnapshot:
+        """Another one of the same, so that another thread doesn't wait. Nothing is copied."""
+        with self._lock:
+            if self._is_closed:
+                raise Closed()
+            found = DbSnapshot.__new__(DbSnapshot)
+            Alone.__init__(found, self._library, "snapshot_again", self._at)
+            return found
 
     @property
     def sequence(self) -> int:
@@ -141,38 +150,45 @@ class Db(Reader):
         *,
         progress: Optional[Callable[[Progress], None]] = None,
         events: Optional[Callable[[Event], None]] = None,
+        recover_to: Optional[int] = None,
+        give_up_until: Optional[int] = None,
+        marks: Sequence[int] = (),
     ) -> None:
         """Opens the database of a folder, which is made if it isn't there.
 
         `progress` is told how far the opening is, and `events` what the database does: by the thread that did it, which
         waits meanwhile. Both may call the database, but for its `close`.
 
-        Raises `Locked`, `Damaged`, `Missing`, `OtherOperator`, `FileFault`, `BadOption`, `OutOfMemory`, and `ValueError`
-        for a name with a zero byte.
+        What the files have behind the sequence `recover_to` is given up: it is cut off before the first write. No batch of
+        that may begin behind `give_up_until`. Snapshots are made at the sequences `marks`, for `take_mark`. Each of these
+        is the end of a batch.
+
+        Raises `Locked`, `Damaged`, `Missing`, `NotRecoverable`, `OtherOperator`, `FileFault`, `BadOption`, `OutOfMemory`,
+        and `ValueError` for a name with a zero byte.
         """
         name = os.fsencode(folder)
         if b"\0" in name:
             raise ValueError("a zero byte is in the folder's name")
-        self._begin(operator, options, progress, events, "open", name)
+        given = Options.of(operator, options)
+        given.recover(recover_to, give_up_until, marks)
+        self._begin(given, progress, events, "open", name)
 
     @classmethod
     def in_memory(cls, operator: Operator = Operator.APPEND, options: DbOptions = DbOptions()) -> Db:
         """An empty database without a folder. Raises `BadOption`, `FileFault` and `OutOfMemory`."""
         db = cls.__new__(cls)
-        db._begin(operator, options, None, None, "in_memory")
+        db._begin(Options.of(operator, options), None, None, "in_memory")
         return db
 
     def _begin(
         self,
-        operator: Operator,
-        options: DbOptions,
+        given: Options,
         progress: Optional[Callable[[Progress], None]],
         events: Optional[Callable[[Event], None]],
         function: str,
         *arguments: object,
     ) -> None:
         functions = library()
-        given = Options.of(operator, options)
         # They are called as long as it is open.
         self._listeners = (progress_function(progress), event_function(events))
         given.progress, given.event = self._listeners
@@ -229,6 +245,15 @@ class Db(Reader):
             else:
                 self._call("write_with", batch._at, synced)
 
+    def write_bytes(self, batch: Bytes, synced: bool = True) -> None:
+        """Takes a batch that `batch_bytes` or RocksDB wrote, alone in its record.
+
+        Its operations get its sequence and those behind it, or the ones behind the last one if it is 0. There may be a gap
+        before it, which its record tells. Raises `NotABatch` and `SequenceBack` too.
+        """
+        text = bytes_of(batch)
+        self._call("write_bytes", text, len(text), synced)
+
     def snapshot(self) -> DbSnapshot:
         """What it holds now. `with` closes it at its end."""
         if self._is_closed:
@@ -253,6 +278,32 @@ class Db(Reader):
         Raises `FileFault` if the base isn't written: then the logs stay, and the database goes on. Raises `ReadOnly`.
         """
         self._call("checkpoint")
+
+    def checkpoint_to(self, snapshot: DbSnapshot) -> None:
+        """Writes what a snapshot has to a base, and removes the logs that have nothing behind it.
+
+        What came behind it stays, so that it may be a mark. Others write meanwhile. If a base has as much, it does nothing.
+        It ends by `Closed` if the database is closed. Raises `OtherDatabase`, and what `checkpoint` does.
+        """
+        # Who reads it meanwhile doesn't wait.
+        with snapshot.again() as again:
+            self._call("checkpoint_to", again._at)
+
+    def next_log(self) -> None:
+        """Goes on in a new log, so that a base of now will let the ones before it go. Nothing has to call this.
+
+        Raises `FileFault` if it can't be made: then this one goes on. Raises `ReadOnly`.
+        """
+        self._call("next_log")
+
+    def take_mark(self, sequence: int) -> DbSnapshot:
+        """Gives out the snapshot that was made at one of the opening's `marks`, once. `with` closes it at its end.
+
+        Raises `NotProtected`.
+        """
+        if self._is_closed:
+            raise Closed()
+        return DbSnapshot(self, "take_mark", sequence)
 
     def failure(self) -> Optional[UcstoreError]:
         """Why nothing can be written any more, if that is so."""

@@ -16,6 +16,9 @@ OK, NOT_FOUND, ROOM = 0, 4, 14
 
 _Pointer, _Size, _U64 = ctypes.c_void_p, ctypes.c_size_t, ctypes.c_uint64
 
+# What stands for no sequence.
+_NONE = (1 << 64) - 1
+
 
 class _Progress(ctypes.Structure):
     _fields_ = [("file", ctypes.c_char_p), ("read", _U64), ("whole", _U64)]
@@ -40,16 +43,25 @@ class Options(ctypes.Structure):
         ("min_merge_width", ctypes.c_uint32), ("max_merge_width", ctypes.c_uint32), ("compactors", ctypes.c_uint32),
         ("slow_trigger", ctypes.c_uint32), ("checkpoint_ratio", _U64), ("checkpoint_least", _U64),
         ("recovers_to_fault", ctypes.c_uint32), ("progress", _ProgressFunction), ("progress_context", _Pointer),
-        ("event", _EventFunction), ("event_context", _Pointer),
+        ("event", _EventFunction), ("event_context", _Pointer), ("recover_to", _U64), ("give_up_until", _U64),
+        ("marks", ctypes.POINTER(_U64)), ("marks_count", _Size),
     ]
 
     @classmethod
     def of(cls, operator: Operator, options: DbOptions) -> Options:
         """The options as C sees them. A number that a field has no room for would be cut silently."""
-        found = cls(ctypes.sizeof(cls), operator, *options)
+        found = cls(ctypes.sizeof(cls), operator, *options, recover_to=_NONE, give_up_until=_NONE)
         if any(getattr(found, name) != value for name, value in zip(DbOptions._fields, options)):
             raise BadOption()
         return found
+
+    def recover(self, to: Optional[int], give_up_until: Optional[int], marks: Sequence[int]) -> None:
+        """Says what is given up, and where snapshots are made. Raises `BadOption` for what is no sequence."""
+        if not all(0 <= sequence < _NONE for sequence in (to or 0, give_up_until or 0, *marks)):
+            raise BadOption()
+        self.recover_to = _NONE if to is None else to
+        self.give_up_until = _NONE if give_up_until is None else give_up_until
+        self.marks, self.marks_count = (_U64 * len(marks))(*marks), len(marks)
 
 
 class Stats(ctypes.Structure):
@@ -75,15 +87,19 @@ _SIGNATURES: Dict[str, Sequence[Any]] = {
     "delete_range": (_Pointer, *_TEXT, *_TEXT),
     "write": (_Pointer, _Pointer),
     "write_with": (_Pointer, _Pointer, ctypes.c_bool),
+    "write_bytes": (_Pointer, *_TEXT, ctypes.c_bool),
     "sync": (_Pointer,),
     "get": _GET,
     "get_many": _GET_MANY,
     "cursor": _CURSOR,
     "prefix": _PREFIX,
     "snapshot": (_Pointer, _Pointer),
+    "take_mark": (_Pointer, _U64, _Pointer),
     "flush": (_Pointer,),
     "compact": (_Pointer,),
     "checkpoint": (_Pointer,),
+    "checkpoint_to": (_Pointer, _Pointer),
+    "next_log": (_Pointer,),
     "failure": (_Pointer,),
     "stats": (_Pointer, _Pointer),
     "stats_text": (_Pointer, *_PLACE, _Pointer),
@@ -95,6 +111,7 @@ _SIGNATURES: Dict[str, Sequence[Any]] = {
     "batch_clear": (_Pointer,),
     "batch_count": (_Pointer, _Pointer),
     "batch_close": (_Pointer,),
+    "snapshot_again": (_Pointer, _Pointer),
     "snapshot_sequence": (_Pointer, _Pointer),
     "snapshot_get": _GET,
     "snapshot_get_many": _GET_MANY,

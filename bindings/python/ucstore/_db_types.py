@@ -5,7 +5,10 @@ from __future__ import annotations
 import enum
 from typing import Dict, NamedTuple, Optional, Type
 
-from . import BadOption, BatchFull, IdsSpent, OutOfMemory, SequencesSpent, TooLong, UcstoreError, UnknownOperator
+from . import (
+    BadOption, BatchFull, IdsSpent, NotABatch, NotProtected, OutOfMemory, SequenceBack, SequencesSpent, TooLong, UcstoreError,
+    UnknownOperator,
+)
 
 
 class DbError(UcstoreError):
@@ -60,11 +63,23 @@ class Forked(DbError):
     status = 71
 
 
+class NotRecoverable(DbError):
+    """What the files have doesn't end, or can't be given up, where the opening says. Nothing was changed."""
+
+    status = 74
+
+
+class OtherDatabase(DbError, ValueError):
+    """The snapshot is one of another database."""
+
+    status = 75
+
+
 _ERRORS: Dict[int, Type[UcstoreError]] = {
     error.status: error
     for error in (
-        OutOfMemory, UnknownOperator, BadOption, IdsSpent, SequencesSpent, TooLong, BatchFull, FileFault, Locked, Damaged,
-        Missing, OtherOperator, ReadOnly, Closed, Forked,
+        OutOfMemory, NotProtected, UnknownOperator, BadOption, IdsSpent, SequencesSpent, TooLong, NotABatch, SequenceBack, BatchFull,
+        FileFault, Locked, Damaged, Missing, OtherOperator, ReadOnly, Closed, Forked, NotRecoverable, OtherDatabase,
     )
 }
 
@@ -113,7 +128,7 @@ class DbOptions(NamedTuple):
     checkpoint_ratio: int = 2
     """By how many times the logs exceed the data when a checkpoint is made."""
     checkpoint_least: int = 67108864
-    """How many bytes the logs have at least when a checkpoint is made."""
+    """How many bytes the logs have at least when a checkpoint is made. With 2^64 - 1 none is made by itself."""
     recovers_to_fault: bool = False
     """Whether a damaged folder is opened up to the damage. Nothing can be written then."""
 

@@ -1,4 +1,4 @@
-"""A sharded store's files, and a shard, which a worker runs. Nothing here knows of Dask."""
+"""What a sharded store's writer has: its manifest, the lock and the sequencer's log. Nothing here knows of Dask."""
 
 from __future__ import annotations
 
@@ -6,47 +6,33 @@ import fcntl
 import json
 import marshal
 import os
+import shutil
 import struct
 import time
 import uuid
-import weakref
 from bisect import bisect_left, bisect_right
-from collections import Counter, defaultdict
+from collections import defaultdict
 from contextlib import contextmanager, suppress
 from functools import lru_cache, partial
 from hashlib import sha256
-from itertools import chain, islice
+from itertools import chain
 from operator import itemgetter
 from pathlib import Path
 from typing import Any, Iterator, Mapping, NamedTuple, Sequence
 from zlib import crc32
 
-from . import _TAGS, Delete, DeleteRange, NotProtected, Operation, Operator, Options, Report, Store, View
-from ._shard_files import AnotherWriter, BadManifest, LogDamaged, ShardedError, Writer
+from . import _TAGS, Delete, DeleteRange, Operation, Operator, Options, Store
+from ._shard_files import AnotherWriter, BadManifest, LogDamaged, OlderFormat, Writer
 from ._shard_files import append, locked, refusing, replace, undoing
-from ._shard_log import ShardLog
 
 # The format of a store's files. It grows when they change their meaning.
-FORMAT = 4
+FORMAT = 5
 
-# The names that options had in the files of format 2.
-_OLD_NAMES = {
-    "memtable": "write_buffer_size",
-    "trigger": "compaction_trigger",
-    "ratio": "size_ratio",
-    "percent": "max_size_amplification_percent",
-    "least": "min_merge_width",
-    "greatest": "max_merge_width",
-}
-
-# How many rows a page of a scan has at most, and from how many bytes on it is full.
-PAGE_ROWS, PAGE_BYTES = 1000, 1 << 20
+# Those of older versions, whose shards had logs of their own.
+_OLDER_FORMATS = (2, 3, 4)
 
 # How many operations are packed together: so few that the processor's cache holds them meanwhile.
 PIECE = 2000
-
-# For how many seconds a shard keeps what it held before a batch, for readers that learn of the batch behind it.
-RECENT = 0.5
 
 # From how many bytes on the sequencer's log is begun anew.
 MOST_RECORDS = 1 << 20
@@ -131,22 +117,15 @@ def unsealed(text: bytes) -> dict[str, Any]:
     shape = json.loads(text)
     if not isinstance(shape, dict):
         raise BadManifest("it isn't an object")
-    if shape.get("format") not in (2, 3, FORMAT):
-        raise BadManifest(f"its format is {shape.get('format')!r}, and only {FORMAT} is known")
+    version = shape.get("format")
+    if version != FORMAT:
+        wrong = f"its format is {version!r}, and only {FORMAT} is known"
+        if version in _OLDER_FORMATS:
+            raise OlderFormat(f"{wrong}: write a scan of it into a new store, by the version of ucstore that made it")
+        raise BadManifest(wrong)
     if shape.pop("sha256", None) != _checksum(shape):
         raise BadManifest("it doesn't have its checksum: it is damaged, or was changed")
-    # Those of format 3 have no log that was cut, and are spelled as now.
-    return _renamed(shape) if shape["format"] == 2 else {**shape, "format": FORMAT}
-
-
-def _renamed(shape: Mapping[str, Any]) -> dict[str, Any]:
-    """A manifest of format 2 as it is spelled now. The numbers of runs begin at 1 for all stores."""
-    options = shape.get("options")
-    if isinstance(options, dict):
-        named = {_OLD_NAMES.get(name, name): value for name, value in options.items() if name != "first_id"}
-        # A trigger could be greater than the default of the option that bounds it now.
-        options = {**named, "stop_trigger": max(Options().stop_trigger, named.get("compaction_trigger", 1))}
-    return {**shape, "format": FORMAT, "options": options}
+    return shape
 
 
 class Claim:
@@ -220,12 +199,12 @@ class Manifest(NamedTuple):
 
     def _files(self) -> list[str]:
         """The names of a store's files. Without the first one there is no store."""
-        logs = (f"shard-{number}.log" for number in range(self.shards))
-        return ["manifest.json", "lock", "epoch", "sequencer.log", *logs]
+        shards = (f"shard-{number}" for number in range(self.shards))
+        return ["manifest.json", "lock", "epoch", "sequencer.log", *shards]
 
     def _make_files(self, folder: Path) -> None:
         for number in range(self.shards):
-            (folder / f"shard-{number}.log").touch()
+            (folder / f"shard-{number}").mkdir()
         replace(folder / "sequencer.log", _record([0] * (self.shards + 1)))
         replace(folder / "epoch", b"")
         replace(folder / "manifest.json", sealed(self._shape()))
@@ -235,8 +214,11 @@ class Manifest(NamedTuple):
         with suppress(OSError):
             epoch = folder / "epoch"
             if not epoch.exists() or epoch.read_text() in ("", claim.epoch):
-                for name in self._files():
-                    (folder / name).unlink(True)
+                for path in map(folder.joinpath, self._files()):
+                    # What a shard's database made goes with its folder.
+                    if path.is_dir():
+                        shutil.rmtree(path)
+                    path.unlink(True)
 
     @classmethod
     def of(cls, shape: Any) -> Manifest:
@@ -288,12 +270,6 @@ class Manifest(NamedTuple):
         end = self.shards if high is None else bisect_left(self.splits, high) + 1
         return range(bisect_right(self.splits, low), end)
 
-    def renew(self, folder: Path) -> None:
-        """Writes the file of a store of an older format anew, whose writers don't know all that this one does."""
-        path, text = folder / "manifest.json", sealed(self._shape())
-        if path.read_bytes() != text:
-            replace(path, text)
-
     def parts(self, operations: Sequence[Operation]) -> dict[int, bytes]:
         """The part of each shard that has some of the operations. Raises what `packed` does."""
         parts: dict[int, list[bytes]] = defaultdict(list)
@@ -331,7 +307,7 @@ class Manifest(NamedTuple):
 
 
 def _record(numbers: Sequence[int]) -> bytes:
-    """A record of the sequencer's log: the last sequence, each log's length, and a checksum."""
+    """A record of the sequencer's log: the last sequence, that of each shard, and a checksum."""
     body = struct.pack(f"<{len(numbers)}Q", *numbers)
     return body + crc32(body).to_bytes(4, "little")
 
@@ -391,179 +367,30 @@ class Sequencer:
         """Begins an epoch: older writers are refused. Raises `LogDamaged` and `OSError`."""
         replace(writer.folder / "epoch", writer.epoch.encode())
         self._writer, self._path = writer, writer.folder / "sequencer.log"
-        self.last, *self.lengths = last_numbers(self._path, writer.manifest.shards + 1)
+        self.last, *self.reached = last_numbers(self._path, writer.manifest.shards + 1)
         self._begin_file()
 
     def _begin_file(self) -> None:
         """Begins a file with the last record. Raises `OSError`."""
         # A writer that was thought dead goes on with the old file, which nobody reads.
-        replace(self._path, _record([self.last, *self.lengths]))
+        replace(self._path, _record([self.last, *self.reached]))
         # Without a buffer nothing of a record that failed is written later.
         self._file = open(self._path, "ab", buffering=0)
 
-    def append(self, last: int, lengths: Mapping[int, int]) -> None:
-        """Acknowledges a batch. Raises `AnotherWriter` and `OSError`, and isn't used then."""
+    def append(self, last: int, reached: Mapping[int, int]) -> None:
+        """Acknowledges a batch, up to which some shards have reached. Raises `AnotherWriter` and `OSError`, and isn't used then."""
         if self._file.tell() >= MOST_RECORDS:
             self._writer.check()
             self._file.close()
             self._begin_file()
-        reached = [lengths.get(number, length) for number, length in enumerate(self.lengths)]
-        append(self._file, _record([last, *reached]), self._writer.sync)
+        everywhere = [reached.get(number, before) for number, before in enumerate(self.reached)]
+        append(self._file, _record([last, *everywhere]), self._writer.sync)
         # A newer writer begins an epoch, and then reads the log: it has this record, or is seen.
         self._writer.check()
         # Readers see a batch once it can't be lost any more.
-        self.last, self.lengths = last, reached
+        self.last, self.reached = last, everywhere
 
     def close(self) -> None:
         """Closes the file. What was acknowledged is in it, so that an error says nothing."""
         with suppress(OSError):
             self._file.close()
-
-
-class Refusal(NamedTuple):
-    """The error that a call of a shard raised, as its answer.
-
-    If it were raised, Dask would keep it, and with it the shard and its log's lock. Nor could it be
-    told from the errors that Dask raises for a lost worker.
-    """
-
-    error: Exception
-
-
-class Shard(Store):
-    """A store beside its log, which one process at a time has open. Its calls come one by one.
-
-    What it held at a moment is named by the place that its log had reached, and shown by a view.
-    """
-
-    @classmethod
-    def start(
-        cls, writer: Writer, number: int, length: int, last: int, keeps: Sequence[int]
-    ) -> Shard:
-        """Opens a shard whose log has a length, and had others at the snapshots that are alive.
-
-        `last` is the last sequence that was acknowledged, of all shards. Raises `OutOfMemory`,
-        `LogDamaged`, `AnotherWriter`, and `ShardedError` for a file's error.
-        """
-        whose = f"shard {number}: {writer.folder / f'shard-{number}.log'}"
-        with refusing(ShardedError, whose, OSError):
-            log = ShardLog(writer, number, length, last, list(keeps))
-            # Dask may keep an error, and with it the files and their lock.
-            with undoing(log.close):
-                shard = cls(writer.manifest.operator, writer.manifest.options)
-                shard._writer, shard._log = writer, log
-                shard._replay(Counter(keeps))
-        # Dask closes nothing: it drops an actor.
-        weakref.finalize(shard, log.close)
-        return shard
-
-    def _replay(self, keeps: Mapping[int, int]) -> None:
-        """Writes what the log has, and takes the snapshots that are alive."""
-        self._length, self._views, self._leases = self._log.base, {}, {}
-        self._kept: Counter[int] = Counter()
-        for batch in self._log.rows():
-            self.write_bytes(batch)
-        self._keep_again(keeps)
-        for place, batch in self._log.batches():
-            self.write_bytes(batch)
-            self._length = place
-            self._keep_again(keeps)
-
-    def _keep_again(self, keeps: Mapping[int, int]) -> None:
-        """Takes the snapshots that are alive at the place that is reached."""
-        if keeps[self._length] > 0:
-            self._kept[self._length] = keeps[self._length]
-            self._view_at(self._length)
-
-    def call(self, method: str, *arguments: Any) -> Any:
-        """What a method answers, or a `Refusal` with what it raises."""
-        try:
-            return getattr(self, method)(*arguments)
-        except Exception as error:
-            return Refusal(error.with_traceback(None))
-
-    def apply(self, length: int, first: int, part: bytes) -> int:
-        """Appends a part to the log, writes it, and returns how long the log is then.
-
-        A log that isn't of the length has it already, because an answer was lost.
-        """
-        if self._length == length:
-            self._get_ready()
-            log = self._log
-            with refusing(ShardedError, log.whose, OSError), undoing(log.close):
-                record = self.prepare_bytes(length - log.begin, batch_of(part, first))
-                log.append(record)
-                self.commit()
-            self._length = log.length
-        return self._length
-
-    def _get_ready(self) -> None:
-        """Makes the log ready for a batch: all that is in it is acknowledged then."""
-        log, length = self._log, self._length
-        with refusing(ShardedError, log.whose, OSError), undoing(log.close):
-            self._writer.check()
-            log.cut()
-            self._view_at(length, RECENT)
-            self._let_go()
-            place = min(self._kept, default=length)
-            if log.is_long(place, 0) and log.is_long(place, super().report().bytes):
-                # On a full device the log grows, and the batch is refused if it has no room.
-                with suppress(OSError):
-                    log.start_base(place, self._views[place])
-
-    def _view_at(self, place: int, seconds: float = 0.0) -> View:
-        """What it held at a place, which stays for so many seconds. Raises `NotProtected` if it isn't there any more."""
-        if place == self._length and place not in self._views:
-            self._views[place] = self.view()
-        if place not in self._views:
-            raise NotProtected()
-        until = time.monotonic() + seconds
-        self._leases[place] = max(until, self._leases.get(place, until))
-        return self._views[place]
-
-    def _let_go(self) -> None:
-        """Lets go of what neither a snapshot nor a lease keeps."""
-        now = time.monotonic()
-        self._leases = {place: until for place, until in self._leases.items() if until > now}
-        for place in self._views.keys() - self._kept.keys() - self._leases.keys():
-            del self._views[place]
-
-    def keep(self, place: int) -> None:
-        """Takes a snapshot at a place, until `release` is called as often as this. Raises `NotProtected`."""
-        self._view_at(place)
-        self._kept[place] += 1
-
-    def release(self, place: int) -> None:
-        """Undoes a `keep`. Raises `NotProtected`."""
-        if place not in self._kept:
-            raise NotProtected()
-        self._kept -= Counter([place])
-        self._let_go()
-
-    def lease(self, place: int, seconds: float) -> None:
-        """Keeps what it held at a place for so many seconds, as each read behind this does. Raises `NotProtected`."""
-        self._view_at(place, seconds)
-
-    def report(self) -> Report:
-        """What it holds, in numbers."""
-        return super().report()._replace(snapshots=len(self._kept))
-
-    def answers(self, queries: bytes, at: int, seconds: float = 0.0) -> bytes:
-        """The answers at a place to keys, and to scans of a limit, with their numbers, packed. `lease` says `seconds`."""
-        asked, view = marshal.loads(queries), self._view_at(at, seconds)
-        keys = [(number, query) for number, query in asked if isinstance(query, bytes)]
-        found: list[tuple[int, Any]] = list(zip(map(itemgetter(0), keys), view.get_many(map(itemgetter(1), keys))))
-        for number, query in asked:
-            if not isinstance(query, bytes):
-                found.append((number, list(islice(view.scan(*query[:2]), query[2]))))
-        return dumps(found)
-
-    def page(self, low: bytes, high: bytes | None, at: int, seconds: float = 0.0) -> bytes:
-        """The first rows of a scan at a place, and whether there may be more, packed. `lease` says `seconds`."""
-        rows, size = [], 0
-        for row in self._view_at(at, seconds).scan(low, high):
-            rows.append(row)
-            size += len(row[0]) + len(row[1])
-            if len(rows) == PAGE_ROWS or size >= PAGE_BYTES:
-                return dumps((rows, True))
-        return dumps((rows, False))

@@ -14,7 +14,7 @@ from . import UcstoreError
 if TYPE_CHECKING:
     from ._shard import Manifest
 
-# How many bytes of its log a shard's base lets go at least.
+# How many bytes of its logs a shard's base lets go at least.
 LEAST = 16 << 20
 
 
@@ -24,6 +24,10 @@ class ShardedError(UcstoreError):
 
 class BadManifest(ShardedError):
     """A store can't be made or opened as its manifest says."""
+
+
+class OlderFormat(BadManifest):
+    """A store of an older version of ucstore, whose files this one doesn't read."""
 
 
 class LogDamaged(ShardedError):
@@ -36,11 +40,12 @@ class AnotherWriter(ShardedError):
 
 @contextmanager
 def refusing(refusal: type[ShardedError], text: str, *errors: type[Exception]) -> Iterator[None]:
-    """Raises a refusal in place of some errors."""
+    """Raises a refusal in place of some errors. One that is of its kind stays of its own."""
     try:
         yield
     except errors as error:
-        raise refusal(f"{text}: {getattr(error, 'strerror', error)}") from None
+        kind = type(error) if isinstance(error, refusal) else refusal
+        raise kind(f"{text}: {getattr(error, 'strerror', None) or error}") from None
 
 
 @contextmanager

@@ -14,8 +14,9 @@ from distributed.actor import ProxyRPC
 from distributed.protocol import to_serialize
 
 from . import NoStore, NotProtected
-from ._shard import Manifest, Refusal, acknowledged
+from ._shard import Manifest, acknowledged
 from ._shard_files import polls
+from ._shard_part import Refusal
 from ._shard_reads import Deadline, Reads, Scans, ShardTimeout
 
 # Seconds between two looks for shards that have been opened elsewhere, and those that a call usually takes at most.
@@ -64,9 +65,9 @@ class ShardedReader(Reads):
         return self._moment()[0]
 
     def _moment(self) -> tuple[int, Sequence[int]]:
-        """The last sequence that was acknowledged, and how long the shards' logs were then."""
-        last, *lengths = acknowledged(self._folder, self._manifest.shards + 1)
-        return last, lengths
+        """The last sequence that was acknowledged, and that of each shard then."""
+        last, *reached = acknowledged(self._folder, self._manifest.shards + 1)
+        return last, reached
 
     def snapshot(self, seconds: float = 60.0, *, timeout: float | None = None) -> SharedSnapshot:
         """A snapshot at the last sequence, which ends if it isn't read for so many seconds, or if a worker is lost.
@@ -75,20 +76,20 @@ class ShardedReader(Reads):
         """
         deadline = self._deadline(timeout)
         for _ in polls(self._patience):
-            sequence, lengths = self._moment()
+            sequence, reached = self._moment()
             # One that is behind was written to since, or was opened again.
             with suppress(NotProtected):
-                self._ask("lease", {number: (place, seconds) for number, place in enumerate(lengths)}, deadline)
-                return SharedSnapshot(self, sequence, lengths, seconds)
+                self._ask("lease", {number: (place, seconds) for number, place in enumerate(reached)}, deadline)
+                return SharedSnapshot(self, sequence, reached, seconds)
             deadline.check("the store")
         raise ShardTimeout(f"the shards were written to for {self._patience} s, faster than they are read")
 
     def _read(self, method: str, calls: Mapping[int, tuple], timeout: float | None) -> Mapping[int, bytes]:
         deadline = self._deadline(timeout)
         for _ in polls(self._patience):
-            _, lengths = self._moment()
+            _, reached = self._moment()
             with suppress(NotProtected):
-                return self._ask(method, {number: (*call, lengths[number]) for number, call in calls.items()}, deadline)
+                return self._ask(method, {number: (*call, reached[number]) for number, call in calls.items()}, deadline)
             deadline.check("the store")
         raise ShardTimeout(f"the shards were written to for {self._patience} s, faster than they are read")
 
@@ -198,17 +199,17 @@ class SharedSnapshot(Scans):
     or if a worker is lost: then it raises `NotProtected`.
     """
 
-    def __init__(self, reader: ShardedReader, sequence: int, lengths: Sequence[int], seconds: float = 0.0) -> None:
+    def __init__(self, reader: ShardedReader, sequence: int, reached: Sequence[int], seconds: float = 0.0) -> None:
         self._reader, self._manifest = reader, reader._manifest
         self._seconds = seconds
         self.sequence = sequence
         """The sequence that it is at."""
-        self.lengths = lengths
-        """How long each shard's log was then."""
+        self.reached = reached
+        """The last sequence of each shard then."""
 
     def __reduce__(self) -> tuple:
-        return SharedSnapshot, (self._reader, self.sequence, self.lengths, self._seconds)
+        return SharedSnapshot, (self._reader, self.sequence, self.reached, self._seconds)
 
     def _read(self, method: str, calls: Mapping[int, tuple], timeout: float | None) -> Mapping[int, bytes]:
-        at = {number: (*call, self.lengths[number], self._seconds) for number, call in calls.items()}
+        at = {number: (*call, self.reached[number], self._seconds) for number, call in calls.items()}
         return self._reader._ask(method, at, self._reader._deadline(timeout))

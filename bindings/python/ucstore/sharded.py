@@ -1,11 +1,11 @@
 """A store over many processes: Dask places its shards on workers, calls them, and opens them again.
 
 A key belongs to the shard `zlib.crc32(key) % shards`, or to the one between whose split points it
-lies. Each shard is a `Store` beside its log. The logs lie in one folder, which the client and all
-workers reach under the same path. A batch is there on all shards or on none: when all have it in
-their logs, the writer appends to `sequencer.log` how long these are. What is behind isn't there,
-and the next batch cuts it off. A long log is cut: the rows of the oldest snapshot, or of now, are
-written to a base, and what is before it goes.
+lies. Each shard is a `Db` in a folder of its own. These lie in one folder, which the client and all
+workers reach under the same path. A batch is there on all shards or on none: when all have their
+parts of it in their logs, the writer appends their last sequences to `sequencer.log`. What is behind
+isn't there, and the next batch cuts it off. Long logs are cut: the rows of the oldest snapshot, or of
+now, are written to a base, and the logs before it go.
 """
 
 from __future__ import annotations
@@ -23,9 +23,10 @@ from typing import Any, Callable, Iterable, Iterator, Mapping, NamedTuple, Seque
 from distributed import CancelledError, Client, Future, KilledWorker
 from distributed import TimeoutError as TimedOut
 
-from . import NoStore, NotProtected, Operation, Operator, Options, Report, UcstoreError
-from ._shard import Claim, Manifest, Refusal, Sequencer, Shard
-from ._shard_files import LEAST, AnotherWriter, BadManifest, LogDamaged, ShardedError, Writer, polls, undoing
+from . import NoStore, NotProtected, Operation, Operator, Options, UcstoreError
+from ._shard import Claim, Manifest, Sequencer
+from ._shard_files import LEAST, AnotherWriter, BadManifest, LogDamaged, OlderFormat, ShardedError, Writer, polls, undoing
+from ._shard_part import Refusal, Shard, ShardReport
 from ._shard_reader import SharedSnapshot, ShardedReader, places_name, tell_places
 from ._shard_reads import Deadline, NoWorkers, Reads, Scan, Scans, ShardTimeout
 
@@ -34,8 +35,8 @@ try:
 except ImportError:
     tqdm = None
 
-__all__ = ["AnotherWriter", "BadManifest", "LogDamaged", "NoWorkers", "Scan", "SharedSnapshot"]
-__all__ += ["ShardTimeout", "ShardedError", "ShardedReader", "ShardedSnapshot", "ShardedStore"]
+__all__ = ["AnotherWriter", "BadManifest", "LogDamaged", "NoWorkers", "OlderFormat", "Scan", "SharedSnapshot"]
+__all__ += ["ShardReport", "ShardTimeout", "ShardedError", "ShardedReader", "ShardedSnapshot", "ShardedStore"]
 
 # Seconds between two looks at a shard that doesn't answer, and how often it is opened for a call.
 _POLL, _TRIES = 0.2, 10
@@ -148,7 +149,6 @@ class ShardedStore(Reads, AbstractContextManager):
         folder = Path(path).absolute()
         manifest, claim = Manifest.read(folder), Claim(folder, patience)
         with undoing(claim.release):
-            manifest.renew(folder)
             writer = Writer(folder, manifest, claim.epoch, sync, patience, checkpoint_least)
             return cls(client, writer, claim, timeout)
 
@@ -279,22 +279,22 @@ class ShardedStore(Reads, AbstractContextManager):
         log = self._acknowledged()
         deadline.check("the batch before")
         first, last = log.last + 1, log.last + count
-        calls = {number: (log.lengths[number], first, part) for number, part in parts.items()}
+        calls = {number: (log.reached[number], first, part) for number, part in parts.items()}
         # A shard that has a part which isn't acknowledged is opened again, as it was.
         with undoing(self._forget, parts):
-            lengths = self._ask("apply", calls, deadline)
+            reached = self._ask("apply", calls, deadline)
             with undoing(self._end):
-                log.append(last, lengths)
+                log.append(last, reached)
         return last
 
     def _read(self, method: str, calls: Mapping[int, tuple], timeout: float | None) -> Mapping[int, bytes]:
         """What shards answer to a call at the last sequence."""
         deadline = Deadline(timeout)
         while True:
-            lengths = self._acknowledged().lengths
+            reached = self._acknowledged().reached
             # A shard that was written to for long since then has it no more.
             with suppress(NotProtected):
-                return self._ask(method, {number: (*call, lengths[number]) for number, call in calls.items()}, deadline)
+                return self._ask(method, {number: (*call, reached[number]) for number, call in calls.items()}, deadline)
             deadline.check("the store")
 
     def snapshot(self, *, timeout: float | None = None) -> ShardedSnapshot:
@@ -307,8 +307,8 @@ class ShardedStore(Reads, AbstractContextManager):
 
     def _take_snapshot(self, deadline: Deadline) -> ShardedSnapshot:
         log = self._acknowledged()
-        snapshot = ShardedSnapshot(self, log.last, log.lengths)
-        calls = {number: (length,) for number, length in enumerate(log.lengths)}
+        snapshot = ShardedSnapshot(self, log.last, log.reached)
+        calls = {number: (place,) for number, place in enumerate(log.reached)}
         with undoing(self._forget, calls):
             self._ask("keep", calls, deadline)
         self._snapshots.add(snapshot)
@@ -316,7 +316,7 @@ class ShardedStore(Reads, AbstractContextManager):
 
     def _release(self, snapshot: ShardedSnapshot, deadline: Deadline) -> None:
         if snapshot in self._snapshots:
-            calls = {number: (length,) for number, length in enumerate(snapshot.lengths)}
+            calls = {number: (place,) for number, place in enumerate(snapshot.reached)}
             try:
                 # A shard that is opened again meanwhile takes it again before.
                 with undoing(self._forget, calls):
@@ -324,7 +324,7 @@ class ShardedStore(Reads, AbstractContextManager):
             finally:
                 self._snapshots.discard(snapshot)
 
-    def report(self, *, timeout: float | None = None) -> list[Report]:
+    def report(self, *, timeout: float | None = None) -> list[ShardReport]:
         """What each shard holds, in numbers."""
         self._acknowledged()
         found = self._ask("report", dict.fromkeys(range(self._manifest.shards), ()), Deadline(timeout))
@@ -375,8 +375,8 @@ class ShardedStore(Reads, AbstractContextManager):
 
     def _start(self, number: int, workers: list[str]) -> Future:
         """Begins to open a shard, as it was acknowledged."""
-        log, keeps = self._acknowledged(), [snapshot.lengths[number] for snapshot in self._snapshots]
-        reached = (log.lengths[number], log.last, keeps)
+        log, keeps = self._acknowledged(), [snapshot.reached[number] for snapshot in self._snapshots]
+        reached = (log.reached[number], log.last, keeps)
         # The scheduler takes the worker that has the fewest actors, if it is told some.
         how = {"workers": workers, "allow_other_workers": True, "actor": True, "pure": False}
         return self._client.submit(Shard.start, self._writer, number, *reached, **how)
@@ -490,17 +490,17 @@ class ShardedSnapshot(Scans, AbstractContextManager):
     It may be sent to another process or to a task, as a `SharedSnapshot`, which stays until this is released.
     """
 
-    def __init__(self, store: ShardedStore, sequence: int, lengths: Sequence[int]) -> None:
+    def __init__(self, store: ShardedStore, sequence: int, reached: Sequence[int]) -> None:
         """`ShardedStore.snapshot` calls it."""
         self._store, self._manifest = store, store._manifest
         self.sequence = sequence
         """The sequence that it is at."""
-        self.lengths = lengths
-        """How long each shard's log was then."""
+        self.reached = reached
+        """The last sequence of each shard then."""
 
     def __reduce__(self) -> tuple:
         reader = ShardedReader(self._store._client, self._store._writer.folder, timeout=self._store._timeout)
-        return SharedSnapshot, (reader, self.sequence, self.lengths)
+        return SharedSnapshot, (reader, self.sequence, self.reached)
 
     def release(self, *, timeout: float | None = None) -> None:
         """Releases the snapshot. A second call does nothing, nor one behind the store's end."""
@@ -515,5 +515,5 @@ class ShardedSnapshot(Scans, AbstractContextManager):
         self._store._acknowledged()
         if self not in self._store._snapshots:
             raise NotProtected()
-        at = {number: (*call, self.lengths[number]) for number, call in calls.items()}
+        at = {number: (*call, self.reached[number]) for number, call in calls.items()}
         return self._store._ask(method, at, Deadline(timeout))

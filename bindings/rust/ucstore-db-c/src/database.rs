@@ -24,7 +24,9 @@ unsafe fn open_by(
     let place = unsafe { Place::of(place) }?;
     // SAFETY: C owes the struct.
     let options = unsafe { options.as_ref() }.ok_or(Status::Null)?;
-    place.put(Handle::begin(open(&options.read()?)?));
+    // SAFETY: C owes what it leads to.
+    let options = unsafe { options.read() }?;
+    place.put(Handle::begin(open(&options)?));
     Ok(())
 }
 
@@ -183,6 +185,21 @@ pub unsafe extern "C" fn ucstore_db_write_with(
     })
 }
 
+/// Takes a batch that is spelled already, with its own sequence.
+#[no_mangle]
+pub unsafe extern "C" fn ucstore_db_write_bytes(
+    db: *const DbHandle,
+    batch: *const c_void,
+    batch_length: usize,
+    synced: bool,
+) -> i32 {
+    call(|| {
+        // SAFETY: C owes the handle and the text.
+        let (db, batch) = unsafe { (Handle::get(db)?, text(batch, batch_length)?) };
+        Ok(db.write_bytes(batch, synced)?)
+    })
+}
+
 /// Waits until all acknowledged writes are on the device.
 #[no_mangle]
 pub unsafe extern "C" fn ucstore_db_sync(db: *const DbHandle) -> i32 {
@@ -248,6 +265,22 @@ pub unsafe extern "C" fn ucstore_db_snapshot(
     })
 }
 
+/// Gives out the snapshot of a mark.
+#[no_mangle]
+pub unsafe extern "C" fn ucstore_db_take_mark(
+    db: *const DbHandle,
+    sequence: u64,
+    snapshot: *mut *mut SnapshotHandle,
+) -> i32 {
+    call(|| {
+        // SAFETY: C owes the handle and the memory.
+        let (db, place) = unsafe { (Handle::get(db)?, Place::of(snapshot)?) };
+        let mark = db.take_mark(sequence).ok_or(Status::NotProtected)?;
+        place.put(SnapshotHandle::begin_snapshot(mark));
+        Ok(())
+    })
+}
+
 /// Makes a run of what is gathered.
 #[no_mangle]
 pub unsafe extern "C" fn ucstore_db_flush(db: *const DbHandle) -> i32 {
@@ -267,6 +300,29 @@ pub unsafe extern "C" fn ucstore_db_compact(db: *const DbHandle) -> i32 {
 pub unsafe extern "C" fn ucstore_db_checkpoint(db: *const DbHandle) -> i32 {
     // SAFETY: C owes the handle.
     call(|| Ok(unsafe { Handle::get(db) }?.checkpoint()?))
+}
+
+/// Writes what a snapshot has to a base.
+#[no_mangle]
+pub unsafe extern "C" fn ucstore_db_checkpoint_to(
+    db: *const DbHandle,
+    snapshot: *const SnapshotHandle,
+) -> i32 {
+    call(|| {
+        // SAFETY: C owes both handles.
+        let (db, snapshot) = unsafe { (Handle::get(db)?, SnapshotHandle::lock(snapshot)?) };
+        // Who reads it meanwhile doesn't wait.
+        let again = snapshot.again()?;
+        drop(snapshot);
+        Ok(db.checkpoint_to(&again)?)
+    })
+}
+
+/// Goes on in a new log.
+#[no_mangle]
+pub unsafe extern "C" fn ucstore_db_next_log(db: *const DbHandle) -> i32 {
+    // SAFETY: C owes the handle.
+    call(|| Ok(unsafe { Handle::get(db) }?.next_log()?))
 }
 
 /// Tells why nothing can be written any more, if that is so.

@@ -2,7 +2,7 @@
 
 use crate::call::{call, Refusal};
 use crate::events::{events_of, progress_of, EventFunction, ProgressFunction};
-use crate::memory::Place;
+use crate::memory::{items, Place};
 use crate::status::Status;
 use db::{ucstore, Operator, Options, Sync};
 use std::ffi::c_void;
@@ -10,6 +10,9 @@ use std::ffi::c_void;
 const SYNC_ALWAYS: u32 = 0;
 const SYNC_EVERY: u32 = 1;
 const SYNC_NEVER: u32 = 2;
+
+/// The sequence that gives up nothing.
+const TO_THE_END: u64 = u64::MAX;
 
 /// `struct ucstore_db_options`.
 #[repr(C)]
@@ -54,14 +57,28 @@ pub struct COptions {
     pub event: EventFunction,
     /// What it is given.
     pub event_context: *mut c_void,
+    /// What the files have behind this sequence is given up.
+    pub recover_to: u64,
+    /// Up to which sequence a batch may begin that is given up.
+    pub give_up_until: u64,
+    /// Sequences at which snapshots are made.
+    pub marks: *const u64,
+    /// How many there are.
+    pub marks_count: usize,
 }
 
 impl COptions {
     /// The options of the database.
-    pub(crate) fn read(&self) -> Result<Options, Refusal> {
+    ///
+    /// # Safety
+    ///
+    /// C owes the marks.
+    pub(crate) unsafe fn read(&self) -> Result<Options, Refusal> {
         if self.size != size_of::<COptions>() {
             return Err(Status::BadSize.into());
         }
+        // SAFETY: C owes as much.
+        let marks = unsafe { items(self.marks, self.marks_count) }?;
         Ok(Options {
             operator: operator_of(self.merge_operator)?,
             sync: self.read_sync()?,
@@ -71,6 +88,9 @@ impl COptions {
             checkpoint_ratio: self.checkpoint_ratio,
             checkpoint_least: self.checkpoint_least,
             recover_to_fault: self.recovers_to_fault != 0,
+            recover_to: (self.recover_to != TO_THE_END).then_some(self.recover_to),
+            give_up_until: self.give_up_until,
+            marks: marks.to_vec(),
             progress: progress_of(self.progress, self.progress_context),
             events: events_of(self.event, self.event_context),
         })
@@ -124,6 +144,10 @@ impl Default for COptions {
             progress_context: std::ptr::null_mut(),
             event: None,
             event_context: std::ptr::null_mut(),
+            recover_to: TO_THE_END,
+            give_up_until: options.give_up_until,
+            marks: std::ptr::null(),
+            marks_count: 0,
         }
     }
 }

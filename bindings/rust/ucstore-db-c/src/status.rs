@@ -13,6 +13,8 @@ pub enum Status {
     OutOfMemory = 1,
     /// There is no value under the key.
     NotFound = 4,
+    /// No snapshot was made at the sequence.
+    NotProtected = 5,
     /// No operator has the number.
     UnknownOperator = 6,
     /// An option isn't in its range.
@@ -25,8 +27,12 @@ pub enum Status {
     SequencesSpent = 10,
     /// A text has 2^32 bytes or more.
     TooLong = 11,
+    /// The bytes aren't a write batch.
+    NotABatch = 12,
     /// The room is too small.
     Room = 14,
+    /// The sequence of a batch is neither 0 nor above the last one.
+    SequenceBack = 16,
     /// The keys' lengths don't add up to their bytes.
     BadKeys = 17,
     /// The batch has 2^32 - 1 operations.
@@ -51,6 +57,10 @@ pub enum Status {
     Null = 72,
     /// The library has a fault.
     Internal = 73,
+    /// What the files have doesn't end, or can't be given up, where the options say.
+    NotRecoverable = 74,
+    /// The snapshot is one of another database.
+    OtherDatabase = 75,
 }
 
 impl Status {
@@ -60,13 +70,16 @@ impl Status {
             Status::Ok => c"done",
             Status::OutOfMemory => c"out of memory",
             Status::NotFound => c"there is no value under the key",
+            Status::NotProtected => c"no snapshot was made at the sequence",
             Status::UnknownOperator => c"no operator has the number",
             Status::BadOption => c"an option isn't in its range",
             Status::BadSize => c"a struct's size isn't the one that the library knows",
             Status::IdsSpent => c"no number is left for a run",
             Status::SequencesSpent => c"too few sequences are left",
             Status::TooLong => c"a text has 2^32 bytes or more",
+            Status::NotABatch => c"the bytes aren't a write batch",
             Status::Room => c"the room is too small",
+            Status::SequenceBack => c"the sequence isn't above the last one",
             Status::BadKeys => c"the keys' lengths don't add up to their bytes",
             Status::BatchFull => c"the batch has 2^32 - 1 operations",
             Status::File => c"a file can't be read or written",
@@ -79,6 +92,8 @@ impl Status {
             Status::Forked => c"the process was forked behind the opening",
             Status::Null => c"an address is null",
             Status::Internal => c"the library has a fault",
+            Status::NotRecoverable => c"a file can't be recovered to where the options say",
+            Status::OtherDatabase => c"the snapshot is one of another database",
         }
     }
 }
@@ -91,6 +106,8 @@ impl From<&Error> for Status {
             Error::Locked { .. } => Status::Locked,
             Error::Damaged { .. } => Status::Damaged,
             Error::Missing { .. } => Status::Missing,
+            Error::NotRecoverable { .. } => Status::NotRecoverable,
+            Error::OtherDatabase => Status::OtherDatabase,
             Error::OtherOperator { .. } => Status::OtherOperator,
             Error::ReadOnly { .. } => Status::ReadOnly,
             Error::Closed => Status::Closed,
@@ -107,6 +124,8 @@ impl From<ucstore::Error> for Status {
             ucstore::Error::IdsSpent => Status::IdsSpent,
             ucstore::Error::SequencesSpent => Status::SequencesSpent,
             ucstore::Error::TooLong => Status::TooLong,
+            ucstore::Error::NotABatch => Status::NotABatch,
+            ucstore::Error::SequenceBack => Status::SequenceBack,
             ucstore::Error::BatchFull => Status::BatchFull,
             // The database gives the store none of what these refuse.
             _ => Status::Internal,

@@ -4,6 +4,7 @@ use crate::disk_folder::DiskFolder;
 use crate::error::Error;
 use crate::folder::Folder;
 use crate::holder::Holder;
+use crate::lock;
 use crate::options::Options;
 use crate::shared::Shared;
 use crate::snapshot::{Rows, Snapshot};
@@ -35,8 +36,8 @@ impl Db {
     ///
     /// # Errors
     ///
-    /// [`Error::Locked`], [`Error::OtherOperator`], [`Error::Damaged`] and [`Error::Missing`], which change nothing;
-    /// [`Error::File`], [`Error::Store`].
+    /// [`Error::Locked`], [`Error::OtherOperator`], [`Error::Damaged`], [`Error::Missing`] and [`Error::NotRecoverable`], which change
+    /// nothing; [`Error::File`], [`Error::Store`].
     pub fn open(folder: impl AsRef<Path>, options: &Options) -> Result<Db, Error> {
         Db::open_on(Arc::new(DiskFolder::open(folder)?), options)
     }
@@ -125,6 +126,30 @@ impl Db {
             return self.shared().check();
         }
         self.shared().write(batch.bytes(), is_synced)
+    }
+
+    /// Takes a batch that [`Batch::bytes`] or RocksDB wrote, as [`write_with`](Db::write_with) does, alone in its record. Its operations
+    /// get its sequence and those behind it, or the ones behind the last one if it is 0. If there is a gap before it, its record tells
+    /// that: so writes that are missing in a log are still told from it.
+    ///
+    /// ```
+    /// # use ucstore_db::{Batch, Db, Options};
+    /// # fn main() -> Result<(), ucstore_db::Error> {
+    /// let db = Db::in_memory(&Options::default())?;
+    /// let mut bytes = Batch::new().put("colour", "blue")?.bytes();
+    /// bytes[..8].copy_from_slice(&7u64.to_le_bytes());
+    /// db.write_bytes(&bytes, true)?;
+    /// assert_eq!(db.snapshot()?.sequence(), 7);
+    /// # Ok(())
+    /// # }
+    /// ```
+    ///
+    /// # Errors
+    ///
+    /// [`Error::Store`] if it is no batch, or its sequence is neither 0 nor above the last one; and those of
+    /// [`write`](Db::write).
+    pub fn write_bytes(&self, batch: &[u8], is_synced: bool) -> Result<(), Error> {
+        self.shared().write_alone(batch, is_synced)
     }
 
     /// Waits until all acknowledged writes are on the device.
@@ -271,6 +296,41 @@ impl Db {
     /// [`Error::ReadOnly`] if no new log can be begun. [`Error::Closed`].
     pub fn checkpoint(&self) -> Result<(), Error> {
         self.shared().checkpoint()
+    }
+
+    /// Writes what a snapshot has to a base, and removes the logs that have nothing behind it. What came behind the snapshot stays in
+    /// logs, so that it may be made again as a [mark](Options::marks). Others write meanwhile. In memory, or if a base has as much, it
+    /// does nothing. It ends if the database is closed, and the folder stays locked until then.
+    ///
+    /// # Errors
+    ///
+    /// [`Error::File`] and [`Error::Store`] if the base isn't written, or no new log can be made: then the logs stay, and the database
+    /// goes on. [`Error::ReadOnly`] if the log can't be ended. [`Error::OtherDatabase`], [`Error::Closed`].
+    pub fn checkpoint_to(&self, snapshot: &Snapshot) -> Result<(), Error> {
+        let (shared, (view, counts)) = (self.shared(), snapshot.parts());
+        if !Arc::ptr_eq(counts, &shared.counts) {
+            return Err(Error::OtherDatabase);
+        }
+        shared.checkpoint_to(view)
+    }
+
+    /// Goes on in a new log, unless nothing is in this one: so a base of now will let the ones before it go, whatever is written until
+    /// then. Nothing has to call this. In memory it does nothing.
+    ///
+    /// # Errors
+    ///
+    /// [`Error::File`] if it can't be made: then this one goes on. [`Error::ReadOnly`] if this one can't be ended.
+    /// [`Error::Closed`].
+    pub fn next_log(&self) -> Result<(), Error> {
+        self.shared().next_log()
+    }
+
+    /// Gives out the snapshot that was made at a [mark](Options::marks), once.
+    pub fn take_mark(&self, sequence: u64) -> Option<Snapshot> {
+        let shared = self.shared();
+        let mut marks = lock(&shared.marks);
+        let place = marks.iter().position(|view| view.last() == sequence)?;
+        Some(Snapshot::of(marks.swap_remove(place), &shared.counts))
     }
 
     /// What it holds and did, in numbers.

@@ -37,6 +37,17 @@ pub enum Error {
         /// Its name.
         file: String,
     },
+    /// What the files have doesn't end, or can't be given up, where [`Options`](crate::Options) say. Nothing was changed.
+    NotRecoverable {
+        /// The name of the file.
+        file: String,
+        /// Where the batch ends, or begins, that says so.
+        offset: u64,
+        /// What is wrong.
+        fault: String,
+    },
+    /// The snapshot is one of another database.
+    OtherDatabase,
     /// The folder was made with another operator. Nothing was changed.
     OtherOperator {
         /// The one that it was made with.
@@ -92,6 +103,12 @@ impl fmt::Display for Error {
                 fault,
             } => write!(formatter, "{file} is damaged at {offset}: {fault}"),
             Error::Missing { file } => write!(formatter, "{file} isn't there"),
+            Error::NotRecoverable {
+                file,
+                offset,
+                fault,
+            } => write!(formatter, "{file} can't be recovered at {offset}: {fault}"),
+            Error::OtherDatabase => formatter.write_str("the snapshot is one of another database"),
             Error::OtherOperator { made, asked } => write!(
                 formatter,
                 "{OPERATOR} names {}: the folder can't be opened with {}",

@@ -43,11 +43,19 @@
 //!
 //! `LOCK` is locked by the process that has the database open. `OPERATOR` names the operator that the folder was made
 //! with. `000001.log` and those behind it are write-ahead logs as
-//! RocksDB writes them. A checkpoint `000007.base` is such a log too, and holds what the logs before `000007.log`
-//! wrote. A [`Folder`] of another device may stand for the file system.
+//! RocksDB writes them. A checkpoint `000007-1234.base` is such a log too. It holds what was written up to sequence 1234, where it ends:
+//! all of the logs before `000007.log`, and of that one what comes up to there. A [`Folder`] of another device may stand for
+//! the file system.
+//!
+//! # Parts of something greater
+//!
+//! Where a batch is there only if other databases have their part of it too, their owner has a log of its own of which are. Then
+//! [`Options::recover_to`] gives up what that log doesn't have, [`Db::write_bytes`] numbers batches as it does, and
+//! [`Options::marks`] makes snapshots again that were alive.
 #![forbid(unsafe_code)]
 #![warn(missing_docs)]
 
+mod alone;
 mod base_file;
 mod checkpoint;
 mod compactor;
@@ -58,11 +66,13 @@ mod error;
 mod event;
 mod folder;
 mod front;
+mod gap;
 mod group;
 mod holder;
 mod lanes;
 mod log;
 mod lookups;
+mod moments;
 mod name;
 mod newest;
 mod operator_file;
@@ -77,6 +87,7 @@ mod shown;
 mod snapshot;
 mod stats;
 mod sync_times;
+mod unready;
 mod workers;
 
 pub use db::Db;

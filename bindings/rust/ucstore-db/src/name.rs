@@ -5,8 +5,9 @@
 pub(crate) enum Name {
     /// A log, by its number.
     Log(u64),
-    /// A checkpoint of what the logs before the one of this number wrote.
-    Base(u64),
+    /// A checkpoint: what the logs before the one of this number wrote, and what that one wrote up to the sequence. Those of older
+    /// versions name none, and have nothing of that log.
+    Base(u64, Option<u64>),
     /// A checkpoint that was being written.
     Partial(u64),
 }
@@ -14,12 +15,16 @@ pub(crate) enum Name {
 impl Name {
     /// What a name says; none if the file isn't of a database.
     pub(crate) fn of(name: &str) -> Option<Name> {
-        let (number, kind) = name.split_once('.')?;
+        let (stem, kind) = name.split_once('.')?;
+        let (number, sequence) = match stem.split_once('-') {
+            Some((number, sequence)) => (number, Some(sequence.parse().ok()?)),
+            None => (stem, None),
+        };
         let number = number.parse().ok()?;
-        let found = match kind {
-            "log" => Name::Log(number),
-            "base" => Name::Base(number),
-            "base.new" => Name::Partial(number),
+        let found = match (kind, sequence) {
+            ("log", None) => Name::Log(number),
+            ("base", sequence) => Name::Base(number, sequence),
+            ("base.new", None) => Name::Partial(number),
             _ => return None,
         };
         (found.text() == name).then_some(found)
@@ -29,7 +34,8 @@ impl Name {
     pub(crate) fn text(self) -> String {
         match self {
             Name::Log(number) => format!("{number:06}.log"),
-            Name::Base(number) => format!("{number:06}.base"),
+            Name::Base(number, None) => format!("{number:06}.base"),
+            Name::Base(number, Some(sequence)) => format!("{number:06}-{sequence}.base"),
             Name::Partial(number) => format!("{number:06}.base.new"),
         }
     }
@@ -41,10 +47,28 @@ mod tests {
 
     #[test]
     fn names_are_read_as_they_are_written() {
-        for name in [Name::Log(1), Name::Base(1234567), Name::Partial(0)] {
+        for name in [
+            Name::Log(1),
+            Name::Base(1234567, None),
+            Name::Base(1, Some(0)),
+            Name::Base(2, Some(u64::MAX)),
+            Name::Partial(0),
+        ] {
             assert_eq!(Name::of(&name.text()), Some(name));
         }
-        for text in ["LOCK", "1.log", "000001.old", "000001.base.new.new", ".log"] {
+        assert_eq!(Name::Base(7, Some(1234)).text(), "000007-1234.base");
+        for text in [
+            "LOCK",
+            "1.log",
+            "000001.old",
+            "000001.base.new.new",
+            ".log",
+            "000001-2.log",
+            "000001-2.base.new",
+            "000001-02.base",
+            "000001-.base",
+            "000001--2.base",
+        ] {
             assert_eq!(Name::of(text), None);
         }
     }

@@ -37,10 +37,20 @@ pub struct Options {
     pub slow_trigger: u32,
     /// By how many times the logs exceed the data when a checkpoint is made.
     pub checkpoint_ratio: u64,
-    /// How many bytes the logs have at least when a checkpoint is made.
+    /// How many bytes the logs have at least when a checkpoint is made. With [`u64::MAX`] none is made by itself.
     pub checkpoint_least: u64,
     /// Opens a damaged folder up to the damage. Nothing can be written then.
     pub recover_to_fault: bool,
+    /// Gives up what the files have behind this sequence, whatever it is: to be called when another log says which batches were
+    /// acknowledged. It has to be the end of a batch; those of writers that come together are one. What is given up is cut off
+    /// before the first write. Until then the folder stays as it was, also if the database is closed.
+    pub recover_to: Option<u64>,
+    /// Up to which sequence a batch may begin that is given up. One that begins later shows that another one in between was
+    /// acknowledged: then the opening is refused.
+    pub give_up_until: u64,
+    /// Sequences at which snapshots are made while the folder is read, which [`Db::take_mark`](crate::Db::take_mark) gives out. Each
+    /// has to be the end of a batch, and no base goes beyond it.
+    pub marks: Vec<u64>,
     /// Is told how far the opening of a folder is: behind each MiB, and each file.
     pub progress: Option<Listener<Progress>>,
     /// Is told what the database does.
@@ -80,6 +90,9 @@ impl Default for Options {
             checkpoint_ratio: 2,
             checkpoint_least: 64 << 20,
             recover_to_fault: false,
+            recover_to: None,
+            give_up_until: u64::MAX,
+            marks: vec![],
             progress: None,
             events: None,
         }

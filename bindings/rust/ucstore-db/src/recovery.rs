@@ -3,19 +3,22 @@
 use crate::counts::Counts;
 use crate::error::Error;
 use crate::folder::Folder;
-use crate::log::Log;
+use crate::log::{Log, Older};
+use crate::moments::Moments;
 use crate::name::Name;
 use crate::operator_file;
 use crate::options::Options;
 use crate::reading::Reading;
-use crate::replay::Replay;
+use crate::replay::{Begin, Replay};
+use crate::unready::Unready;
 use std::mem;
 use std::sync::Arc;
-use ucstore::{Operator, Store};
+use ucstore::{Operator, Store, View};
 
 /// The files of a folder.
 struct Files {
-    base: Option<u64>,
+    /// The newest one: its number, and the sequence that its name has.
+    base: Option<(u64, Option<u64>)>,
     /// The numbers of the logs behind the base, one by one.
     logs: Vec<u64>,
     /// What holds nothing that isn't elsewhere.
@@ -26,21 +29,28 @@ struct Files {
 
 /// A store as its folder has it. Nothing is changed there before [`Recovery::into_log`].
 pub(crate) struct Recovery {
-    pub(crate) store: Store,
+    store: Store,
     /// The damage behind which nothing was read.
     pub(crate) fault: Option<Error>,
     operator: Operator,
     files: Files,
+    moments: Moments,
+    /// Whether what wasn't read is given up.
+    is_enough: bool,
     /// The last log that has batches.
     number: u64,
+    /// The sequence before its first one.
+    before: u64,
     /// Where they end.
     length: u64,
     /// How many bytes it has behind them, which a crash left.
     rest: u64,
-    /// How many bytes the logs before it have.
-    older: u64,
-    /// Whether no log was read behind the base.
-    is_behind_base: bool,
+    /// The logs before it.
+    older: Vec<Older>,
+    /// The last sequence of the base.
+    based: u64,
+    /// Where the next log begins.
+    begin: Begin,
 }
 
 impl Files {
@@ -51,16 +61,16 @@ impl Files {
         let mut names: Vec<Name> = texts.iter().filter_map(|text| Name::of(text)).collect();
         names.sort();
         let bases = names.iter().filter_map(|name| match name {
-            Name::Base(number) => Some(*number),
+            Name::Base(number, sequence) => Some((*number, *sequence)),
             _ => None,
         });
         let base = bases.max();
-        let first = base.unwrap_or(1);
+        let first = base.map_or(1, |(number, _)| number);
         let (mut logs, mut spent) = (vec![], vec![]);
         for name in names {
             match name {
                 Name::Log(number) if number >= first => logs.push(number),
-                Name::Base(number) if number == first => {}
+                Name::Base(number, sequence) if Some((number, sequence)) == base => {}
                 _ => spent.push(name),
             }
         }
@@ -82,7 +92,9 @@ impl Files {
 
     /// The names of those that are read.
     fn names(&self) -> impl Iterator<Item = Name> + '_ {
-        let base = self.base.map(Name::Base);
+        let base = self
+            .base
+            .map(|(number, sequence)| Name::Base(number, sequence));
         base.into_iter()
             .chain(self.logs.iter().copied().map(Name::Log))
     }
@@ -96,12 +108,16 @@ impl Recovery {
             store: Store::create(options.operator, &options.to_store())?,
             fault: None,
             operator: options.operator,
-            number: files.base.unwrap_or(1),
+            moments: Moments::of(options),
+            is_enough: false,
+            number: files.base.map_or(1, |(number, _)| number),
             files,
+            before: 0,
             length: 0,
             rest: 0,
-            older: 0,
-            is_behind_base: false,
+            older: vec![],
+            based: 0,
+            begin: Begin::Behind,
         };
         let mut reading = Reading::of(folder, recovery.files.names(), &options.progress)?;
         recovery.judge(recovery.check_operator(folder), options)?;
@@ -129,36 +145,87 @@ impl Recovery {
         operator_file::check(folder, self.operator)
     }
 
-    /// Writes what the files have to the store, up to the first fault. The base and all logs but the last one that has
-    /// bytes have to be whole.
+    /// Writes what the files have to the store, up to the first fault, or to where the options say. The base and all logs but the
+    /// last one that has bytes have to be whole.
     fn replay_all(&mut self, folder: &dyn Folder, reading: &mut Reading) -> Result<(), Error> {
-        if let Some(number) = self.files.base {
-            let name = Name::Base(number);
-            self.replay(name, &read(folder, name)?, reading)?;
-            self.check_whole(name)?;
-            self.length = 0;
-            self.is_behind_base = true;
+        let mut name = Name::Log(self.number);
+        if let Some((number, sequence)) = self.files.base {
+            name = Name::Base(number, sequence);
+            self.replay_base(name, &read(folder, name)?, sequence, reading)?;
         }
+        self.moments.begin(Name::Log(self.number));
         for number in self.files.logs.clone() {
             let log = read(folder, Name::Log(number))?;
-            if !log.is_empty() {
-                self.check_whole(Name::Log(self.number))?;
-                self.older += self.length;
-                self.number = number;
-                self.replay(Name::Log(number), &log, reading)?;
+            if self.is_enough {
+                self.moments.check_given_up(Name::Log(number), &log)?;
+            } else if !log.is_empty() {
+                self.check_whole(name)?;
+                name = Name::Log(number);
+                self.go_on(number);
+                self.replay(name, &log, reading)?;
+                if self.is_enough {
+                    self.moments.check_given_up(name, &log)?;
+                }
             }
         }
+        self.moments.finish(&self.store, self.length)
+    }
+
+    /// Writes what a base has to the store. Its last sequence is the one that its name has.
+    fn replay_base(
+        &mut self,
+        name: Name,
+        base: &[u8],
+        sequence: Option<u64>,
+        reading: &mut Reading,
+    ) -> Result<(), Error> {
+        let moments = mem::replace(&mut self.moments, Moments::none());
+        self.replay(name, base, reading)?;
+        self.moments = moments;
+        self.check_whole(name)?;
+        self.based = self.store.last();
+        if let Some(sequence) = sequence.filter(|sequence| *sequence != self.based) {
+            return Err(Error::Damaged {
+                file: name.text(),
+                offset: self.length,
+                fault: format!("it ends at sequence {}, and not at {sequence}", self.based),
+            });
+        }
+        self.moments.begin(name);
+        // Where the log goes on is found there, also if nothing of it is read.
+        self.moments.reach(&self.store, self.length)?;
+        self.before = self.based;
+        self.length = 0;
+        self.begin = match sequence {
+            Some(_) => Begin::InBase,
+            None => Begin::Anywhere,
+        };
         Ok(())
+    }
+
+    /// Goes on with a log that has bytes.
+    fn go_on(&mut self, number: u64) {
+        if number != self.number {
+            self.older.push(Older {
+                number: self.number,
+                before: self.before,
+                length: self.length,
+            });
+            self.number = number;
+            self.before = self.store.last();
+        }
     }
 
     /// Writes what a file has to the store, up to its first fault.
     fn replay(&mut self, name: Name, log: &[u8], reading: &mut Reading) -> Result<(), Error> {
-        let is_behind_base = mem::take(&mut self.is_behind_base);
+        let begin = mem::replace(&mut self.begin, Begin::Behind);
+        self.moments.begin(name);
         let tell = |offset| reading.tell(name, offset);
-        let replay = Replay::of(&self.store, log, is_behind_base, tell)?;
+        let replay = Replay::of(&self.store, log, begin, &mut self.moments, tell)?;
         reading.end(name, log.len() as u64);
         self.length = replay.end;
         self.rest = log.len() as u64 - replay.end;
+        self.is_enough = replay.is_enough();
         match replay.fault(log, self.store.last()) {
             None => Ok(()),
             Some((offset, fault)) => Err(Error::Damaged {
@@ -181,47 +248,46 @@ impl Recovery {
         })
     }
 
-    /// Makes the folder ready for writes: cuts off what a crash left, and removes what isn't needed. Returns the store,
-    /// and the log that goes on.
+    /// The store, and its snapshots at the marks.
+    pub(crate) fn into_store(self) -> (Store, Vec<View>) {
+        (self.store, self.moments.marks)
+    }
+
+    /// The store, its snapshots at the marks, and the log that goes on. The folder is made ready for writes: what a crash left is cut
+    /// off, and what isn't needed removed. If something is given up, that waits for the first write.
     pub(crate) fn into_log(
         self,
         folder: Arc<dyn Folder>,
+        is_given_up: bool,
         counts: &Arc<Counts>,
-    ) -> Result<(Store, Log), Error> {
-        if !self.files.has_operator {
-            operator_file::write(&*folder, self.operator)?;
+    ) -> Result<(Store, Vec<View>, Log), Error> {
+        let is_new = self.files.logs.is_empty();
+        let unready = Unready {
+            operator: (!self.files.has_operator).then_some(self.operator),
+            number: self.number,
+            is_new,
+            length: (self.rest > 0).then_some(self.length),
+            logs: self.files.logs,
+            spent: self.files.spent,
+        };
+        let waits = is_given_up && !is_new;
+        if !waits {
+            unready.get_ready(&*folder)?;
         }
-        let name = Name::Log(self.number).text();
-        if self.files.logs.is_empty() {
-            folder.create(&name).map_err(Error::of_file(&name))?;
-        }
-        if self.rest > 0 {
-            let mut file = folder.open(&name).map_err(Error::of_file(&name))?;
-            file.cut(self.length).map_err(Error::of_file(&name))?;
-            file.sync().map_err(Error::of_file(&name))?;
-        }
-        // The names that were read stay behind a crash, before others go: those of logs from the last one on.
-        folder.sync().map_err(Error::of_file(""))?;
-        for number in self.files.logs.iter().rev() {
-            if *number > self.number {
-                remove(&*folder, Name::Log(*number))?;
-                folder.sync().map_err(Error::of_file(""))?;
-            }
-        }
-        for name in self.files.spent {
-            remove(&*folder, name)?;
-        }
-        folder.sync().map_err(Error::of_file(""))?;
-        let counts = Arc::clone(counts);
-        let log = Log::open(folder, self.number, self.length, self.older, counts)?;
-        Ok((self.store, log))
+        let log = Log::open(
+            folder,
+            Older {
+                number: self.number,
+                before: self.before,
+                length: self.length,
+            },
+            self.older,
+            self.based,
+            waits.then_some(unready),
+            Arc::clone(counts),
+        )?;
+        Ok((self.store, self.moments.marks, log))
     }
-}
-
-/// Removes a file.
-fn remove(folder: &dyn Folder, name: Name) -> Result<(), Error> {
-    let name = name.text();
-    folder.remove(&name).map_err(Error::of_file(&name))
 }
 
 /// The bytes of a file.

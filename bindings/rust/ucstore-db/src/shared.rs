@@ -59,6 +59,8 @@ pub(crate) struct Shared {
     /// The thread that makes checkpoints, and whether it should.
     pub(crate) checkpointer: OnceLock<Thread>,
     pub(crate) is_checkpoint_due: AtomicBool,
+    /// What there was at the marks, as far as it wasn't given out.
+    pub(crate) marks: Mutex<Vec<View>>,
 }
 
 impl Shared {
@@ -74,10 +76,18 @@ impl Shared {
         let counts = Arc::default();
         let mut recovery = Recovery::read(&*folder, options)?;
         if let Some(fault) = recovery.fault.take() {
-            return Shared::of(recovery.store, None, Some(fault), options, counts);
+            let (store, marks) = recovery.into_store();
+            return Ok(Shared {
+                marks: Mutex::new(marks),
+                ..Shared::of(store, None, Some(fault), options, counts)?
+            });
         }
-        let (store, log) = recovery.into_log(folder, &counts)?;
-        Shared::of(store, Some(log), None, options, counts)
+        let (store, marks, log) =
+            recovery.into_log(folder, options.recover_to.is_some(), &counts)?;
+        Ok(Shared {
+            marks: Mutex::new(marks),
+            ..Shared::of(store, Some(log), None, options, counts)?
+        })
     }
 
     /// What is shared of a store and its log.
@@ -109,6 +119,7 @@ impl Shared {
             is_closing: AtomicBool::new(false),
             checkpointer: OnceLock::new(),
             is_checkpoint_due: AtomicBool::new(false),
+            marks: Mutex::default(),
         })
     }
 
@@ -140,7 +151,7 @@ impl Shared {
     }
 
     /// Takes a group, behind its record in the log if there is one.
-    fn take(&self, log: &mut Option<Log>, group: &Group) -> Result<(), Error> {
+    pub(crate) fn take(&self, log: &mut Option<Log>, group: &Group) -> Result<(), Error> {
         self.check()?;
         self.slow_down();
         if self.gathered.load(Ordering::Relaxed) >= self.options.most_gathered() {

@@ -54,6 +54,11 @@ impl Snapshot {
         snapshot
     }
 
+    /// What it shows, and whose counts it has.
+    pub(crate) fn parts(&self) -> (&View, &Arc<Counts>) {
+        (&self.view, &self.counts)
+    }
+
     /// The snapshot once more, for another thread. Nothing is copied.
     ///
     /// # Errors

@@ -235,7 +235,7 @@ fn a_file_that_is_missing_is_named() {
     let mut fewer = device.files();
     assert_eq!(
         fewer.keys().collect::<Vec<_>>(),
-        ["000004.base", "000004.log", "OPERATOR"]
+        ["000004-4.base", "000004.log", "OPERATOR"]
     );
     fewer.remove("000004.log");
     assert!(matches!(

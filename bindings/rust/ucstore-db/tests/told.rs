@@ -77,7 +77,7 @@ fn flushes_compactions_and_checkpoints_are_told() {
     let Event::Checkpointed { file, bytes, .. } = made else {
         unreachable!();
     };
-    assert_eq!((&*file, bytes), ("000002.base", db.stats().base_bytes));
+    assert_eq!((&*file, bytes), ("000002-4.base", db.stats().base_bytes));
     // Nothing is gathered: no run is made.
     told.take();
     db.flush().unwrap();
@@ -219,7 +219,7 @@ fn the_progress_of_an_opening_is_told() {
     assert_eq!(told.last().unwrap().read, whole);
     let mut names: Vec<_> = told.iter().map(|it| &*it.file).collect();
     names.dedup();
-    assert_eq!(names, ["000002.base", "000002.log"]);
+    assert_eq!(names, ["000002-40.base", "000002.log"]);
 }
 
 #[test]
@@ -310,7 +310,7 @@ fn numbers_of_work_are_counted() {
     assert!(stats.syncs == 10 && stats.sync_p50 <= stats.sync_p99);
     db.checkpoint().unwrap();
     let stats = db.stats();
-    let base = device.files()["000002.base"].len() as u64;
+    let base = device.files()["000002-10.base"].len() as u64;
     assert_eq!((stats.base_bytes, stats.log_bytes), (base, 0));
     let wanted = (logged + base) as f64 / stats.user_bytes as f64;
     assert_eq!(stats.write_amplification(), wanted);

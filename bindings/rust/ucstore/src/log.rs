@@ -2,6 +2,8 @@
 
 use crate::ended::Ended;
 use crate::error::{check, Error};
+use crate::replay::Replay;
+use crate::store::Store;
 use crate::sys;
 use std::iter::FusedIterator;
 use std::ops;
@@ -112,6 +114,13 @@ pub fn log_writes(log: &[u8]) -> LogWrites<'_> {
         left: 0,
         ended: None,
         failed: false,
+    }
+}
+
+impl<'a> LogWrites<'a> {
+    /// Writes the batches that weren't fetched yet to a store, one at a call of [`Replay::write_next`].
+    pub fn replay(self, store: &'a Store) -> Replay<'a> {
+        Replay::of(store, self.log, self.place)
     }
 }
 

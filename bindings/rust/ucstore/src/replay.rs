@@ -25,15 +25,13 @@ pub struct Replay<'a> {
 }
 
 impl<'a> Replay<'a> {
-    /// That of a log whose batches come behind what the store has.
-    pub(crate) fn of(store: &'a Store, log: &'a [u8]) -> Replay<'a> {
+    /// That of a log whose batches behind a place come behind what the store has.
+    pub(crate) fn of(store: &'a Store, log: &'a [u8], place: sys::ucstore_log_place) -> Replay<'a> {
+        let last = store.last();
         Replay {
             store,
             log,
-            place: sys::ucstore_log_place {
-                last: store.last(),
-                ..Default::default()
-            },
+            place: sys::ucstore_log_place { last, ..place },
         }
     }
 
@@ -60,6 +58,11 @@ impl<'a> Replay<'a> {
             sys::UCSTORE_LOG_ENDS => Ok(Replayed::Ended(Ended::of(ended))),
             status => check(status).map(|()| Replayed::Batch),
         }
+    }
+
+    /// The last sequence of the store.
+    pub fn last(&self) -> u64 {
+        self.place.last
     }
 
     /// Where the log goes on behind the batches that were written.

@@ -4,6 +4,7 @@ use crate::batch::Batch;
 use crate::ended::Ended;
 use crate::error::{check, Error};
 use crate::job::{EndedJob, Job};
+use crate::log::log_writes;
 use crate::lookup_source::LookupSource;
 use crate::options::{Operator, Options};
 use crate::reads::{Functions, Reads};
@@ -109,7 +110,7 @@ impl Store {
     /// # }
     /// ```
     pub fn replay<'a>(&'a self, log: &'a [u8]) -> Replay<'a> {
-        Replay::of(self, log)
+        log_writes(log).replay(self)
     }
 
     /// Writes the operations of a batch, with the sequences behind the last one.

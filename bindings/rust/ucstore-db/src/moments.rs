@@ -1,0 +1,117 @@
+//! [`Moments`]: the sequences that the options name, at which a replay makes snapshots and ends.
+
+use crate::error::Error;
+use crate::name::Name;
+use crate::options::Options;
+use ucstore::{log_writes, Store, View};
+
+/// The sequences at which a replay makes snapshots, and the one at which it ends. Each has to be the end of a batch.
+pub(crate) struct Moments {
+    /// The marks that aren't reached yet: the least one is last.
+    left: Vec<u64>,
+    end: Option<u64>,
+    /// Up to which sequence a batch may begin that is given up.
+    give_up_until: u64,
+    /// What there was at the marks that were reached.
+    pub(crate) marks: Vec<View>,
+    /// The file that is read.
+    name: Name,
+}
+
+impl Moments {
+    /// Those of the options.
+    pub(crate) fn of(options: &Options) -> Moments {
+        let mut left = options.marks.clone();
+        left.sort_unstable_by(|one, other| other.cmp(one));
+        left.dedup();
+        Moments {
+            left,
+            end: options.recover_to,
+            give_up_until: options.give_up_until,
+            marks: vec![],
+            name: Name::Log(1),
+        }
+    }
+
+    /// None.
+    pub(crate) fn none() -> Moments {
+        Moments::of(&Options::default())
+    }
+
+    /// Tells which file is read from now on.
+    pub(crate) fn begin(&mut self, name: Name) {
+        self.name = name;
+    }
+
+    /// Whether one of them comes before a sequence, which is the next one.
+    pub(crate) fn are_due(&self, next: u64) -> bool {
+        self.due().is_some_and(|due| due < next)
+    }
+
+    /// Makes a snapshot of a store, if there is a mark. Tells whether the replay ends here, behind the batch that ends at the offset.
+    pub(crate) fn reach(&mut self, store: &Store, offset: u64) -> Result<bool, Error> {
+        let last = store.last();
+        if let Some(due) = self.due().filter(|due| *due < last) {
+            let fault = format!("no batch ends at sequence {due}: this one ends at {last}");
+            return Err(self.refusal(offset, fault));
+        }
+        if self.left.last() == Some(&last) {
+            self.marks.push(store.view()?);
+            self.left.pop();
+        }
+        Ok(self.end == Some(last))
+    }
+
+    /// Checks that all of them were reached, where what is read ends.
+    pub(crate) fn finish(&mut self, store: &Store, offset: u64) -> Result<(), Error> {
+        let last = store.last();
+        self.reach(store, offset)?;
+        match self.left.first().max(self.end.as_ref()) {
+            Some(due) if *due > last => {
+                let fault = format!("the batches end at sequence {last}, before {due}");
+                Err(self.refusal(offset, fault))
+            }
+            _ => Ok(()),
+        }
+    }
+
+    /// Checks a log of which batches are given up: none of these begins behind the sequence up to which they may.
+    pub(crate) fn check_given_up(&self, name: Name, log: &[u8]) -> Result<(), Error> {
+        let most = self.give_up_until.max(self.end.unwrap_or(0));
+        let mut writes = log_writes(log);
+        loop {
+            let (offset, begins) = (writes.offset(), writes.is_between_batches());
+            match writes.next_write()? {
+                Some(write) if begins && write.sequence > most => {
+                    let begin = write.sequence;
+                    let fault = format!(
+                        "a batch begins at sequence {begin}, so that {} was acknowledged",
+                        begin - 1
+                    );
+                    return Err(refusal(name, offset, fault));
+                }
+                Some(_) => {}
+                None => return Ok(()),
+            }
+        }
+    }
+
+    /// The next one.
+    fn due(&self) -> Option<u64> {
+        let mark = self.left.last().copied();
+        mark.into_iter().chain(self.end).min()
+    }
+
+    fn refusal(&self, offset: u64, fault: String) -> Error {
+        refusal(self.name, offset, fault)
+    }
+}
+
+/// What says that a file can't be recovered to a sequence.
+fn refusal(name: Name, offset: u64, fault: String) -> Error {
+    Error::NotRecoverable {
+        file: name.text(),
+        offset,
+        fault,
+    }
+}
