@@ -713,12 +713,15 @@ class Cuts(Folder):
             self.assertEqual(found, (old, newer, self.wanted))
             del shard
             shard = self.opened([then, at])
+        # Some compactions come meanwhile: what they let go counts as data before.
+        self.put(shard, 200)
+        self.assertEqual(self.base(), at)
         shard.release(at)
-        self.put(shard, 100)
-        self.assertEqual((self.base() > at, self.base() <= then), (True, True))
+        self.put(shard, 200)
+        self.assertEqual(self.base(), then)
         self.assertEqual(self.rows(shard, then), newer)
         shard.release(then)
-        self.put(shard, 100)
+        self.put(shard, 200)
         self.assertGreater(self.base(), then)
         del shard
         self.assertEqual(self.rows(self.opened()), self.wanted)

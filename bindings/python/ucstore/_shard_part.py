@@ -117,7 +117,8 @@ class Shard:
         self._views: dict[int, _Held] = {}
         self._leases: dict[int, float] = {}
         self._kept: Counter[int] = Counter()
-        self._logged, self._tried = db.stats().log_bytes, 0
+        # The last sequence at the opening, how many bytes are logged, and how many were when a base was tried.
+        self._opened, self._logged, self._tried = place, db.stats().log_bytes, 0
         self._base: threading.Thread | None = None
 
     @classmethod
@@ -172,10 +173,11 @@ class Shard:
     def _cut(self, place: int) -> None:
         """Begins to write a base of what it held at a place, if that lets enough of the logs go."""
         held = self._views[place]
-        long = held.logged - self._tried
+        # Where in the logs that were opened a snapshot is isn't known: for each of these one base is tried.
+        long = held.logged - (self._tried if place > self._opened else 0)
         is_busy = self._base is not None and self._base.is_alive()
         if not is_busy and long >= self._writer.least and long >= RATIO * self._db.stats().bytes:
-            self._tried = held.logged
+            self._tried, self._views[place] = held.logged, held._replace(logged=0)
             # On a full device the log grows, and the batch is refused if it has no room.
             with suppress(FileFault):
                 self._db.next_log()
