@@ -368,7 +368,7 @@ impl Db {
         read: impl FnOnce(Holder<'_>) -> Result<T, ucstore::Error>,
     ) -> Result<T, Error> {
         let shared = self.shared();
-        shared.read(|holder| {
+        shared.read(key, |holder| {
             shared.counts.lookups.add(|| holder.source(key));
             read(holder)
         })

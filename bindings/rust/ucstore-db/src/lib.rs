@@ -28,9 +28,10 @@
 //! # Reads
 //!
 //! A read sees each write that was acknowledged before it began. A thread looks keys up in a view that no other thread uses
-//! meanwhile, and renews it behind a write. The writer has shown the next view by then, if the last one was used; else the
-//! first reader makes it, which locks the store for the time of a share. While nothing is written, threads look keys up without
-//! a lock in common. A writer shows what there is before a flush: so no
+//! meanwhile. A key that wasn't written since is in an old view as it is now: a table says which group wrote a key last. Another one
+//! is looked up in the store, which is locked meanwhile. Where that isn't free soon, the thread renews its view. The writer has shown
+//! the next view by then, if the last one was used; else the first reader makes it, which locks the store for the time of a share.
+//! While nothing is written, threads look keys up without a lock in common. A writer shows what there is before a flush: so no
 //! read waits for a flush, a compaction or a checkpoint. Only behind 64 range deletions the store flushes by itself,
 //! and then the first read may wait. Views are let go of when the runs change, so threads that read no more keep nothing.
 //!
@@ -87,6 +88,7 @@ mod shown;
 mod snapshot;
 mod stats;
 mod sync_times;
+mod touched;
 mod unready;
 mod workers;
 

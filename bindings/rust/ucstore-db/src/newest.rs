@@ -3,21 +3,33 @@
 use crate::error::Error;
 use crate::front::Front;
 use crate::holder::Holder;
-use crate::lanes::{own_place, Lanes};
+use crate::lanes::Lanes;
 use crate::padded::Padded;
 use crate::patience::Patience;
-use crate::shown::{renewed, Shown};
+use crate::shown::Shown;
+use crate::touched::Touched;
 use crate::{lock, try_lock};
-use std::sync::atomic::{fence, AtomicBool, AtomicU64, AtomicUsize, Ordering};
+use std::sync::atomic::{fence, AtomicBool, AtomicU32, AtomicU64, Ordering};
 use std::sync::{Mutex, MutexGuard};
 use ucstore::{Store, View};
+
+/// From how many scans between two groups on the writer sorts the next view for them.
+const MANY_SCANS: u32 = 2;
+
+/// How many writes a writer sorts at most.
+const MOST_TO_SORT: u64 = 1024;
+
+/// How often a thread asks the store itself between two groups. Behind that it has a view, and needs no lock that threads share.
+const MOST_ASKED: u32 = 4;
 
 /// The newest views of a store.
 ///
 /// A read needs the groups that were taken before it began, and no more: so those who wait for a view together share it.
-/// A thread looks keys up in the view of a slot, which is locked for it alone, and renews that from the shown one. The writer of the
-/// next group shows the next one if this one was used. Else the first reader behind it does. A thread that has written the last group
-/// itself looks keys up in the store, if that is free: so it makes no view behind each of its writes.
+/// A thread looks keys up in the view of a slot, which is locked for it alone. A key that no group has written since is in an old view
+/// as it is now. For another key it asks the store itself, unless that isn't free soon or was asked often since the last group: then it
+/// renews the view from the shown one. So threads that write and read make few views, and each one makes the store's memtables more.
+/// The writer of the next group shows the next one if this one was used. Else the first reader behind it does. Behind many scans it
+/// also sorts that for them, so that no thread that scans has to.
 ///
 /// There are 26 views at most: those of 16 slots, one for scans, the shown one, and eight before it.
 /// A view holds the memtables and runs that the store had. Who changes the runs lets go of all views before that, whether anyone
@@ -31,21 +43,47 @@ pub(crate) struct Newest {
     taken: Padded<AtomicU64>,
     /// How many there were at the last change of the runs.
     changed: Padded<AtomicU64>,
-    slots: Lanes<Mutex<Option<Shown>>>,
+    slots: Lanes<Mutex<Slot>>,
     /// A view for scans, in which what no run has yet is sorted.
     sorted: Mutex<Option<Shown>>,
     /// It is locked for no longer than a share takes.
     shown: Padded<Mutex<Front>>,
     /// Whether the shown view was used.
     is_used: Padded<AtomicBool>,
-    /// The place of the thread that wrote the last group.
-    writer: Padded<AtomicUsize>,
+    /// How many scans there were since, up to [`MANY_SCANS`].
+    scans: Padded<AtomicU32>,
+    touched: Touched,
+}
+
+/// What a thread looks keys up in.
+#[derive(Default)]
+struct Slot {
+    shown: Option<Shown>,
+    /// How often the store was to be asked instead since so many groups were taken.
+    asked: u32,
+    asked_at: u64,
+}
+
+impl Slot {
+    /// Whether the store may be asked behind so many groups. Then it is counted.
+    fn may_ask(&mut self, taken: u64) -> bool {
+        if self.asked_at != taken {
+            (self.asked, self.asked_at) = (0, taken);
+        }
+        self.asked += 1;
+        self.asked <= MOST_ASKED
+    }
 }
 
 impl Newest {
+    /// Notes the group that the store takes next. Only who writes it calls this.
+    pub(crate) fn note(&self, batch: &[u8]) {
+        self.touched.note(batch);
+    }
+
     /// Tells that the store has taken a group, before it is unlocked. It waits for no reader: one of these shows the view if it can't.
     pub(crate) fn raise(&self, store: &Store) {
-        self.writer.0.store(own_place(), Ordering::Relaxed);
+        self.touched.count();
         self.tell(store, || Patience::Short.look(|| try_lock(&self.shown.0)));
     }
 
@@ -54,9 +92,10 @@ impl Newest {
         self.tell(store, || Some(lock(&self.shown.0)));
     }
 
-    /// Reads what has each group that was taken before the call: a view, or the store itself.
+    /// Looks a key up in what has it as each group leaves it that was taken before the call: a view, or the store itself.
     pub(crate) fn read<T>(
         &self,
+        key: &[u8],
         store: &Mutex<Store>,
         read: impl FnOnce(Holder<'_>) -> Result<T, ucstore::Error>,
     ) -> Result<T, Error> {
@@ -66,17 +105,21 @@ impl Newest {
         let Some((slot, mut held)) = free.next() else {
             return Ok(read(Holder::View(&self.shown(least, store)?.view))?);
         };
-        let is_old = held.as_ref().is_none_or(|shown| shown.taken < least);
-        if is_old && self.writer.0.load(Ordering::Relaxed) == own_place() {
-            if let Some(store) = try_lock(store) {
+        let has_key =
+            |shown: &Shown| shown.taken >= least || self.touched.is_as_of(key, shown.groups);
+        if !held.shown.as_ref().is_some_and(has_key) {
+            let ask = || Patience::Short.look(|| try_lock(store));
+            if let Some(store) = held.may_ask(least).then(ask).flatten() {
                 drop(held);
                 return Ok(read(Holder::Store(&store))?);
             }
+            held.shown = None;
+            held.shown = Some(self.shown(least, store)?);
         }
-        let shown = renewed(&mut held, least, || self.shown(least, store))?;
+        let shown = held.shown.as_ref().expect("it was renewed");
         let (value, taken) = (read(Holder::View(&shown.view)), shown.taken);
         drop(held);
-        self.end_use(slot, taken);
+        self.end_use(taken, || self.let_go_of(slot));
         Ok(value?)
     }
 
@@ -89,18 +132,19 @@ impl Newest {
     /// while it is sorted does so too: to wait takes longer.
     pub(crate) fn sorted_view(&self, store: &Mutex<Store>) -> Result<View, Error> {
         let least = self.taken();
+        self.count_scan();
         if let Some(shown) = lock(&self.sorted).as_ref().filter(|it| it.taken >= least) {
             return Ok(shown.view.again()?);
         }
-        let shown = self.shown(least, store)?;
-        sort(&shown.view)?;
+        let mut shown = self.shown(least, store)?;
+        shown.sort()?;
         let (taken, again) = (shown.taken, shown.again()?);
         let mut sorted = lock(&self.sorted);
         let is_newer = sorted.as_ref().is_none_or(|it| it.taken < taken);
         let old = is_newer.then(|| sorted.replace(again));
         drop(sorted);
         drop(old);
-        self.end_use(&self.sorted, taken);
+        self.end_use(taken, || self.let_go_of_sorted());
         Ok(shown.view)
     }
 
@@ -121,24 +165,36 @@ impl Newest {
         let old = lock(&self.shown.0).take_old(least);
         // What only they hold is freed while nobody waits.
         drop(old);
-        for held in self.slots.iter().chain([&self.sorted]) {
-            self.let_go_of(held);
+        for slot in self.slots.iter() {
+            self.let_go_of(slot);
         }
+        self.let_go_of_sorted();
     }
 
     /// Lets go of a view of so many groups, which was used and is unlocked, if the runs were changed since.
-    fn end_use(&self, held: &Mutex<Option<Shown>>, taken: u64) {
+    fn end_use(&self, taken: u64, let_go: impl FnOnce()) {
         fence(Ordering::SeqCst);
         if taken < self.changed.0.load(Ordering::Relaxed) {
-            self.let_go_of(held);
+            let_go();
         }
     }
 
-    /// Lets go of a view that misses a change of the runs, unless it is used.
-    fn let_go_of(&self, held: &Mutex<Option<Shown>>) {
-        let least = self.changed.0.load(Ordering::Relaxed);
-        let old = try_lock(held).and_then(|mut held| held.take_if(|shown| shown.taken < least));
+    /// Lets go of a slot's view that misses a change of the runs, unless it is used.
+    fn let_go_of(&self, slot: &Mutex<Slot>) {
+        let old = try_lock(slot).and_then(|mut slot| self.take_old(&mut slot.shown));
         drop(old);
+    }
+
+    /// Lets go of the view for scans if it misses a change of the runs, unless it is used.
+    fn let_go_of_sorted(&self) {
+        let old = try_lock(&self.sorted).and_then(|mut held| self.take_old(&mut held));
+        drop(old);
+    }
+
+    /// Takes out a view that misses a change of the runs.
+    fn take_old(&self, held: &mut Option<Shown>) -> Option<Shown> {
+        let least = self.changed.0.load(Ordering::Relaxed);
+        held.take_if(|shown| shown.taken < least)
     }
 
     /// How many groups were taken.
@@ -160,11 +216,26 @@ impl Newest {
         let shown = Shown {
             view: store.view()?,
             taken: self.taken(),
+            groups: self.touched.groups(),
+            is_sorted: false,
         };
         let old = lock(&self.shown.0).show(shown.again()?);
         drop(store);
         drop(old);
         Ok(shown)
+    }
+
+    /// Whether there were many scans behind the last group, or change of the runs.
+    pub(crate) fn is_scanned(&self) -> bool {
+        self.scans.0.load(Ordering::Relaxed) >= MANY_SCANS
+    }
+
+    /// Counts a scan, as far as it matters.
+    fn count_scan(&self) {
+        let scans = self.scans.0.load(Ordering::Relaxed);
+        if scans < MANY_SCANS {
+            self.scans.0.store(scans + 1, Ordering::Relaxed);
+        }
     }
 
     /// Notes that the shown view is used. Threads share the note's cache line while it is there.
@@ -177,15 +248,30 @@ impl Newest {
     /// Counts what the store has taken, and shows it if the shown view was used. Who reads in the next one finds that it is counted:
     /// so nobody who reads behind that sees less.
     fn tell<'a>(&self, store: &Store, shown: impl FnOnce() -> Option<MutexGuard<'a, Front>>) {
-        let is_used = self.is_used.0.swap(false, Ordering::Relaxed);
-        let view = is_used.then(|| store.view().ok()).flatten();
-        let shown = view.and_then(|view| Some((view, shown()?)));
-        let taken = 1 + self.taken.0.fetch_add(1, Ordering::Release);
-        if let Some((view, mut shown)) = shown {
-            let old = shown.show_written(Shown { view, taken });
+        let is_scanned = self.scans.0.swap(0, Ordering::Relaxed) >= MANY_SCANS
+            && store.report().gathered <= MOST_TO_SORT;
+        let is_used = self.is_used.0.swap(false, Ordering::Relaxed) || is_scanned;
+        let mut next = is_used.then(|| self.next(store).ok()).flatten();
+        if let Some(next) = next.as_mut().filter(|_| is_scanned) {
+            let _ = next.sort();
+        }
+        let shown = next.and_then(|next| Some((next, shown()?)));
+        self.taken.0.fetch_add(1, Ordering::Release);
+        if let Some((next, mut shown)) = shown {
+            let old = shown.show_written(next);
             drop(shown);
             drop(old);
         }
+    }
+
+    /// A view that is told of next.
+    fn next(&self, store: &Store) -> Result<Shown, Error> {
+        Ok(Shown {
+            view: store.view()?,
+            taken: self.taken() + 1,
+            groups: self.touched.groups(),
+            is_sorted: false,
+        })
     }
 }
 
@@ -196,248 +282,4 @@ pub(crate) fn sort(view: &View) -> Result<(), Error> {
 }
 
 #[cfg(test)]
-mod tests {
-    use super::*;
-    use crate::lanes::own_place;
-    use crate::options::Options;
-    use crate::shared::Shared;
-    use std::sync::atomic::AtomicBool;
-    use std::thread;
-    use ucstore::Batch;
-
-    /// How many threads read: some share a slot.
-    const READERS: usize = 24;
-
-    impl Newest {
-        /// How many groups each view has that is held.
-        fn held(&self) -> Vec<u64> {
-            let others = self.slots.iter().chain([&self.sorted]);
-            let others = others.filter_map(|held| lock(held).as_ref().map(|shown| shown.taken));
-            lock(&self.shown.0).taken().chain(others).collect()
-        }
-
-        /// Whether readers find a view of all groups without the store.
-        fn is_shown(&self) -> bool {
-            let shown = lock(&self.shown.0).share(self.taken()).unwrap();
-            shown.is_some()
-        }
-    }
-
-    fn in_memory() -> Shared {
-        Shared::open(None, &Options::default()).unwrap()
-    }
-
-    fn put_own(shared: &Shared, number: u64) {
-        let mut batch = Batch::new();
-        batch.put("k", number.to_le_bytes()).unwrap();
-        shared.write(batch.bytes(), false).unwrap();
-    }
-
-    /// Puts as a thread that reads nothing.
-    fn put(shared: &Shared, number: u64) {
-        put_own(shared, number);
-        shared.newest.writer.0.store(usize::MAX, Ordering::Relaxed);
-    }
-
-    fn get(shared: &Shared) -> u64 {
-        let value = shared.read(|holder| holder.get(b"k")).unwrap();
-        value.map_or(0, |text| u64::from_le_bytes(text.try_into().unwrap()))
-    }
-
-    /// Reads by threads that have slots of their own, and by a scan.
-    fn read_by_all(shared: &Shared) {
-        thread::scope(|scope| {
-            for _ in 0..READERS {
-                scope.spawn(|| get(shared));
-            }
-        });
-        shared.newest.sorted_view(&shared.store).unwrap();
-    }
-
-    #[test]
-    fn a_read_waits_for_no_group_that_came_behind_its_begin() {
-        let shared = in_memory();
-        put(&shared, 1);
-        let least = shared.newest.taken();
-        assert_eq!(get(&shared), 1);
-        // A writer has taken a group that isn't shown, and has the store still.
-        let store = lock(&shared.store);
-        shared.newest.taken.0.fetch_add(1, Ordering::Release);
-        let view = shared.newest.shown(least, &shared.store).unwrap().view;
-        assert_eq!(view.last(), 1);
-        drop(store);
-        assert!(!shared.newest.is_shown());
-        assert_eq!(get(&shared), 1);
-        assert!(shared.newest.is_shown());
-    }
-
-    #[test]
-    fn a_thread_reads_what_it_wrote_last_in_the_store() {
-        let shared = in_memory();
-        for number in 1..5 {
-            put_own(&shared, number);
-            assert_eq!(get(&shared), number);
-            assert_eq!(shared.newest.held(), []);
-        }
-        // The store isn't free, or another thread has written since.
-        put_own(&shared, 5);
-        let view = shared.view().unwrap();
-        let store = lock(&shared.store);
-        assert_eq!(get(&shared), 5);
-        drop(store);
-        put_own(&shared, 6);
-        put(&shared, 7);
-        assert_eq!(get(&shared), 7);
-        assert!(shared.newest.is_shown());
-        assert_eq!(view.last(), 5);
-    }
-
-    #[test]
-    fn writers_show_a_view_if_the_last_one_was_used() {
-        let shared = in_memory();
-        put(&shared, 1);
-        assert_eq!(shared.newest.held(), []);
-        for round in 2..20 {
-            assert_eq!(get(&shared), round - 1);
-            put(&shared, round);
-            assert!(shared.newest.is_shown());
-            // So no reader waits for the store.
-            let store = lock(&shared.store);
-            assert_eq!(get(&shared), round);
-            drop(store);
-        }
-        put(&shared, 20);
-        put(&shared, 21);
-        assert!(!shared.newest.is_shown());
-        // As many stay as there are slots and views before the shown one.
-        assert!(shared.newest.held().len() <= 10);
-    }
-
-    #[test]
-    fn a_few_views_stay_while_one_thread_writes() {
-        let shared = in_memory();
-        let shown = || lock(&shared.newest.shown.0).taken().count();
-        for round in 0..40 {
-            put(&shared, round);
-            get(&shared);
-        }
-        assert_eq!(shown(), 9);
-        // A thread whose place is another one writes.
-        let own = own_place();
-        let write = || {
-            let is_other = own_place() != own;
-            if is_other {
-                put(&shared, 40);
-            }
-            is_other
-        };
-        while !thread::scope(|scope| scope.spawn(write).join().unwrap()) {}
-        assert_eq!(shown(), 1);
-    }
-
-    #[test]
-    fn a_change_of_the_runs_is_shown() {
-        let shared = in_memory();
-        for round in 0..4 {
-            put(&shared, round);
-            shared.flush().unwrap();
-            assert!(shared.newest.is_shown());
-            assert_eq!(get(&shared), round);
-        }
-        assert!(shared.compact().unwrap());
-        assert!(shared.newest.is_shown());
-    }
-
-    #[test]
-    fn slots_that_are_locked_are_passed_over() {
-        let shared = in_memory();
-        for number in 1..5 {
-            put(&shared, number);
-            let [own, next] = shared.newest.slots.own_and_next();
-            let _own = lock(own);
-            assert_eq!(get(&shared), number);
-            let _next = lock(next);
-            assert_eq!(get(&shared), number);
-        }
-    }
-
-    /// All views that are held have the last change of the runs.
-    fn check_held(shared: &Shared) {
-        let (newest, held) = (shared.newest.taken(), shared.newest.held());
-        assert!(
-            held.iter().all(|taken| *taken == newest),
-            "{held:?} at {newest}"
-        );
-    }
-
-    #[test]
-    fn views_are_let_go_when_runs_change() {
-        let shared = in_memory();
-        for round in 0..4 {
-            put(&shared, round);
-            read_by_all(&shared);
-            assert!(shared.newest.held().len() > 3);
-            shared.flush().unwrap();
-            check_held(&shared);
-            assert_eq!(shared.newest.held().len(), 1);
-        }
-        read_by_all(&shared);
-        assert!(shared.newest.held().len() > 3);
-        // A compaction of the four runs.
-        assert!(shared.compact().unwrap());
-        check_held(&shared);
-        assert_eq!(shared.newest.held().len(), 1);
-        assert_eq!(get(&shared), 3);
-        // Nobody has read since the last one.
-        let step = |number| {
-            put(&shared, number);
-            put(&shared, number);
-            let store = lock(&shared.store);
-            store.flush().unwrap();
-            shared.newest.change(&store);
-            drop(store);
-            shared.newest.let_go();
-        };
-        step(4);
-        assert_eq!(shared.newest.held(), []);
-    }
-
-    #[test]
-    fn views_are_let_go_when_the_store_flushes_by_itself() {
-        let shared = in_memory();
-        put(&shared, 1);
-        read_by_all(&shared);
-        for key in 0..200u8 {
-            let mut batch = Batch::new();
-            batch.delete_range([key], [key, 0]).unwrap();
-            shared.write(batch.bytes(), false).unwrap();
-        }
-        assert!(lock(&shared.store).report().runs > 0);
-        assert_eq!(shared.newest.held(), []);
-        // One of them has the key.
-        assert_eq!(get(&shared), 0);
-    }
-
-    #[test]
-    fn views_are_let_go_beside_reads() {
-        let shared = in_memory();
-        for round in 0..200 {
-            let is_over = AtomicBool::new(false);
-            thread::scope(|scope| {
-                for _ in 0..3 {
-                    scope.spawn(|| {
-                        while !is_over.load(Ordering::Relaxed) {
-                            assert!(get(&shared) <= round);
-                        }
-                    });
-                }
-                put(&shared, round);
-                shared.flush().unwrap();
-                shared.compact().unwrap();
-                is_over.store(true, Ordering::Relaxed);
-            });
-            // Nothing was written since.
-            check_held(&shared);
-        }
-    }
-}
+mod tests;

@@ -10,6 +10,9 @@ use std::time::{Duration, Instant};
 /// How often a thread looks without giving up its processor.
 const SPINS: u32 = 50;
 
+/// How often it pauses at most between two looks. The fewer look at a lock, the sooner it is given back: each look takes its cache line.
+const MOST_PAUSES: u32 = 32;
+
 /// For how long it lets others use that before it looks again. Where one of them keeps it, that is once.
 const YIELDS: Duration = Duration::from_micros(50);
 
@@ -18,7 +21,7 @@ const YIELDS: Duration = Duration::from_micros(50);
 pub(crate) enum Patience {
     /// It sleeps at once: a device is waited for.
     None,
-    /// It looks for less than a microsecond, and keeps its processor: others wait for it.
+    /// It looks for some microseconds, and keeps its processor: others wait for it.
     Short,
     /// It looks as often as it pays.
     Long,
@@ -36,12 +39,16 @@ impl Patience {
     /// Looks for something, and returns it if it is there before the thread would sleep.
     pub(crate) fn look<T>(self, mut find: impl FnMut() -> Option<T>) -> Option<T> {
         let spins = if self == Patience::None { 0 } else { SPINS };
+        let mut pauses = 1;
         for _ in 0..spins {
             let found = find();
             if found.is_some() {
                 return found;
             }
-            hint::spin_loop();
+            for _ in 0..pauses {
+                hint::spin_loop();
+            }
+            pauses = MOST_PAUSES.min(2 * pauses);
         }
         let begun = (self == Patience::Long).then(Instant::now);
         while begun.is_some_and(|begun| begun.elapsed() < YIELDS) {

@@ -10,6 +10,7 @@ use crate::lock;
 use crate::log::Log;
 use crate::newest::Newest;
 use crate::options::{Options, Sync};
+use crate::padded::Padded;
 use crate::patience::Patience;
 use crate::recovery::Recovery;
 use std::sync::atomic::{AtomicBool, AtomicU64, Ordering};
@@ -18,8 +19,11 @@ use std::thread::{self, Thread};
 use std::time::{Duration, Instant};
 use ucstore::{Store, View};
 
-/// From how many bytes on scans make a run of what is gathered.
-const MOST_SORTED: u64 = 32 << 10;
+/// From how many bytes on scans, and writes among them, make a run of what is gathered.
+pub(crate) const MOST_SORTED: u64 = 32 << 10;
+
+/// From how many bytes on a group has the store for so long that what there is before it is shown.
+const LONG_GROUP: usize = 64 << 10;
 
 /// In how many steps threads are told of what is gathered beyond a full memtable, which the store measures more closely.
 const STEPS: u64 = 16;
@@ -36,13 +40,15 @@ pub(crate) struct Shared {
     /// Held by a checkpoint. It has the bytes of logs from which on the next one is due.
     pub(crate) checkpointing: Mutex<u64>,
     /// The log; none in memory, and once the database is closed.
-    pub(crate) log: Mutex<Option<Log>>,
+    pub(crate) log: Padded<Mutex<Option<Log>>>,
     pub(crate) newest: Newest,
-    pub(crate) store: Mutex<Store>,
+    pub(crate) store: Padded<Mutex<Store>>,
     /// Notified when there may be a job, or one has ended.
     pub(crate) work: Condvar,
+    /// Whether a group is written now, as far as who waits for the log has to know.
+    is_writing: Padded<AtomicBool>,
     /// The writers that come together.
-    groups: Groups,
+    groups: Padded<Groups>,
     /// Why nothing can be written any more.
     failure: OnceLock<Error>,
     /// What failed first in a thread of the database's own.
@@ -104,13 +110,14 @@ impl Shared {
         Ok(Shared {
             options: options.clone(),
             checkpointing: Mutex::new(options.checkpoint_least),
-            log: Mutex::new(log),
+            log: Padded(Mutex::new(log)),
             newest: Newest::default(),
             gathered: AtomicU64::new(gathered),
             runs: AtomicU64::new(report.runs),
-            store: Mutex::new(store),
+            store: Padded(Mutex::new(store)),
             work: Condvar::new(),
-            groups: Groups::default(),
+            is_writing: Padded::default(),
+            groups: Padded::default(),
             failure: fault.map_or_else(OnceLock::new, |fault| fault.into_cause().into()),
             noted: Mutex::new(None),
             counts,
@@ -141,9 +148,13 @@ impl Shared {
 
     /// Writes the open group behind those before it.
     fn lead(&self, patience: Patience) -> Result<(), Error> {
+        // Who looks at the lock takes its cache line from the thread that has it.
+        patience.look(|| (!self.is_writing.load(Ordering::Relaxed)).then_some(()));
         let mut log = patience.lock(&self.log);
+        self.is_writing.store(true, Ordering::Relaxed);
         let group = self.groups.close();
         let told = self.take(&mut log, &group);
+        self.is_writing.store(false, Ordering::Relaxed);
         drop(log);
         group.tell(&told);
         self.events.tell();
@@ -156,7 +167,14 @@ impl Shared {
         self.slow_down();
         if self.gathered.load(Ordering::Relaxed) >= self.options.most_gathered() {
             self.flush_gathered()?;
+        } else if self.newest.is_scanned() && self.is_much_to_sort() {
+            // What isn't flushed is sorted.
+            let _ = self.flush_gathered();
         }
+        if group.batch.len() >= LONG_GROUP {
+            self.newest.renew(&self.store)?;
+        }
+        self.newest.note(&group.batch);
         let is_flushed = match log {
             Some(log) => self.take_logged(log, group)?,
             None => self.call(|store| {
@@ -289,12 +307,13 @@ impl Shared {
         });
     }
 
-    /// Reads what has each write that was acknowledged before.
+    /// Looks a key up, in what has each write that was acknowledged before.
     pub(crate) fn read<T>(
         &self,
+        key: &[u8],
         read: impl FnOnce(Holder<'_>) -> Result<T, ucstore::Error>,
     ) -> Result<T, Error> {
-        self.newest.read(&self.store, read)
+        self.newest.read(key, &self.store, read)
     }
 
     /// A view that has each write that was acknowledged before.
@@ -311,8 +330,7 @@ impl Shared {
     /// Makes a run of what is gathered, if that is much, so that it isn't sorted anew behind each write. It waits for no writer and
     /// no compaction: what isn't flushed is sorted, and what is refused here is refused to a write.
     fn flush_for_scans(&self) {
-        let is_much = self.gathered.load(Ordering::Relaxed) >= MOST_SORTED;
-        if !is_much || self.runs.load(Ordering::Relaxed) >= self.options.slow_trigger.into() {
+        if !self.is_much_to_sort() {
             return;
         }
         if let Ok(log) = self.log.try_lock() {
@@ -320,6 +338,12 @@ impl Shared {
             drop(log);
             self.events.tell();
         }
+    }
+
+    /// Whether a scan has much to sort, and one run more slows no write.
+    fn is_much_to_sort(&self) -> bool {
+        self.gathered.load(Ordering::Relaxed) >= MOST_SORTED
+            && self.runs.load(Ordering::Relaxed) < self.options.slow_trigger.into()
     }
 
     /// Makes a run of what is gathered.

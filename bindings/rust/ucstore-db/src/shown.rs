@@ -1,12 +1,18 @@
-//! [`Shown`]: a view, and how many groups it has.
+//! [`Shown`]: a view, and which groups it has.
 
 use crate::error::Error;
+use crate::newest::sort;
 use ucstore::View;
 
-/// A view, and how many groups it has.
+/// A view, and which groups it has.
 pub(crate) struct Shown {
     pub(crate) view: View,
+    /// How many groups were taken, or changes of the runs.
     pub(crate) taken: u64,
+    /// How many of these were groups.
+    pub(crate) groups: u64,
+    /// Whether what no run has yet is sorted in it.
+    pub(crate) is_sorted: bool,
 }
 
 impl Shown {
@@ -15,19 +21,17 @@ impl Shown {
         Ok(Shown {
             view: self.view.again()?,
             taken: self.taken,
+            groups: self.groups,
+            is_sorted: self.is_sorted,
         })
     }
-}
 
-/// What is held, renewed if it has fewer groups than these. Nothing is held if that fails.
-pub(crate) fn renewed(
-    held: &mut Option<Shown>,
-    least: u64,
-    renew: impl FnOnce() -> Result<Shown, Error>,
-) -> Result<&Shown, Error> {
-    if held.as_ref().is_none_or(|shown| shown.taken < least) {
-        *held = None;
-        *held = Some(renew()?);
+    /// Sorts what no run has yet, for it and those that are made of it.
+    pub(crate) fn sort(&mut self) -> Result<(), Error> {
+        if !self.is_sorted {
+            sort(&self.view)?;
+            self.is_sorted = true;
+        }
+        Ok(())
     }
-    Ok(held.as_ref().expect("it was renewed"))
 }

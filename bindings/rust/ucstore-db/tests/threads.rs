@@ -134,69 +134,6 @@ fn counters_agree_at_each_moment_on_a_device() {
 }
 
 #[test]
-fn a_thread_sees_what_it_wrote() {
-    let db = Db::in_memory(&counters()).unwrap();
-    with_threads(|thread| {
-        let key = format!("k{thread}");
-        for wanted in 1..=500 {
-            db.merge(&key, one()).unwrap();
-            assert_eq!(number(db.get(&key).unwrap()), wanted);
-        }
-    });
-    let keys = (0..THREADS).map(|thread| format!("k{thread}"));
-    let found = db.get_many(keys).unwrap();
-    assert!(found.into_iter().all(|value| number(value) == 500));
-}
-
-#[test]
-fn each_new_thread_sees_what_was_written() {
-    let db = Db::in_memory(&counters()).unwrap();
-    let get = || number(db.get("k").unwrap());
-    // More threads than there are views: each finds one that an older thread has read.
-    for wanted in 1..=100 {
-        db.merge("k", one()).unwrap();
-        let found = thread::scope(|scope| scope.spawn(get).join().unwrap());
-        assert_eq!((found, get()), (wanted, wanted));
-    }
-    let lookups = db.stats().lookups;
-    assert_eq!(lookups, 200);
-}
-
-/// Reads a counter again and again. It has what was acknowledged before, and what any thread has found before.
-fn read_rising(db: &Db, acknowledged: &AtomicU64, found: &AtomicU64, last: u64) {
-    let mut seen = 0;
-    while seen < last {
-        let least = acknowledged.load(Ordering::SeqCst);
-        let least = least.max(found.load(Ordering::SeqCst));
-        seen = number(db.get("k").unwrap());
-        assert!(least <= seen && seen <= last, "{seen} behind {least}");
-        found.fetch_max(seen, Ordering::SeqCst);
-    }
-}
-
-#[test]
-fn lookups_have_what_was_acknowledged_and_never_go_back() {
-    let mut options = counters();
-    options.store.write_buffer_size = 2000;
-    let db = Db::in_memory(&options).unwrap();
-    let [acknowledged, found] = [0, 0].map(AtomicU64::new);
-    let last = 2 * writes();
-    thread::scope(|scope| {
-        for _ in 0..3 * THREADS {
-            scope.spawn(|| read_rising(&db, &acknowledged, &found, last));
-        }
-        for _ in 0..2 {
-            scope.spawn(|| {
-                for _ in 0..writes() {
-                    db.merge("k", one()).unwrap();
-                    acknowledged.fetch_add(1, Ordering::SeqCst);
-                }
-            });
-        }
-    });
-}
-
-#[test]
 fn a_snapshot_is_read_by_clones() {
     let db = Db::in_memory(&counters()).unwrap();
     db.merge("k", one()).unwrap();
