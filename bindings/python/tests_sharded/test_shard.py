@@ -698,6 +698,8 @@ class Cuts(Folder):
         del shard
         self.assertEqual(self.rows(self.opened()), self.wanted)
 
+    # How much data counts depends on compactions, and so on how fast they come.
+    @mock.patch("ucstore._shard_part.RATIO", 0)
     def test_a_base_has_the_rows_of_the_oldest_snapshot(self):
         shard = self.opened()
         self.put(shard, 100)
@@ -713,7 +715,6 @@ class Cuts(Folder):
             self.assertEqual(found, (old, newer, self.wanted))
             del shard
             shard = self.opened([then, at])
-        # Some compactions come meanwhile: what they let go counts as data before.
         self.put(shard, 200)
         self.assertEqual(self.base(), at)
         shard.release(at)
