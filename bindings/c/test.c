@@ -764,7 +764,7 @@ static void check_store(struct ucstore *opened, uint64_t last) {
 static void replay(size_t length, const struct ucstore_log_place *end, const struct ucstore_ended *walked) {
     struct ucstore again = {0};
     struct ucstore_options options;
-    struct ucstore_log_place place = {0}, before;
+    struct ucstore_log_place place = {0, 0, 0}, before;
     struct ucstore_ended ended = {7, 7, 7};
     int32_t status = UCSTORE_OK;
     CHECK(ucstore_options_init(&options) == UCSTORE_OK);
