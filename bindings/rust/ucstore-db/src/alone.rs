@@ -3,13 +3,14 @@
 use crate::error::Error;
 use crate::gap;
 use crate::group::Groups;
+use crate::header::numbers_of;
 use crate::lock;
 use crate::shared::Shared;
 
 impl Shared {
     /// Writes a batch with its own sequence, or behind the last one if that is 0. If there is a gap before it, its record tells that.
     pub(crate) fn write_alone(&self, batch: &[u8], is_synced: bool) -> Result<(), Error> {
-        let (sequence, count) = gap::numbers_of(batch)?;
+        let (sequence, count) = numbers_of(batch).ok_or(ucstore::Error::NotABatch)?;
         if count == 0 {
             return self.check();
         }

@@ -1,12 +1,10 @@
 //! [`Groups`]: writers that come together, and share one record of the log and one sync.
 
 use crate::error::Error;
+use crate::header::{count_of, HEADER_SIZE};
 use crate::lock;
 use crate::patience::Patience;
 use std::sync::{Arc, Mutex, OnceLock};
-
-/// The bytes of a batch's sequence and count.
-const HEADER_SIZE: usize = 12;
 
 /// How many bytes a group has at most, if it isn't a single batch.
 const MOST_BYTES: usize = 1 << 20;
@@ -111,12 +109,6 @@ impl Outcome {
     fn tell(&self, told: Result<(), Error>) {
         self.told.set(told).expect("it is told once");
     }
-}
-
-/// How many operations a batch has.
-fn count_of(batch: &[u8]) -> u32 {
-    let count = batch[8..].first_chunk().expect("a batch has a header");
-    u32::from_le_bytes(*count)
 }
 
 #[cfg(test)]

@@ -3,12 +3,8 @@
 use crate::error::Error;
 use crate::gap;
 use crate::moments::Moments;
+use crate::record::has_batch;
 use ucstore::{log_writes, Ended, LogWrites, Replayed, Store};
-
-/// The bytes of a record's header in a log, and the types of records that begin a batch.
-const HEADER_SIZE: usize = 7;
-const FULL: u8 = 1;
-const FIRST: u8 = 2;
 
 /// Where a log begins.
 #[derive(Clone, Copy, PartialEq, Eq)]
@@ -111,17 +107,4 @@ fn pass_over(writes: &mut LogWrites, log: &[u8], last: u64) -> Result<bool, Erro
         }
     }
     Ok(false)
-}
-
-/// Whether a whole batch with a sequence behind the last one is anywhere in what a crash is said to have left. A crash
-/// leaves none behind a batch that isn't whole: then the length of that one was damaged.
-fn has_batch(rest: &[u8], last: u64) -> bool {
-    let begins = |place: &usize| matches!(rest[place + HEADER_SIZE - 1], FULL | FIRST);
-    let is_batch = |place: usize| {
-        let write = log_writes(&rest[place..]).next();
-        matches!(write, Some(Ok(write)) if write.sequence > last)
-    };
-    (0..rest.len().saturating_sub(HEADER_SIZE))
-        .filter(begins)
-        .any(is_batch)
 }

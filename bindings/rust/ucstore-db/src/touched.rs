@@ -1,5 +1,6 @@
 //! [`Touched`]: which group wrote a key last.
 
+use crate::header::HEADER_SIZE;
 use crate::padded::Padded;
 use std::sync::atomic::{AtomicU64, Ordering};
 
@@ -8,9 +9,6 @@ const CELLS: usize = 1 << 16;
 
 /// How many operations of a group are noted one by one.
 const MOST_NOTED: usize = 64;
-
-/// The bytes of a batch's sequence and count.
-const HEADER_SIZE: usize = 12;
 
 /// The tags of operations in a batch.
 const DELETION: u8 = 0;
