@@ -177,14 +177,14 @@ try_python() {
     check_types
 }
 
-# What is older than the database isn't typed so far.
+# Shards aren't checked: Dask has no types.
 check_types() {
     if ! command -v mypy > /dev/null; then
         echo "test_db: there is no mypy: the types of Python aren't checked" >&2
         return
     fi
     MYPYPATH=$work/site mypy --strict --follow-imports=silent --cache-dir "$work/mypy" \
-        "$work"/site/ucstore/_db*.py "$here/python/tests/typed_db.py" > "$work/said" || fail "$(cat "$work/said")"
+        "$work"/site/ucstore/{__init__,_db*}.py "$here/python/tests/typed_db.py" > "$work/said" || fail "$(cat "$work/said")"
 }
 
 try_ended() {

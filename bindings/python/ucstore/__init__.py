@@ -26,7 +26,9 @@ import os
 import struct
 import threading
 from pathlib import Path
-from typing import Iterable, Iterator, List, NamedTuple, Optional, Tuple, TypeVar, Union
+from typing import (
+    Any, Callable, Dict, Iterable, Iterator, List, NamedTuple, Optional, Sequence, Tuple, Type, TypeVar, Union,
+)
 
 __all__ = [
     "BadOption", "BatchFault", "BatchFull", "Checkpoint", "Closed", "Damaged", "Db", "DbBatch", "DbError",
@@ -312,7 +314,7 @@ class Ended(NamedTuple):
     def __str__(self) -> str:
         if self.end == End.CLEAN:
             return "clean"
-        if self.end == End.TORN:
+        if self.fault is None:
             return f"torn at {self.place}"
         where = "in batch" if self.end == End.BATCH_FAULT else "at"
         return f"a fault {where} {self.place}: {self.fault.name}"
@@ -344,8 +346,9 @@ class _Ended(ctypes.Structure):
     _fields_ = [("kind", ctypes.c_uint32), ("fault", ctypes.c_uint32), ("place", ctypes.c_uint64)]
 
     def told(self) -> Ended:
-        faults = {End.LOG_FAULT: LogFault, End.BATCH_FAULT: BatchFault}.get(self.kind)
-        return Ended(End(self.kind), faults(self.fault) if faults else None, self.place)
+        faults: Dict[int, Union[Type[LogFault], Type[BatchFault]]] = {End.LOG_FAULT: LogFault, End.BATCH_FAULT: BatchFault}
+        fault = faults[self.kind](self.fault) if self.kind in faults else None
+        return Ended(End(self.kind), fault, self.place)
 
 
 class _Report(ctypes.Structure):
@@ -373,7 +376,7 @@ _TEXT = (ctypes.c_char_p, _SIZE)
 _PLACE = (_POINTER, _SIZE)
 
 # Those of the functions that read a store, or a view.
-_READS = {
+_READS: Dict[str, Sequence[Any]] = {
     "last": (_POINTER, _POINTER),
     "get": (_POINTER, *_TEXT, *_PLACE, _POINTER),
     "source": (_POINTER, *_TEXT, _POINTER),
@@ -384,7 +387,7 @@ _READS = {
     "report": (_POINTER, _POINTER),
 }
 
-_SIGNATURES = {
+_SIGNATURES: Dict[str, Sequence[Any]] = {
     "create": (_POINTER, _U32, _POINTER),
     "open": (_POINTER, _U32, _POINTER, *_TEXT, _POINTER),
     "close": (_POINTER,),
@@ -428,6 +431,9 @@ _SIGNATURES = {
 }
 
 
+_Function = Callable[..., int]
+
+
 class _Library:
     """The functions of `ucstore.h`, without their prefix. It says what each does and what its caller owes."""
 
@@ -439,6 +445,9 @@ class _Library:
             function = getattr(library, f"ucstore_{name}")
             function.argtypes, function.restype = types, ctypes.c_int32
             setattr(self, name, function)
+
+    def __getattr__(self, name: str) -> "_Function":
+        raise AttributeError(name)
 
 
 _library = _Library()
@@ -513,6 +522,12 @@ class _Reader:
     Like a dict, they raise `KeyError` only for `reader[key]`.
     """
 
+    def _get(self, key: bytes) -> Optional[bytes]:
+        raise NotImplementedError
+
+    def _scan(self, low: bytes, high: Optional[bytes]) -> Iterator[_Row]:
+        raise NotImplementedError
+
     def get(self, key: bytes, default: Optional[bytes] = None) -> Optional[bytes]:
         """The value under a key, or `default`. Raises `OutOfMemory`."""
         found = self._get(key)
@@ -561,7 +576,7 @@ class _Held:
         self._handle = ctypes.byref(self._at)
         self._lock = threading.RLock()
 
-    def _call(self, function, *arguments) -> None:
+    def _call(self, function: _Function, *arguments: object) -> None:
         with self._lock:
             _check(function(self._handle, *arguments))
 
@@ -572,7 +587,7 @@ class _Held:
     def __enter__(self: _Self) -> _Self:
         return self
 
-    def __exit__(self, *_: object) -> None:
+    def __exit__(self, kind: Optional[Type[BaseException]], *_: object) -> None:
         self.close()
 
     def __del__(self) -> None:
@@ -656,7 +671,7 @@ class WriteBatch(_Held):
         with self._lock:
             _library.batch_close(self._handle)
 
-    def __exit__(self, kind: object, *_: object) -> None:
+    def __exit__(self, kind: Optional[Type[BaseException]], *_: object) -> None:
         """Writes the batch to its store, if it has one. Raises what `Store.write` does."""
         try:
             if kind is None and self._store is not None and len(self) > 0:
@@ -690,8 +705,9 @@ class _HeldReader(_Held, _Reader):
 
     _prefix = ""
 
-    def _function(self, name: str):
-        return getattr(_library, self._prefix + name)
+    def _function(self, name: str) -> _Function:
+        function: _Function = getattr(_library, self._prefix + name)
+        return function
 
     @property
     def last(self) -> int:
@@ -736,7 +752,7 @@ class _HeldReader(_Held, _Reader):
     def _get(self, key: bytes) -> Optional[bytes]:
         return self._value(self._function("get"), *_texts(key))
 
-    def _value(self, function, *arguments) -> Optional[bytes]:
+    def _value(self, function: _Function, *arguments: object) -> Optional[bytes]:
         """The value that a lookup copies into a room, if there is one."""
         size, length = _SIZE(), _USUAL_VALUE
         with self._lock:
@@ -965,7 +981,7 @@ class Store(_HeldReader):
         """Prepares a batch that `batch_bytes` or RocksDB wrote, as `prepare` does. Raises what `write_bytes` would."""
         return self._record(len(batch), _library.prepare_bytes, *_texts(batch), length)
 
-    def _record(self, batch_size: int, function, *arguments) -> bytes:
+    def _record(self, batch_size: int, function: _Function, *arguments: object) -> bytes:
         """What a batch adds to a log."""
         # Room for a header in each block, and for the end of the block before.
         size, room_length = _SIZE(), batch_size + _HEADER * (batch_size // _MOST_FRAGMENT + 3)
@@ -1007,7 +1023,7 @@ class Snapshot(_Reader):
     def __enter__(self) -> "Snapshot":
         return self
 
-    def __exit__(self, *_) -> None:
+    def __exit__(self, *_: object) -> None:
         self.release()
 
     def _get(self, key: bytes) -> Optional[bytes]:
@@ -1034,7 +1050,7 @@ class View(_HeldReader):
 
     _prefix = "view_"
 
-    def __init__(self, function, source: _Held) -> None:
+    def __init__(self, function: _Function, source: _Held) -> None:
         self._begin()
         source._call(function, self._handle)
 
@@ -1189,7 +1205,7 @@ class LogWrites:
     @property
     def offset(self) -> int:
         """Where the log goes on behind the batches that were read."""
-        return self._place.offset
+        return int(self._place.offset)
 
     def end(self) -> Tuple[int, Ended]:
         """Passes over what is left, and returns where the log goes on, and how it ends.
