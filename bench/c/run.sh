@@ -8,8 +8,8 @@
 # It measures crates/uc_c/out/libuc_c.a (or OURS), which `rt lib` in crates/uc_c builds; `none` leaves it out. All programs are
 # workload.c and one of ucstore.c, rocksdb.c and leveldb.c, built by `cc -std=c99 -O2` in a temporary folder. RocksDB is that
 # without assertions (../rocksdb/build.sh makes it) and Debian's (librocksdb-dev), whose assertions are on; LevelDB is Debian's
-# (libleveldb-dev). The same work called from Rattle is bench/crates/bench_engine/out/bench_engine (or RATTLE), which
-# bench/prove builds. What isn't there is left out.
+# (libleveldb-dev). The same work called from Rattle is crates/bench_engine/out/bench_engine (or RATTLE), which `rt run` in
+# crates/bench_engine builds. What isn't there is left out.
 #
 # WRITES writes (1300000) of 300,000 keys of 16 bytes are written in batches of 1,000, and by ours and RocksDB one by one too. In
 # `puts` all set numbers of 8 bytes; in `counters` half of them merge some, which LevelDB can't do. Then what is gathered is flushed,
@@ -33,7 +33,7 @@ set -u -o pipefail
 here=$(cd "$(dirname "${BASH_SOURCE[0]}")" && pwd) || exit 1
 top=$here/../..
 ours=${OURS:-$top/crates/uc_c/out/libuc_c.a}
-rattle=${RATTLE:-$top/bench/crates/bench_engine/out/bench_engine}
+rattle=${RATTLE:-$top/crates/bench_engine/out/bench_engine}
 turns=${TURNS:-3}
 writes=${WRITES:-1300000}
 gets=${GETS:-1000000}

@@ -1,13 +1,13 @@
 #!/bin/sh
 # Takes and gives per second by 1, 2 and 4 threads, beside the same loop in plain Rust.
-# Needs rustc, and bench/crates/bench_parts/out/bench_parts, which bench/prove builds.
+# Needs rustc, and crates/bench_parts/out/bench_parts, which `rt run` in crates/bench_parts builds.
 # A round is one take of two of 256 slots and, where it won, their give. Disjoint: two slots of its own for each
 # thread, side by side, so that those of several threads share a cache line. Spaced: these 16 slots apart, so that
 # no line has those of two threads. Contended: the same two for all.
 # Each line has the medians of 9 runs, which take turns. RESULTS names a file for the figures as JSON.
 set -eu
 here=$(cd "$(dirname "$0")" && pwd)
-ours=${OURS:-$here/../../bench/crates/bench_parts/out/bench_parts}
+ours=${OURS:-$here/../../crates/bench_parts/out/bench_parts}
 rounds=${ROUNDS:-10000000}
 work=$(mktemp -d)
 trap 'rm -r "$work"' EXIT

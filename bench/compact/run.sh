@@ -1,7 +1,7 @@
 #!/bin/sh
 # Compactions of several runs into one, beside plain Rust with the same layout in one thread. Ours merges four parts of
 # the key space side by side from 16,384 points on, and folds more than a thousand points of a key in two threads.
-# Needs rustc, GNU time, and bench/crates/bench_parts/out/bench_parts, which bench/prove builds.
+# Needs rustc, GNU time, and crates/bench_parts/out/bench_parts, which `rt run` in crates/bench_parts builds.
 # counter: keys of 16 bytes and values of 8, half puts and half merges, eight points to a key over all runs. append: one
 # key, operands of 10 bytes. ranges: five keys with a point each, and a range deletion over three of them.
 # Each line has the medians of TURNS runs (9), which take turns, and both programs must come to the same run. A growth is
@@ -9,7 +9,7 @@
 # RESULTS names a file for the figures as JSON.
 set -eu
 here=$(cd "$(dirname "$0")" && pwd)
-ours=${OURS:-$here/../../bench/crates/bench_parts/out/bench_parts}
+ours=${OURS:-$here/../../crates/bench_parts/out/bench_parts}
 turns=${TURNS:-9}
 work=$(mktemp -d)
 trap 'rm -r "$work"' EXIT

@@ -1,12 +1,12 @@
 #!/bin/sh
 # CRC-32C by `uc_logrec` beside the same algorithm, slicing by 8, in plain Rust.
-# Needs rustc, and bench/crates/bench_parts/out/bench_parts, which bench/prove builds.
+# Needs rustc, and crates/bench_parts/out/bench_parts, which `rt run` in crates/bench_parts builds.
 # A round is the sum of the whole buffer. Each line has the medians of 9 runs, which take turns, and both
 # programs must come to the same checksum. The load is the machine's, over the last minute, 5 and 15.
 # RESULTS names a file for the figures as JSON.
 set -eu
 here=$(cd "$(dirname "$0")" && pwd)
-ours=${OURS:-$here/../../bench/crates/bench_parts/out/bench_parts}
+ours=${OURS:-$here/../../crates/bench_parts/out/bench_parts}
 work=$(mktemp -d)
 trap 'rm -r "$work"' EXIT
 folder=$work

@@ -1,12 +1,12 @@
 #!/bin/sh
 # Folds of merge operands into one key, by `Effect::then`, beside plain Rust that extends one `Vec<u8>`.
-# Needs rustc, and bench/crates/bench_parts/out/bench_parts, which bench/prove builds.
+# Needs rustc, and crates/bench_parts/out/bench_parts, which `rt run` in crates/bench_parts builds.
 # Append: operands of 10 bytes, joined with a comma. Counter: numbers of 8 bytes, added. Each line has the medians
 # of 25 runs, which take turns, and both programs must come to the same operand. The second line of a kind has twice
 # the operands; its last column is our time over that of the first. RESULTS names a file for the figures as JSON.
 set -eu
 here=$(cd "$(dirname "$0")" && pwd)
-ours=${OURS:-$here/../../bench/crates/bench_parts/out/bench_parts}
+ours=${OURS:-$here/../../crates/bench_parts/out/bench_parts}
 work=$(mktemp -d)
 trap 'rm -r "$work"' EXIT
 folder=$work

@@ -3,13 +3,14 @@
 #
 #     bench/read_writes/run.sh
 #
-# It needs rustc, and bench/crates/bench_parts/out/bench_parts (or OURS), which bench/prove builds. It makes logs of 60 MiB by ../make_log.rs, checks that both programs come to the same writes, and prints the medians of
+# It needs rustc, and crates/bench_parts/out/bench_parts (or OURS), which `rt run` in crates/bench_parts builds. It
+# makes logs of 60 MiB by ../make_log.rs, checks that both programs come to the same writes, and prints the medians of
 # nine runs, which take turns, in seconds of the reading alone, and the most memory that a run held. RESULTS
 # names a file for the figures as JSON.
 set -u -o pipefail
 
 here=$(cd "$(dirname "${BASH_SOURCE[0]}")" && pwd) || exit 1
-ours=$(realpath -e "${OURS:-$here/../../bench/crates/bench_parts/out/bench_parts}") || exit 2
+ours=$(realpath -e "${OURS:-$here/../../crates/bench_parts/out/bench_parts}") || exit 2
 folder=$(mktemp -d) || exit 1
 trap 'rm -rf "$folder"' EXIT
 

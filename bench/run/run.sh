@@ -1,13 +1,13 @@
 #!/bin/sh
 # Writes loaded into memtables of 4 MiB that are flushed to runs, and 20,000 lookups over all runs, beside plain
 # Rust with the same layout.
-# Needs rustc, GNU time, and bench/crates/bench_parts/out/bench_parts, which bench/prove builds.
+# Needs rustc, GNU time, and crates/bench_parts/out/bench_parts, which `rt run` in crates/bench_parts builds.
 # The writes have keys of 16 bytes and values of 8, half of them merges, eight to a key. Each line has the medians of
 # TURNS runs (9), which take turns, and both programs must come to the same runs and answers. The second line of a
 # step has twice the writes; its last columns are the times over those of the first. RESULTS names a file for the figures as JSON.
 set -eu
 here=$(cd "$(dirname "$0")" && pwd)
-ours=${OURS:-$here/../../bench/crates/bench_parts/out/bench_parts}
+ours=${OURS:-$here/../../crates/bench_parts/out/bench_parts}
 turns=${TURNS:-9}
 work=$(mktemp -d)
 trap 'rm -r "$work"' EXIT

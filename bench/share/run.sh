@@ -1,11 +1,11 @@
 #!/bin/sh
 # Pins and installs of a store that threads share, beside the same in plain Rust over RwLock<Arc<_>>.
-# Needs rustc, GNU time, and bench/crates/bench_share/out/bench_share, which bench/prove builds.
+# Needs rustc, GNU time, and crates/bench_share/out/bench_share, which `rt run` in crates/bench_share builds.
 # A store has 256 runs, and an installer makes them one by 255 installs of the two newest. Each line has the medians of 9 runs,
 # which take turns. RESULTS names a file for the figures as JSON.
 set -eu
 here=$(cd "$(dirname "$0")" && pwd)
-ours=${OURS:-$here/../../bench/crates/bench_share/out/bench_share}
+ours=${OURS:-$here/../../crates/bench_share/out/bench_share}
 rounds=${ROUNDS:-5000000}
 stores=${STORES:-40}
 work=$(mktemp -d)

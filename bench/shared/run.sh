@@ -5,7 +5,7 @@
 #
 #     bench/shared/run.sh
 #
-# It measures bench/crates/bench_shared/out/bench_shared (or OURS), which bench/prove builds; OURS=none leaves it out.
+# It measures crates/bench_shared/out/bench_shared (or OURS), which `rt run` in crates/bench_shared builds; OURS=none leaves it out.
 # ../answers/baseline.rs and ../make_log.rs are built by `rustc -O` in a temporary folder, and rocksdb.cc by `g++ -O2` against RocksDB
 # without assertions (../rocksdb/build.sh makes it) and against Debian's (librocksdb-dev), whose assertions are on; what isn't there is
 # left out. RocksDB has the options of ../rocksdb_store.h, which are printed, but as many compactions at once as ours has compactors, and
@@ -19,7 +19,7 @@
 set -u -o pipefail
 
 here=$(cd "$(dirname "${BASH_SOURCE[0]}")" && pwd) || exit 1
-ours=${OURS:-$here/../../bench/crates/bench_shared/out/bench_shared}
+ours=${OURS:-$here/../../crates/bench_shared/out/bench_shared}
 turns=${TURNS:-3}
 folder=$(mktemp -d) || exit 1
 trap 'rm -rf "$folder"' EXIT
