@@ -33,7 +33,7 @@ end_server() {
 trap 'end_server; rm -rf "$folder"' EXIT
 
 # The columns of a line of workload.c.
-columns=(work threads operations all median 99 99.9 longest memory)
+columns=(work threads operations all median 99 99.9 longest memory written)
 
 compile() { # NAME OPTION..
     gcc -std=c99 -D_GNU_SOURCE -O2 -Wall -Wextra -c "$stores/workload.c" -o "$folder/workload.o" || fail "workload.c doesn't build"
@@ -241,12 +241,15 @@ keep_work() { # CASE WORK THREADS
             keep "$2" "$1, $3 threads, $share" "$(store_name "$program")" ns "$value"
             printf ' %10s' "$value"
         done
-        value=$(figure "$1" "$program" "$2" "$3" memory)
-        keep_mib "$2" "$1, $3 threads, memory" "$(store_name "$program")" "$value"
-        printf ' %8s\n' $((value / 1024))
+        for share in memory written; do
+            value=$(figure "$1" "$program" "$2" "$3" "$share")
+            keep_mib "$2" "$1, $3 threads, $share" "$(store_name "$program")" "$value"
+            printf ' %8s' $((value / 1024))
+        done
+        printf '\n'
     done
 }
 
 print_head() {
-    printf '%-24s %-18s %2s %-8s %10s %10s %10s %10s %10s %8s\n' case work '' '' 'k/s' 'median ns' 99 99.9 longest MiB
+    printf '%-24s %-18s %2s %-8s %10s %10s %10s %10s %10s %8s %8s\n' case work '' '' 'k/s' 'median ns' 99 99.9 longest MiB 'MiB written'
 }

@@ -14,7 +14,8 @@
  *
  * A line has the work, its threads, its operations, the nanoseconds of all, and of one operation the nanoseconds of the
  * median, the 99th and the 99.9th percent and the longest; then the KiB of memory that the process has, and with it the server
- * whose id STORE_SERVER names, if it does.
+ * whose id STORE_SERVER names, if it does; and the KiB that the process wrote to files since the line before: the pages that it
+ * made dirty, as /proc/self/io counts them, also through a map.
  *
  * Two words aren't works, and have no line: `settle` waits until nothing is left to be compacted, and `check` checks that a database
  * without rows gives back what is written. A database whose keys have no order leaves out the works that scan.
@@ -304,12 +305,29 @@ static uint64_t memory(void) {
     return memory_of("self") + (server == NULL ? 0 : memory_of(server));
 }
 
+/* The KiB that this process wrote to files. */
+static uint64_t written(void) {
+    char name[32];
+    uint64_t bytes = 0, value;
+    FILE *file = fopen("/proc/self/io", "r");
+    expect(file != NULL, "there is no /proc/self/io");
+    while (fscanf(file, "%31s %" SCNu64, name, &value) == 2) {
+        if (strcmp(name, "write_bytes:") == 0) {
+            bytes = value;
+        }
+    }
+    fclose(file);
+    return bytes / 1024;
+}
+
 static struct worker workers[MOST_THREADS + 1];
 
 /* Runs a work by so many threads, and prints its line. */
 static void measure(const struct work *work, size_t threads, uint64_t operations) {
     static struct times times;
+    static uint64_t written_before;
     struct worker *beside = &workers[threads];
+    uint64_t written_now;
     int64_t begin, spent;
     memset(&times, 0, sizeof times);
     memset(workers, 0, sizeof workers);
@@ -338,8 +356,11 @@ static void measure(const struct work *work, size_t threads, uint64_t operations
         atomic_store(&is_over, true);
         join(beside);
     }
-    printf("%s %zu %" PRIu64 " %" PRId64 " %" PRId64 " %" PRId64 " %" PRId64 " %" PRId64 " %" PRIu64 "\n", work->name, threads,
-           times.count, spent, time_at(&times, 500), time_at(&times, 990), time_at(&times, 999), times.longest, memory());
+    written_now = written();
+    printf("%s %zu %" PRIu64 " %" PRId64 " %" PRId64 " %" PRId64 " %" PRId64 " %" PRId64 " %" PRIu64 " %" PRIu64 "\n", work->name,
+           threads, times.count, spent, time_at(&times, 500), time_at(&times, 990), time_at(&times, 999), times.longest, memory(),
+           written_now - written_before);
+    written_before = written_now;
     fflush(stdout);
 }
 
