@@ -71,9 +71,9 @@ fn with_point(checksum: u64, point: &PointRef<'_>) -> u64 {
 
 /// A checksum and then a fragment.
 fn with_fragment(alloc: Global, checksum: u64, fragment: &Fragment) -> Result<u64, AllocError> {
-    let mut sum = with_bytes(checksum, fragment.begin.as_slice());
-    sum = with_bytes(sum, fragment.end.as_slice());
-    for seq in &fragment.seqs.to_vec(alloc)? {
+    let mut sum = with_bytes(checksum, fragment.begin());
+    sum = with_bytes(sum, fragment.end());
+    for seq in &fragment.seqs().to_vec(alloc)? {
         sum = with_number(sum, *seq);
     }
     Ok(sum)

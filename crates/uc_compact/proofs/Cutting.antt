@@ -1,5 +1,5 @@
 -- The pieces between the ends of fragments are those between the ends of their range deletions.
-use Rattle.std.proofs.Common.{◌≡◌, ◌≢◌, ℕ, ◌+◌, ◌<◌, Bool, true, false, cond, ltb, List, [], ◌∷◌, ◌++◌, length, get_or, map, fold, take, filter, ◌⊎◌, inl, inr, refl, sym, ap, ◌∙◌}
+use Rattle.std.proofs.Common.{◌≡◌, ◌≢◌, ℕ, ◌<◌, ◌≤◌, Bool, true, false, cond, ltb, List, [], ◌∷◌, ◌++◌, length, map, fold, filter, ◌⊎◌, inl, inr, refl, sym, ap, ◌∙◌, subst, arith}
 use Rattle.std.specs.Prelude.{◌&&◌}
 use Rattle.std.specs.List.{AllByRecursion, flat_map}
 use Rattle.std.specs.List.Sorted.{IsStrictlySortedBy}
@@ -7,17 +7,13 @@ use Rattle.std.specs.declared.cmp.Ordering.TheVariants.{Less}
 use Rattle.std.specs.Ordering.{is_lt, is_le}
 use Rattle.std.specs.BTreeSet.{insert_key}
 use Rattle.std.proofs.lemmas.Bool.{false≢true}
-use Rattle.std.proofs.lemmas.List.{take_more}
-use Rattle.std.proofs.lemmas.List.Sums.{fold-append}
-use Rattle.std.proofs.lemmas.Grind.{flat_map-append}
 use Rattle.std.proofs.lemmas.Cmp.{nat_list_cmp_total}
 use Rattle.std.proofs.lemmas.Map.Lookups.{exact_bytes}
 use Rattle.uc_bytes.specs.Bytes.{bytes_cmp}
-use Rattle.uc_run_entry.specs.declared.fragment.Fragment.{Fragment}
+use Rattle.uc_run_entry.specs.Fragment.{Fragment}
 use Rattle.uc_run_entry.specs.Order.{IsFalling, AreInOrder}
-use Rattle.uc_run_entry.specs.Run.{Contents, IsRun, IsWhole, covers}
+use Rattle.uc_run_entry.specs.Run.{Contents, IsRun, IsWithin, IsWhole, covers}
 use Rattle.uc_run_entry.specs.Cutting.{RangeOf, Piece, has_keys, spans, cut_points, pieces, falling, fragment_over, fragments_of}
-use Rattle.uc_run_entry.proofs.Cuts.{insert, seen, insert_seen, seen_inserted}
 use Rattle.uc_run_entry.proofs.Over.{lt_of, lt_le}
 use Rattle.uc_run_entry.proofs.SeqsOver.{same_bool}
 use Rattle.uc_run_entry.proofs.Sets.{sorted_set, all_back}
@@ -26,12 +22,11 @@ use Rattle.uc_compact.specs.Inputs.{AreRuns, ranges_over, ranges_of}
 use Rattle.uc_compact.specs.Pieces.{lists_over, fragments_in, piece_over, pieces_over}
 use Rattle.uc_compact.proofs.Keys.{le_itself, no_less_itself}
 use Rattle.uc_compact.proofs.NestedLists.{all-append}
-use denote.Ref.{Bor}
 
 abbrev Cuts : Type 0
 Cuts = List (List ℕ)
 
-abbrev pub ends_of : Fragment → Cuts
+abbrev ends_of : Fragment → Cuts
 ends_of f = f.begin ∷ f.end ∷ []
 
 abbrev ends_in : List RangeOf → Cuts
@@ -43,11 +38,12 @@ range f seq = record { begin = f.begin; end = f.end; seq = seq }
 abbrev keys_of : Fragment → Bool
 keys_of f = is_lt (bytes_cmp f.begin f.end)
 
--- a fragment has keys and sequences
+-- a fragment has keys and sequences, from 1 on
 pub record IsFilled (f : Fragment) : Type 0 where
   pub keys : keys_of f ≡ true
   pub some : f.seqs ≢ []
   pub falls : IsFalling f.seqs
+  pub from_one : AllByRecursion (λ n. 0 < n) f.seqs
 
 -- ---- the cut points
 
@@ -84,7 +80,7 @@ module _ (P : List ℕ → Type 0) where
       let here : P f.begin × P f.end = from_range f f.seqs (flat_map ranges_over fs) filled.0.keys filled.0.some h in
       (here.0, (here.1, from_ranges fs filled.1 (behind_ranges f f.seqs (flat_map ranges_over fs) filled.0.keys h)))
 
-abbrev pub inserted : Cuts → Cuts
+abbrev inserted : Cuts → Cuts
 inserted cuts = fold (insert_key bytes_cmp) [] cuts
 
 same_cuts : (fs : List Fragment) → AllByRecursion IsFilled fs → inserted (flat_map ends_of fs) ≡ cut_points (flat_map ranges_over fs)
@@ -194,39 +190,33 @@ module _ (runs : List Contents) where
       ∙ ap (λ (gs : List Fragment). piece_over runs p ∷ gs) (same_pieces ps h.1)
 
   -- the pieces over the cut points are the fragments of all range deletions
-  pub pieces_are : AllByRecursion IsFilled (fragments_in runs) → pieces_over runs (inserted (flat_map ends_of (fragments_in runs))) ≡ fragments_of (ranges_of runs)
+  pieces_are : AllByRecursion IsFilled (fragments_in runs) → pieces_over runs (inserted (flat_map ends_of (fragments_in runs))) ≡ fragments_of (ranges_of runs)
   pieces_are filled =
       ap (λ (gs : List Fragment). filter (λ (f : Fragment). ltb 0 (length f.seqs)) gs) (sym (same_pieces (pieces cuts) (all_between cuts (sorted_set bytes_cmp nat_list_cmp_total (flat_map ends_of (fragments_in runs))))))
       ∙ ap (λ (cs : Cuts). filter (λ (f : Fragment). ltb 0 (length f.seqs)) (map (fragment_over (ranges_of runs)) (pieces cs))) (same_cuts (fragments_in runs) filled)
 
 -- ---- the fragments of runs
 
-filled_in : (low high : ℕ) (fs : List Fragment) → AreInOrder fs → AllByRecursion (IsWhole low high) fs → AllByRecursion IsFilled fs
-filled_in low high [] order whole = tt
-filled_in low high (f ∷ fs) order whole = (record { keys = order.0; some = whole.0.0; falls = whole.0.1 }, filled_in low high fs order.2 whole.1)
+within_from_one : (low high : ℕ) → 1 ≤ low → (ns : List ℕ) → AllByRecursion (IsWithin low high) ns → AllByRecursion (λ n. 0 < n) ns
+within_from_one low high one [] h = tt
+within_from_one low high one (n ∷ ns) h = (let le : low ≤ n = h.0.0 in omega (arith, one, le), within_from_one low high one ns h.1)
+
+filled_in : (low high : ℕ) → 1 ≤ low → (fs : List Fragment) → AreInOrder fs → AllByRecursion (IsWhole low high) fs → AllByRecursion IsFilled fs
+filled_in low high one [] order whole = tt
+filled_in low high one (f ∷ fs) order whole = (
+  record { keys = order.0; some = whole.0.0; falls = whole.0.1; from_one = within_from_one low high one f.seqs whole.0.2 },
+  filled_in low high one fs order.2 whole.1,
+)
 
 pub run_filled : (r : Contents) → IsRun r.low r.high r.points r.fragments → AllByRecursion IsFilled r.fragments
-run_filled r is = filled_in r.low r.high r.fragments is.fragments_sorted is.whole
+run_filled r is = filled_in r.low r.high is.from_one r.fragments is.fragments_sorted is.whole
 
-pub all_filled : (runs : List Contents) → AreRuns runs → AllByRecursion IsFilled (fragments_in runs)
+all_filled : (runs : List Contents) → AreRuns runs → AllByRecursion IsFilled (fragments_in runs)
 all_filled [] h = tt
 all_filled (r ∷ runs) h = all-append IsFilled r.fragments (fragments_in runs) (run_filled r h.0) (all_filled runs h.1)
 
--- ---- both ends of one fragment more
-
-ends_more : (start : Cuts) (fs : List Fragment) (i : ℕ) (f : Fragment) → i < length fs → f ≡ get_or fs i f →
-    insert (insert (fold insert start (flat_map ends_of (take i fs))) f.begin) f.end ≡ fold insert start (flat_map ends_of (take (i + 1) fs))
-ends_more start fs i f l is =
-    sym (fold-append insert start (flat_map ends_of (take i fs)) (f.begin ∷ f.end ∷ []))
-    ∙ ap (fold insert start) (sym (flat_map-append ends_of (take i fs) (f ∷ [])))
-    ∙ ap (λ (gs : List Fragment). fold insert start (flat_map ends_of gs)) (ap (λ (g : Fragment). take i fs ++ g ∷ []) is ∙ sym (take_more fs i f l))
-
-pub ends_inserted : (start : Cuts) (fs : List Fragment) (i : ℕ) (f : Fragment) → i < length fs → f ≡ get_or fs i f →
-    (old mid new : List (Bor (List ℕ))) (begin end : Bor (List ℕ)) → seen old ≡ fold insert start (flat_map ends_of (take i fs)) →
-    mid ≡ insert_seen old begin → new ≡ insert_seen mid end → begin.now ≡ f.begin → end.now ≡ f.end → seen new ≡ fold insert start (flat_map ends_of (take (i + 1) fs))
-ends_inserted start fs i f l is old mid new begin end so_far first second from to =
-    ap seen second
-    ∙ seen_inserted mid end
-    ∙ ap (λ (cuts : Cuts). insert cuts end.now) (ap seen first ∙ seen_inserted old begin)
-    ∙ (λ j. insert (insert (so_far j) (from j)) (to j))
-    ∙ ends_more start fs i f l is
+-- the pieces over the runs that have fragments
+pub pieces_of_fronts : (runs fronts : List Contents) → AreRuns runs → fragments_in fronts ≡ fragments_in runs → pieces_over fronts (fold (insert_key bytes_cmp) [] (flat_map (λ f. f.begin ∷ f.end ∷ []) (fragments_in fronts))) ≡ fragments_of (ranges_of runs)
+pieces_of_fronts runs fronts are same =
+    pieces_are fronts (subst (AllByRecursion IsFilled) (sym same) (all_filled runs are))
+    ∙ ap (λ (fs : List Fragment). fragments_of (flat_map ranges_over fs)) same

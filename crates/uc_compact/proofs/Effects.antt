@@ -14,7 +14,7 @@ use Rattle.uc_bytes.specs.declared.write.Write.{Write}
 use Rattle.uc_model.specs.Meaning.{touches_key, effect_in_turn, effect_within}
 use Rattle.uc_model.proofs.MeaningLaws.{turns_compose}
 use Rattle.uc_run_entry.specs.declared.entry.Entry.{Entry}
-use Rattle.uc_run_entry.specs.declared.fragment.Fragment.{Fragment}
+use Rattle.uc_run_entry.specs.Fragment.{Fragment}
 use Rattle.uc_run_entry.specs.Run.{Contents, IsRun, IsWithin, IsWhole, covers}
 use Rattle.uc_run_entry.specs.PlainList.{plain_list}
 use Rattle.uc_run_entry.specs.Lookup.{what_effect, points_effect, is_passing, above_newest}

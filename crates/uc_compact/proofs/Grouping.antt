@@ -4,7 +4,7 @@ use Rattle.std.specs.List.{AllByRecursion, flat_map}
 use Rattle.std.specs.List.Sorted.{IsStrictlySortedBy}
 use Rattle.uc_oper.specs.Operation.{Operation}
 use Rattle.uc_run_entry.specs.declared.entry.Entry.{Entry}
-use Rattle.uc_run_entry.specs.declared.fragment.Fragment.{Fragment}
+use Rattle.uc_run_entry.specs.Fragment.{Fragment}
 use Rattle.uc_run_entry.specs.Order.{entry_cmp}
 use Rattle.uc_run_entry.specs.Run.{Contents}
 use Rattle.uc_compact.specs.Groups.{Group, keys_of, group_of, groups_of}

@@ -18,7 +18,7 @@ use Rattle.uc_bytes.specs.Bytes.{bytes_cmp, same_bytes}
 use Rattle.uc_oper.specs.Operation.{Operation}
 use Rattle.uc_run_entry.specs.declared.entry.Entry.{Entry}
 use Rattle.uc_run_entry.specs.declared.entry.What.{What}
-use Rattle.uc_run_entry.specs.declared.fragment.Fragment.{Fragment}
+use Rattle.uc_run_entry.specs.Fragment.{Fragment}
 use Rattle.uc_run_entry.specs.Order.{AreInOrder}
 use Rattle.uc_run_entry.specs.Run.{Contents, covers}
 use Rattle.uc_run_entry.specs.Lookup.{is_passing}

@@ -7,7 +7,7 @@ use Rattle.uc_oper.specs.Composition.{applied}
 use Rattle.uc_oper.specs.declared.effect.Effect.TheVariants.{Set}
 use Rattle.uc_run_entry.specs.declared.entry.Entry.{Entry}
 use Rattle.uc_run_entry.specs.declared.entry.What.{What}
-use Rattle.uc_run_entry.specs.declared.fragment.Fragment.{Fragment}
+use Rattle.uc_run_entry.specs.Fragment.{Fragment}
 use Rattle.uc_run_entry.specs.Lookup.{is_passing}
 use Rattle.uc_run_entry.specs.Order.{IsFalling}
 use Rattle.uc_run_entry.specs.Cutting.{fragments_of}

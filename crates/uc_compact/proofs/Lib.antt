@@ -11,7 +11,9 @@ pub mod Parting
 pub mod Rising
 mod Cutting
 mod Gathered
-mod Fronts
+mod KeptPieces
+mod NextCuts
+mod FirstAbove
 pub mod NextKeys
 pub mod NestedLists
 pub mod Effects

@@ -14,7 +14,7 @@ use Rattle.uc_model.proofs.MeaningLaws.{effect_gives, later_keep}
 use Rattle.uc_model.proofs.Stripes.{stripe_below, stripe_changes}
 use Rattle.uc_run_entry.specs.declared.entry.Entry.{Entry}
 use Rattle.uc_run_entry.specs.declared.entry.What.{What}
-use Rattle.uc_run_entry.specs.declared.fragment.Fragment.{Fragment}
+use Rattle.uc_run_entry.specs.Fragment.{Fragment}
 use Rattle.uc_run_entry.specs.Run.{Contents, IsRun, IsWithin, covers}
 use Rattle.uc_run_entry.specs.PlainList.{point_write, fragment_writes, plain_list}
 use Rattle.uc_run_entry.specs.Lookup.{is_passing, above_newest}

@@ -3,7 +3,7 @@ use Rattle.std.specs.Prelude.{ℕ, List}
 use Rattle.std.specs.List.{flat_map}
 use Rattle.uc_oper.specs.Operation.{Operation}
 use Rattle.uc_run_entry.specs.declared.entry.Entry.{Entry}
-use Rattle.uc_run_entry.specs.declared.fragment.Fragment.{Fragment}
+use Rattle.uc_run_entry.specs.Fragment.{Fragment}
 use Rattle.uc_compact.specs.Groups.{keys_of}
 use Rattle.uc_compact.specs.Stripes.{Keeping}
 use Rattle.uc_compact.specs.Choice.{AreOfOneKey, points_for, points_named, seqs_over}

@@ -7,6 +7,7 @@ pub mod Heads
 pub mod Ahead
 pub mod Pieces
 pub mod Fronts
+pub mod NextCut
 pub mod Stripes
 pub mod Inputs
 pub mod Output

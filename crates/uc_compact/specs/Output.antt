@@ -12,7 +12,7 @@ use Rattle.uc_model.specs.Meaning.{effect_within}
 use Rattle.uc_run_entry.specs.declared.entry.Entry.{Entry}
 use Rattle.uc_run_entry.specs.declared.entry.What.{What}
 use Rattle.uc_run_entry.specs.declared.entry.What.TheVariants.{Put, Delete, Merge}
-use Rattle.uc_run_entry.specs.declared.fragment.Fragment.{Fragment}
+use Rattle.uc_run_entry.specs.Fragment.{Fragment}
 use Rattle.uc_run_entry.specs.Run.{Contents}
 use Rattle.uc_run_entry.specs.Cutting.{range_covers, fragments_of}
 use Rattle.uc_compact.specs.Stripes.{Stripe, is_in, stripes, Keeping, is_bottom}

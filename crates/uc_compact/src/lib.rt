@@ -12,6 +12,9 @@
 //! [`Groups`] merges the inputs' points. It has a cursor in each run, and returns the least key's points next, those of
 //! the newest run first. Read `specs/Groups.antt` first.
 //!
+//! The range deletions over a key are asked of each run by a `Front`, a place among its fragments that moves along with the
+//! keys. So are the cut points, one after the other: nothing is stored between two of them (`fronts.rt`, `fragments.rt`).
+//!
 //! An `Err(AllocError)` comes only if an allocation fails.
 //!
 //! Tests: `uc_tests_parts`, `uc_tests_runs`, `uc_tests_drawn_runs`.
@@ -28,6 +31,7 @@ mod folding;
 mod fragment_seqs;
 mod fragments;
 mod front;
+mod fronts;
 mod groups;
 mod inputs;
 mod keeping;
@@ -37,8 +41,6 @@ mod merger;
 mod output;
 mod over;
 mod parts;
-mod piece;
-mod pieces;
 mod points;
 mod stripe;
 

@@ -1,16 +1,13 @@
 //! The run that several runs become, merged by one thread or by several.
 ghost use Rattle.std.specs.Prelude.{◌≡◌, ◌<◌, Some, None, map, IfOk, if◌then◌else◌};
 ghost use Rattle.std.specs.Arc.{arc_value};
-ghost use Rattle.uc_run_entry.specs.Cutting.{fragments_of};
-ghost use Rattle.uc_compact.specs.Inputs.{Stand, low_of, ranges_of};
+ghost use Rattle.uc_compact.specs.Inputs.{Stand, low_of};
 ghost use Rattle.uc_compact.specs.Output.{output_of};
 
 use crate::cuts::cut_keys;
 use crate::fragments::fragments_kept;
 use crate::inputs::{are_runs, high_seq, low_seq};
 use crate::parts::{points_kept_alone, points_kept_by_parts};
-use crate::piece::Piece;
-use crate::pieces::pieces_of;
 use crate::{Keeping, compaction_gives_a_run, points_are_chosen_key_by_key};
 use std::alloc::{AllocError, Global};
 use std::marker::Sync;
@@ -34,16 +31,14 @@ fn bottom_of(inputs: &[Arc<Run>], oldest: bool) -> Option<u64>
     if oldest { Some(low_seq(inputs)) } else { None }
 }
 
-/// The points of the run that the runs become, in one thread. `pieces` are of the runs.
+/// The points of the run that the runs become, in one thread.
 fn points_alone<O: Operator>(
     alloc: Global,
     inputs: &[Arc<Run>],
     keeps: &[u64],
     oldest: bool,
-    pieces: &[Piece<'_>],
 ) -> Result<Points, AllocError>
-    requires stand { Stand (map arc_value inputs.now) keeps.now }
-    requires pieces { pieces.now ≡ fragments_of (ranges_of (map arc_value inputs.now)) }
+    requires { Stand (map arc_value inputs.now) keeps.now }
     ensures { IfOk result (λ points.
         points ≡
         (output_of O.meaning
@@ -52,22 +47,19 @@ fn points_alone<O: Operator>(
     are_runs(inputs);
     points_are_chosen_key_by_key::<O>();
     let keeping = Keeping::new(keeps, bottom_of(inputs, oldest));
-    points_kept_alone::<O>(alloc, inputs, pieces, &keeping)
+    points_kept_alone::<O>(alloc, inputs, &keeping)
 }
 
-/// The points of the run that the runs become, of at most so many parts of the key space side by side. `pieces` are of
-/// the runs.
+/// The points of the run that the runs become, of at most so many parts of the key space side by side.
 fn points_by_parts<O: Operator + Sync>(
     rt: &(impl Threads + Sync),
     alloc: Global,
     inputs: &[Arc<Run>],
     keeps: &[u64],
     oldest: bool,
-    pieces: &[Piece<'_>],
     parts: usize,
 ) -> Result<Points, AllocError>
     requires stand { Stand (map arc_value inputs.now) keeps.now }
-    requires pieces { pieces.now ≡ fragments_of (ranges_of (map arc_value inputs.now)) }
     requires parts { 0 < parts }
     ensures { IfOk result (λ points.
         points ≡
@@ -78,19 +70,17 @@ fn points_by_parts<O: Operator + Sync>(
     points_are_chosen_key_by_key::<O>();
     let keeping = Keeping::new(keeps, bottom_of(inputs, oldest));
     let cuts = cut_keys(alloc, inputs, parts)?;
-    points_kept_by_parts::<O>(rt, alloc, inputs, &cuts, pieces, &keeping)
+    points_kept_by_parts::<O>(rt, alloc, inputs, &cuts, &keeping)
 }
 
-/// The fragments of the run that the runs become. `pieces` are of the runs.
+/// The fragments of the run that the runs become.
 fn output_fragments<O: Operator>(
     alloc: Global,
     inputs: &[Arc<Run>],
     keeps: &[u64],
     oldest: bool,
-    pieces: &[Piece<'_>],
 ) -> Result<Fragments, AllocError>
-    requires stand { Stand (map arc_value inputs.now) keeps.now }
-    requires pieces { pieces.now ≡ fragments_of (ranges_of (map arc_value inputs.now)) }
+    requires { Stand (map arc_value inputs.now) keeps.now }
     ensures { IfOk result (λ fragments.
         fragments ≡
         (output_of O.meaning
@@ -98,8 +88,7 @@ fn output_fragments<O: Operator>(
 {
     are_runs(inputs);
     let keeping = Keeping::new(keeps, bottom_of(inputs, oldest));
-    let fragments = fragments_kept(alloc, pieces, &keeping)?;
-    Ok(Fragments::from(fragments))
+    fragments_kept(alloc, inputs, &keeping)
 }
 
 /// The run that the runs become, merged in one thread.
@@ -117,9 +106,8 @@ pub(crate) fn merge_alone<O: Operator>(
 {
     are_runs(inputs);
     compaction_gives_a_run::<O>();
-    let pieces = pieces_of(alloc, inputs)?;
-    let points = points_alone::<O>(alloc, inputs, keeps, oldest, &pieces)?;
-    let fragments = output_fragments::<O>(alloc, inputs, keeps, oldest, &pieces)?;
+    let points = points_alone::<O>(alloc, inputs, keeps, oldest)?;
+    let fragments = output_fragments::<O>(alloc, inputs, keeps, oldest)?;
     Run::from_points(alloc, low_seq(inputs), high_seq(inputs), points, fragments)
 }
 
@@ -142,9 +130,8 @@ pub(crate) fn merge_by_parts<O: Operator + Sync>(
 {
     are_runs(inputs);
     compaction_gives_a_run::<O>();
-    let pieces = pieces_of(alloc, inputs)?;
-    let points = points_by_parts::<O>(rt, alloc, inputs, keeps, oldest, &pieces, parts)?;
-    let fragments = output_fragments::<O>(alloc, inputs, keeps, oldest, &pieces)?;
+    let points = points_by_parts::<O>(rt, alloc, inputs, keeps, oldest, parts)?;
+    let fragments = output_fragments::<O>(alloc, inputs, keeps, oldest)?;
     let low = low_seq(inputs);
     let high = high_seq(inputs);
     if parts == 1 {

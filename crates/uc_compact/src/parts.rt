@@ -5,14 +5,14 @@ ghost use Rattle.std.specs.List.{AllByRecursion, flat_map};
 ghost use Rattle.std.specs.List.Sorted.{IsStrictlySortedBy};
 ghost use Rattle.std.specs.Ordering.{nat_cmp};
 ghost use Rattle.std.specs.Thread.{IsSync};
-ghost use Rattle.uc_run_entry.specs.Order.{AreInOrder, entry_cmp};
+ghost use Rattle.uc_run_entry.specs.Cutting.{fragments_of};
+ghost use Rattle.uc_run_entry.specs.Order.{entry_cmp};
 ghost use Rattle.uc_compact.specs.Cuts.{is_below, is_from};
 ghost use Rattle.uc_compact.specs.Kept as by_key;
 ghost use Rattle.uc_compact.specs.Kept.{AreOfOneKeyEach};
 ghost use Rattle.uc_compact.specs.Parts.{points_of_each};
-ghost use Rattle.uc_compact.specs.Inputs.{AreRuns, points_of};
+ghost use Rattle.uc_compact.specs.Inputs.{AreRuns, points_of, ranges_of};
 
-use crate::piece::Piece;
 use crate::points::points_kept;
 use crate::{Alone, By, Keeping, fold_in_threads};
 use std::alloc::{AllocError, Global};
@@ -77,22 +77,24 @@ fn points_kept_in_threads<O: Operator + Sync, R: Threads + Sync>(
     rt: &R,
     alloc: Global,
     runs: &[PointSlice<'_>],
-    pieces: &[Piece<'_>],
+    inputs: &[Arc<Run>],
     keeping: &Keeping<'_>,
 ) -> Result<Points, AllocError>
     requires sorted { AllByRecursion (IsStrictlySortedBy entry_cmp) runs.now }
-    requires order { AreInOrder pieces.now }
     requires keeps_rise { IsStrictlySortedBy nat_cmp keeping.now.keeps }
-    requires each { AreOfOneKeyEach pieces.now (flat_map (λ points. points) runs.now) }
+    requires each { AreOfOneKeyEach
+        (fragments_of (ranges_of (map arc_value inputs.now)))
+        (flat_map (λ points. points) runs.now) }
     ensures { IfOk result (λ kept.
         kept ≡
-        by_key.points_kept O.meaning keeping.now pieces.now
+        by_key.points_kept O.meaning keeping.now
+        (fragments_of (ranges_of (map arc_value inputs.now)))
         (flat_map (λ points. points) runs.now)) }
 {
     let folder = By(|alloc: Global, before: Effect, points: &[PointRef<'_>]| {
         fold_in_threads::<O>(rt, alloc, before, points)
     });
-    points_kept::<O, _>(&folder, alloc, runs, pieces, keeping)
+    points_kept::<O, _>(&folder, alloc, runs, inputs, keeping)
 }
 
 /// What is kept of runs' points, key by key. The points from the last cut on are merged in a thread of their own, those
@@ -105,20 +107,22 @@ fn kept_between<O: Operator + Sync, R: Threads + Sync>(
     alloc: Global,
     cuts: &[&[u8]],
     runs: &[PointSlice<'_>],
-    pieces: &[Piece<'_>],
+    inputs: &[Arc<Run>],
     keeping: &Keeping<'_>,
 ) -> Result<Points, AllocError>
     requires sorted { AllByRecursion (IsStrictlySortedBy entry_cmp) runs.now }
-    requires order { AreInOrder pieces.now }
     requires keeps_rise { IsStrictlySortedBy nat_cmp keeping.now.keeps }
-    requires each { AreOfOneKeyEach pieces.now (flat_map (λ points. points) runs.now) }
+    requires each { AreOfOneKeyEach
+        (fragments_of (ranges_of (map arc_value inputs.now)))
+        (flat_map (λ points. points) runs.now) }
     ensures { IfOk result (λ kept.
         kept ≡
-        by_key.points_kept O.meaning keeping.now pieces.now
+        by_key.points_kept O.meaning keeping.now
+        (fragments_of (ranges_of (map arc_value inputs.now)))
         (flat_map (λ points. points) runs.now)) }
 {
     let Some((last, fewer)) = cuts.split_last() else {
-        return points_kept_in_threads::<O, R>(rt, alloc, runs, pieces, keeping);
+        return points_kept_in_threads::<O, R>(rt, alloc, runs, inputs, keeping);
     };
     let (below, from) = sides_of(alloc, runs, last)?;
     let below = below.as_slice();
@@ -126,23 +130,29 @@ fn kept_between<O: Operator + Sync, R: Threads + Sync>(
     let top = move || -> Result<Points, AllocError>
         requires { IsSync R.row × IsSync O.row
             × AllByRecursion (IsStrictlySortedBy entry_cmp) from.now
-            × AreInOrder pieces.now × IsStrictlySortedBy nat_cmp keeping.now.keeps
-            × AreOfOneKeyEach pieces.now (flat_map (λ points. points) from.now) }
+            × IsStrictlySortedBy nat_cmp keeping.now.keeps
+            × AreOfOneKeyEach
+            (fragments_of (ranges_of (map arc_value inputs.now)))
+            (flat_map (λ points. points) from.now) }
         ensures { IfOk result (λ kept.
             kept ≡
-            by_key.points_kept O.meaning keeping.entry.now pieces.entry.now
+            by_key.points_kept O.meaning keeping.entry.now
+            (fragments_of (ranges_of (map arc_value inputs.entry.now)))
             (flat_map (λ points. points) from.entry.now)) }
-    { points_kept_in_threads::<O, R>(rt, alloc, from, pieces, keeping) };
+    { points_kept_in_threads::<O, R>(rt, alloc, from, inputs, keeping) };
     let others = move || -> Result<Points, AllocError>
         requires { IsSync R.row × IsSync O.row
             × AllByRecursion (IsStrictlySortedBy entry_cmp) below.now
-            × AreInOrder pieces.now × IsStrictlySortedBy nat_cmp keeping.now.keeps
-            × AreOfOneKeyEach pieces.now (flat_map (λ points. points) below.now) }
+            × IsStrictlySortedBy nat_cmp keeping.now.keeps
+            × AreOfOneKeyEach
+            (fragments_of (ranges_of (map arc_value inputs.now)))
+            (flat_map (λ points. points) below.now) }
         ensures { IfOk result (λ kept.
             kept ≡
-            by_key.points_kept O.meaning keeping.entry.now pieces.entry.now
+            by_key.points_kept O.meaning keeping.entry.now
+            (fragments_of (ranges_of (map arc_value inputs.entry.now)))
             (flat_map (λ points. points) below.entry.now)) }
-    { kept_between::<O, R>(rt, alloc, fewer, below, pieces, keeping) };
+    { kept_between::<O, R>(rt, alloc, fewer, below, inputs, keeping) };
     let (top, others) = join(rt, top, others);
     let mut kept = others?;
     let top = top?;
@@ -165,18 +175,21 @@ fn points_in<'a>(alloc: Global, inputs: &'a [Arc<Run>]) -> Result<Vec<PointSlice
 pub(crate) fn points_kept_alone<O: Operator>(
     alloc: Global,
     inputs: &[Arc<Run>],
-    pieces: &[Piece<'_>],
     keeping: &Keeping<'_>,
 ) -> Result<Points, AllocError>
     requires runs { AreRuns (map arc_value inputs.now) }
-    requires order { AreInOrder pieces.now }
     requires keeps_rise { IsStrictlySortedBy nat_cmp keeping.now.keeps }
-    requires each { AreOfOneKeyEach pieces.now (points_of (map arc_value inputs.now)) }
+    requires each { AreOfOneKeyEach
+        (fragments_of (ranges_of (map arc_value inputs.now)))
+        (points_of (map arc_value inputs.now)) }
     ensures { IfOk result (λ kept.
-        kept ≡ by_key.points_kept O.meaning keeping.now pieces.now (points_of (map arc_value inputs.now))) }
+        kept ≡
+        by_key.points_kept O.meaning keeping.now
+        (fragments_of (ranges_of (map arc_value inputs.now)))
+        (points_of (map arc_value inputs.now))) }
 {
     let runs = points_in(alloc, inputs)?;
-    points_kept::<O, _>(&Alone, alloc, &runs, pieces, keeping)
+    points_kept::<O, _>(&Alone, alloc, &runs, inputs, keeping)
 }
 
 /// What is kept of the points of runs, key by key. The parts of the key space between the cuts are merged side by side.
@@ -185,16 +198,19 @@ pub(crate) fn points_kept_by_parts<O: Operator + Sync>(
     alloc: Global,
     inputs: &[Arc<Run>],
     cuts: &[&[u8]],
-    pieces: &[Piece<'_>],
     keeping: &Keeping<'_>,
 ) -> Result<Points, AllocError>
     requires runs { AreRuns (map arc_value inputs.now) }
-    requires order { AreInOrder pieces.now }
     requires keeps_rise { IsStrictlySortedBy nat_cmp keeping.now.keeps }
-    requires each { AreOfOneKeyEach pieces.now (points_of (map arc_value inputs.now)) }
+    requires each { AreOfOneKeyEach
+        (fragments_of (ranges_of (map arc_value inputs.now)))
+        (points_of (map arc_value inputs.now)) }
     ensures { IfOk result (λ kept.
-        kept ≡ by_key.points_kept O.meaning keeping.now pieces.now (points_of (map arc_value inputs.now))) }
+        kept ≡
+        by_key.points_kept O.meaning keeping.now
+        (fragments_of (ranges_of (map arc_value inputs.now)))
+        (points_of (map arc_value inputs.now))) }
 {
     let runs = points_in(alloc, inputs)?;
-    kept_between::<O, _>(rt, alloc, cuts, &runs, pieces, keeping)
+    kept_between::<O, _>(rt, alloc, cuts, &runs, inputs, keeping)
 }

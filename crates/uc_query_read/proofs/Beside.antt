@@ -18,7 +18,7 @@ use Rattle.uc_oper.specs.Composition.{composed}
 use Rattle.uc_oper.specs.declared.effect.Effect.{Effect}
 use Rattle.uc_oper.specs.declared.effect.Effect.TheVariants.{Keep, Fold, Set}
 use Rattle.uc_run_entry.specs.declared.entry.Entry.{Entry}
-use Rattle.uc_run_entry.specs.declared.fragment.Fragment.{Fragment}
+use Rattle.uc_run_entry.specs.Fragment.{Fragment}
 use Rattle.uc_model.specs.Meaning.{effect_on}
 use Rattle.uc_run_entry.specs.Run.{Contents, IsRun}
 use Rattle.uc_run_entry.specs.PlainList.{plain_list}

@@ -17,7 +17,7 @@ use Rattle.uc_oper.specs.declared.effect.Effect.TheVariants.{Keep, Set}
 use Rattle.uc_bytes.specs.declared.write.Write.{Write}
 use Rattle.uc_model.specs.Meaning.{effect_on, value_of}
 use Rattle.uc_run_entry.specs.declared.entry.Entry.{Entry}
-use Rattle.uc_run_entry.specs.declared.fragment.Fragment.{Fragment}
+use Rattle.uc_run_entry.specs.Fragment.{Fragment}
 use Rattle.uc_run_entry.specs.Run.{Contents, IsRun, covers}
 use Rattle.uc_run_entry.specs.Seek.{is_passed}
 use Rattle.uc_run_entry.specs.PlainList.{plain_list}

@@ -19,7 +19,7 @@ use Rattle.uc_model.specs.Meaning.{Gives, value_of}
 use Rattle.uc_run_entry.specs.declared.entry.Entry.{Entry}
 use Rattle.uc_run_entry.specs.declared.entry.What.{What}
 use Rattle.uc_run_entry.specs.declared.entry.What.TheVariants.{Put, Delete, Merge}
-use Rattle.uc_run_entry.specs.declared.fragment.Fragment.{Fragment}
+use Rattle.uc_run_entry.specs.Fragment.{Fragment}
 use Rattle.uc_run_entry.specs.Run.{Contents}
 use Rattle.uc_run_entry.specs.PlainList.{op_of, point_write, fragment_writes, plain_list}
 use Rattle.uc_run_entry.specs.PlainList as plain

@@ -2,7 +2,7 @@
 use Rattle.std.proofs.Common.{◌≡◌, ℕ, Bool, true, false, cond, List, [], ◌∷◌, Some, None, filter, refl, sym, ap, ◌∙◌}
 use Rattle.std.specs.Prelude.{◌&&◌, ◌||◌, is_some, nat_le, option_map}
 use Rattle.std.specs.List.{find, list_any, slice_get}
-use Rattle.uc_run_entry.specs.declared.fragment.Fragment.{Fragment}
+use Rattle.uc_run_entry.specs.Fragment.{Fragment}
 use Rattle.uc_run_entry.specs.Run.{covers}
 use Rattle.uc_run.specs.Hiding.{hides}
 

@@ -14,7 +14,7 @@ use Rattle.uc_oper.specs.Operation.{Operation}
 use Rattle.uc_oper.specs.declared.effect.Effect.TheVariants.{Keep}
 use Rattle.uc_model.specs.Meaning.{effect_on}
 use Rattle.uc_run_entry.specs.declared.entry.Entry.{Entry}
-use Rattle.uc_run_entry.specs.declared.fragment.Fragment.{Fragment}
+use Rattle.uc_run_entry.specs.Fragment.{Fragment}
 use Rattle.uc_run_entry.specs.Run.{Contents, IsRun, covers}
 use Rattle.uc_run_entry.specs.PlainList.{plain_list}
 use Rattle.uc_run_entry.specs.Seek.{is_passed}

@@ -2,7 +2,7 @@
 use Rattle.std.specs.Prelude.{ℕ, Bool, List, length, nat_lt}
 use Rattle.std.specs.Ordering.{is_le}
 use Rattle.uc_bytes.specs.Bytes.{bytes_cmp}
-use Rattle.uc_run_entry.specs.declared.fragment.Fragment.{Fragment}
+use Rattle.uc_run_entry.specs.Fragment.{Fragment}
 use Rattle.uc_run_entry.specs.Run.{Contents}
 use Rattle.uc_run.specs.Places.{place_of, IsRest}
 use Rattle.uc_run.specs.declared.cursor.Cursor.TheInside.{Inside}

@@ -1,7 +1,7 @@
 -- Keys whose older writes a run's range deletions hide.
 use Rattle.std.specs.Prelude.{ℕ, Bool, ◌&&◌, List, Option, option_map, nat_le}
 use Rattle.std.specs.List.{list_any, find}
-use Rattle.uc_run_entry.specs.declared.fragment.Fragment.{Fragment}
+use Rattle.uc_run_entry.specs.Fragment.{Fragment}
 use Rattle.uc_run_entry.specs.Run.{Contents, covers}
 
 -- a fragment covers the key and has a range deletion at or below the sequence

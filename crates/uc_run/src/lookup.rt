@@ -164,7 +164,7 @@ fn newest_among(fragments: &[Fragment], key: &[u8], at: u64) -> Option<u64>
 {
     let near = fragments_near(fragments, fragments.len(), key);
     let fragment = covering_fragment(near, key)?;
-    fragment.seqs.newest_at_or_below(at)
+    fragment.seqs().newest_at_or_below(at)
 }
 
 /// The sequence of the newest range deletion over the key at or below the sequence. Most runs have none, and ask nothing.

@@ -13,7 +13,7 @@ use uc_run_entry::{Fragment, Seqs, covering_fragment};
 fn ends_by(fragment: &Fragment, key: &[u8]) -> bool
     ensures { result ≡ cursors.ends_by key.now fragment.now }
 {
-    fragment.end.as_slice().cmp(&key).is_le()
+    fragment.end().cmp(&key).is_le()
 }
 
 /// The fragments from a place on, if those before it end by the key; otherwise all.
@@ -95,8 +95,8 @@ pub(crate) fn end_of_hiding<'a>(fragments: &'a [Fragment], key: &[u8], at: u64) 
     ensures { option_map (λ end. end.now) result ≡ option_map (λ f. f.end) (find (hides at key.now) fragments.now) }
 {
     let fragment = covering_fragment(fragments, key)?;
-    if is_any_by(&fragment.seqs, at) {
-        Some(fragment.end.as_slice())
+    if is_any_by(fragment.seqs(), at) {
+        Some(fragment.end())
     } else {
         None
     }

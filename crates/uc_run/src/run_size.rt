@@ -33,8 +33,8 @@ fn entry_size(point: &PointRef<'_>) -> u64
 fn fragment_size(fragment: &Fragment) -> u64
     ensures { result ≡ min (size.fragment_size fragment.now) (2 ^ 64 - 1) }
 {
-    let ends = (fragment.begin.len() as u64).saturating_add(fragment.end.len() as u64);
-    ends.saturating_add(fragment.seqs.len().saturating_mul(8))
+    let ends = (fragment.begin().len() as u64).saturating_add(fragment.end().len() as u64);
+    ends.saturating_add(fragment.seqs().len().saturating_mul(8))
 }
 
 /// The size of all points, at most 2^64 - 1.

@@ -10,7 +10,7 @@ use Rattle.std.proofs.lemmas.List.Elements.{filter-append}
 use Rattle.std.proofs.lemmas.List.Sums.{count_by-le-length}
 use Rattle.std.specs.Ordering.{is_le}
 use Rattle.uc_bytes.specs.Bytes.{bytes_cmp}
-use Rattle.uc_run_entry.specs.declared.fragment.Fragment.{Fragment}
+use Rattle.uc_run_entry.specs.Fragment.{Fragment}
 use Rattle.uc_run_entry.specs.Cutting.{RangeOf, Piece}
 use Rattle.uc_run_entry.specs.Shared.{AreOfSame}
 use Rattle.uc_run_entry.specs.Spanning.{span_of, has_pieces, spans_of, with_seqs, covered, some_of}

@@ -9,7 +9,7 @@ use Rattle.std.specs.Ordering.{is_lt, is_le, ordering_reverse}
 use Rattle.std.proofs.lemmas.Bool.{false≢true}
 use Rattle.std.proofs.lemmas.Cmp.{nat_list_cmp_total}
 use Rattle.uc_bytes.specs.Bytes.{bytes_cmp}
-use Rattle.uc_run_entry.specs.declared.fragment.Fragment.{Fragment}
+use Rattle.uc_run_entry.specs.Fragment.{Fragment}
 use Rattle.uc_run_entry.specs.Order.{AreInOrder}
 use Rattle.uc_run_entry.specs.Run.{covers}
 use Rattle.uc_run_entry.proofs.Covers.{before_begin}

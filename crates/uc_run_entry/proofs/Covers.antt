@@ -16,7 +16,7 @@ use Rattle.uc_oper.specs.declared.effect.Effect.TheVariants.{Set}
 use Rattle.uc_bytes.specs.declared.op.Op.TheVariants as op
 use Rattle.uc_bytes.specs.declared.write.Write.{Write}
 use Rattle.uc_model.specs.Meaning.{touches_key, effect_of}
-use Rattle.uc_run_entry.specs.declared.fragment.Fragment.{Fragment}
+use Rattle.uc_run_entry.specs.Fragment.{Fragment}
 use Rattle.uc_run_entry.specs.Order.{IsFalling, AreInOrder}
 use Rattle.uc_run_entry.specs.Run.{covers}
 use Rattle.uc_run_entry.specs.PlainList.{fragment_writes}

@@ -12,7 +12,7 @@ use Rattle.std.proofs.lemmas.List.{append-nil}
 use Rattle.std.proofs.lemmas.Cmp.{nat_list_cmp_total}
 use Rattle.std.proofs.lemmas.Map.Lookups.{exact_bytes}
 use Rattle.uc_bytes.specs.Bytes.{bytes_cmp}
-use Rattle.uc_run_entry.specs.declared.fragment.Fragment.{Fragment}
+use Rattle.uc_run_entry.specs.Fragment.{Fragment}
 use Rattle.uc_run_entry.specs.Run.{covers}
 use Rattle.uc_run_entry.specs.Cutting.{RangeOf, Piece, has_keys, range_covers, spans, cut_points, pieces, falling, fragment_over, fragments_of}
 use Rattle.uc_run_entry.proofs.Sets.{sorted_set, all_back}

@@ -4,7 +4,7 @@ use Rattle.std.specs.List.{flat_map}
 use Rattle.std.specs.Ordering.{nat_cmp, flip_args, is_lt, is_le}
 use Rattle.std.specs.BTreeSet.{insert_key}
 use Rattle.uc_bytes.specs.Bytes.{bytes_cmp}
-use Rattle.uc_run_entry.specs.declared.fragment.Fragment.{Fragment}
+use Rattle.uc_run_entry.specs.Fragment.{Fragment}
 
 -- a range deletion: its ends and its sequence
 pub record RangeOf : Type 0 where

@@ -1,4 +1,5 @@
 pub mod Order
+pub mod Fragment
 pub mod Run
 pub mod PlainList
 pub mod Size

@@ -2,12 +2,12 @@
 use Rattle.std.specs.Prelude.{◌≡◌, ℕ, ◌-◌, ◌≤◌, List, [], ◌∷◌, take, drop}
 
 -- items cut at places, if the first of them is at `from`
-abbrev pub cut_from : ℕ → List ℕ → List ℕ → List (List ℕ)
+abbrev pub cut_from : {T : Type 0} → ℕ → List ℕ → List T → List (List T)
 cut_from from [] items = []
 cut_from from (end ∷ ends) items = take (end - from) items ∷ cut_from end ends (drop (end - from) items)
 
 -- the lists that begin at places; at the last one they end
-abbrev pub cut : List ℕ → List ℕ → List (List ℕ)
+abbrev pub cut : {T : Type 0} → List ℕ → List T → List (List T)
 cut [] items = []
 cut (from ∷ ends) items = cut_from from ends items
 

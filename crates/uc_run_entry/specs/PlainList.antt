@@ -7,7 +7,7 @@ use Rattle.uc_bytes.specs.declared.write.Write.{Write}
 use Rattle.uc_run_entry.specs.declared.entry.Entry.{Entry}
 use Rattle.uc_run_entry.specs.declared.entry.What.{What}
 use Rattle.uc_run_entry.specs.declared.entry.What.TheVariants.{Put, Delete, Merge}
-use Rattle.uc_run_entry.specs.declared.fragment.Fragment.{Fragment}
+use Rattle.uc_run_entry.specs.Fragment.{Fragment}
 use Rattle.uc_run_entry.specs.Run.{Contents}
 
 -- the change that a point makes

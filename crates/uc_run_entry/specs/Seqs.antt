@@ -1,12 +1,13 @@
--- The sequences of a fragment, owned or shared.
-use Rattle.std.specs.Prelude.{ℕ, Bool, List, nat_eq}
+-- The sequences of a fragment.
+use Rattle.std.specs.Prelude.{ℕ, Bool, List, [], ◌∷◌, nat_eq}
 use lib.Pointwise.{pointwise}
 use Rattle.uc_run_entry.specs.declared.seqs.Kind.{Kind}
-use Rattle.uc_run_entry.specs.declared.seqs.Kind.TheVariants.{Own, Shared}
+use Rattle.uc_run_entry.specs.declared.seqs.Kind.TheVariants.{One, Few, Shared}
 
 -- the list that they are
 abbrev pub seqs_of : Kind → List ℕ
-seqs_of (Own seqs) = seqs.items
+seqs_of (One seq) = seq ∷ []
+seqs_of (Few list) = list
 seqs_of (Shared share) = share
 
 -- whether two lists are equal

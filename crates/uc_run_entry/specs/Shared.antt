@@ -1,7 +1,7 @@
 -- Fragments and the spans that they share.
 use Rattle.std.specs.Prelude.{◌≡◌, ℕ, List, map, Option, Some, None, MatchOption, ⊤}
 use Rattle.std.specs.Arc.{arc_value}
-use Rattle.uc_run_entry.specs.declared.fragment.Fragment.{Fragment}
+use Rattle.uc_run_entry.specs.Fragment.{Fragment}
 use Rattle.uc_run_entry.specs.declared.fragments.Fragments.TheInside.{Inside}
 use Rattle.uc_run_entry.specs.Spanning.{some_of}
 

@@ -4,7 +4,7 @@ use Rattle.std.specs.List.{sum_by}
 use Rattle.uc_run_entry.specs.declared.entry.Entry.{Entry}
 use Rattle.uc_run_entry.specs.declared.entry.What.{What}
 use Rattle.uc_run_entry.specs.declared.entry.What.TheVariants.{Put, Delete, Merge}
-use Rattle.uc_run_entry.specs.declared.fragment.Fragment.{Fragment}
+use Rattle.uc_run_entry.specs.Fragment.{Fragment}
 use Rattle.uc_run_entry.specs.Run.{Contents}
 
 abbrev pub what_size : What → ℕ

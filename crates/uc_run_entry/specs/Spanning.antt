@@ -1,9 +1,9 @@
 -- Ranges as spans: which of the pieces between cut points each covers.
-use Rattle.std.specs.Prelude.{ℕ, ◌-◌, Bool, List, [], ◌∷◌, length, map, filter, nat_lt}
+use Rattle.std.specs.Prelude.{ℕ, ◌-◌, Bool, List, [], ◌∷◌, length, map, filter, if◌then◌else◌, nat_lt, nat_le}
 use Rattle.std.specs.List.{count_by}
 use Rattle.std.specs.Ordering.{is_lt, is_le}
 use Rattle.uc_bytes.specs.Bytes.{bytes_cmp}
-use Rattle.uc_run_entry.specs.declared.fragment.Fragment.{Fragment}
+use Rattle.uc_run_entry.specs.Fragment.{Fragment}
 use Rattle.uc_run_entry.specs.Cutting.{RangeOf, Piece}
 use Rattle.uc_run_entry.specs.declared.span.Span.{Span}
 
@@ -37,3 +37,7 @@ covered fragments = filter (λ f. nat_lt 0 (length f.seqs)) fragments
 -- those of lists that have sequences
 abbrev pub some_of : List (List ℕ) → List (List ℕ)
 some_of lists = filter (λ seqs. nat_lt 0 (length seqs)) lists
+
+-- sequences if they are at most `few`
+abbrev pub if_few : ℕ → List ℕ → List ℕ
+if_few few seqs = if nat_le (length seqs) few then seqs else []

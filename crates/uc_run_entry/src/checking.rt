@@ -44,7 +44,7 @@ fn are_sorted(points: &[Entry]) -> bool
 fn has_keys(fragment: &Fragment) -> bool
     ensures { result ≡ is_lt (bytes_cmp fragment.now.begin fragment.now.end) }
 {
-    fragment.begin < fragment.end
+    fragment.begin().cmp(&fragment.end()).is_lt()
 }
 
 /// Whether a fragment ends at or before the begin of another, which has keys.
@@ -53,7 +53,7 @@ fn is_followed_by(fragment: &Fragment, next: &Fragment) -> bool
         (is_le (bytes_cmp fragment.now.end next.now.begin) && is_lt
         (bytes_cmp next.now.begin next.now.end)) }
 {
-    fragment.end <= next.begin && has_keys(next)
+    fragment.end().cmp(&next.begin()).is_le() && has_keys(next)
 }
 
 /// Whether the first fragment, if there is one, has keys.
@@ -104,7 +104,7 @@ fn are_within(low: u64, high: u64, seqs: &Seqs) -> bool
 fn is_whole(low: u64, high: u64, fragment: &Fragment) -> bool
     ensures { IsTrue result ↔ IsWhole low high fragment.now }
 {
-    let seqs = &fragment.seqs;
+    let seqs = fragment.seqs();
     !seqs.is_empty() && seqs.are_falling() && are_within(low, high, seqs)
 }
 
@@ -112,14 +112,14 @@ fn is_whole(low: u64, high: u64, fragment: &Fragment) -> bool
 fn covers(fragment: &Fragment, key: &[u8]) -> bool
     ensures { result ≡ run.covers fragment.now key.now }
 {
-    fragment.begin.as_slice().cmp(&key).is_le() && key.cmp(&fragment.end.as_slice()).is_lt()
+    fragment.begin().cmp(&key).is_le() && key.cmp(&fragment.end()).is_lt()
 }
 
 /// Whether the fragment ends at or before a key.
 fn ends_by(fragment: &Fragment, key: &[u8]) -> bool
     ensures { result ≡ is_le (bytes_cmp fragment.now.end key.now) }
 {
-    fragment.end.as_slice().cmp(&key).is_le()
+    fragment.end().cmp(&key).is_le()
 }
 
 /// The first fragment that ends above a key, if one does: no other can cover the key.
@@ -171,7 +171,7 @@ fn is_apart(point: &Entry, fragments: &[Fragment]) -> bool
 {
     match covering_fragment(fragments, point.key.as_slice()) {
         None => true,
-        Some(fragment) => !has_seq(&fragment.seqs, point.seq),
+        Some(fragment) => !has_seq(fragment.seqs(), point.seq),
     }
 }
 

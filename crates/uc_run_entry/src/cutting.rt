@@ -6,16 +6,17 @@ ghost use Rattle.uc_run_entry.specs.Cutting as cutting;
 ghost use Rattle.uc_run_entry.specs.Cutting.{fragments_of, pieces};
 ghost use Rattle.uc_run_entry.specs.Spanning as spanning;
 ghost use Rattle.uc_run_entry.specs.Spanning.{with_seqs};
+ghost use Rattle.uc_run_entry.specs.declared.fragments.TheConstants.{FEW};
 
 use crate::fragment::Fragment;
 use crate::fragments::{FEW, Fragments};
+use crate::lists::Lists;
 use crate::range::Range;
 use crate::spanning::spans_of;
 use crate::{Seqs, Spans};
 use std::alloc::{AllocError, Global};
 use std::collections::BTreeSet;
 use std::sync::Arc;
-use uc_bytes::Bytes;
 
 /// The cut points: both ends of each range that covers a key, in byte order, each once.
 fn cut_points<'a>(alloc: Global, ranges: &[Range<'a>]) -> Result<BTreeSet<&'a [u8]>, AllocError>
@@ -38,51 +39,55 @@ fn in_order<'a>(alloc: Global, cuts: BTreeSet<&'a [u8]>) -> Result<Vec<&'a [u8]>
     cuts.into_iter().collect(alloc)
 }
 
-/// The sequences of a piece: owned numbers if they are few, else a share of the spans.
-fn seqs_over(alloc: Global, spans: &Arc<Spans>, piece: usize) -> Result<Seqs, AllocError>
-    requires { piece < length (arc_value spans.now) }
+/// The sequences of each piece that has few, and none for the others.
+fn few_seqs(alloc: Global, spans: &Spans) -> Result<Lists<u64>, AllocError>
+    ensures { IfOk result (λ lists. lists ≡ map (spanning.if_few FEW) spans.now) }
+{
+    let mut lists = Lists::new(alloc)?;
+    for piece in 0..spans.fragments() {
+        if spans.count(piece) <= FEW {
+            lists.push(&spans.seqs(piece).to_vec(alloc)?)?;
+        } else {
+            lists.push(&[])?;
+        }
+    }
+    Ok(lists)
+}
+
+/// The sequences of a piece: a list if they are few, else a share of the spans.
+fn seqs_over(
+    spans: &Arc<Spans>,
+    few: &Arc<Lists<u64>>,
+    piece: usize,
+) -> Result<Seqs, AllocError>
+    requires piece { piece < length (arc_value spans.now) }
+    requires few { arc_value few.now ≡ map (spanning.if_few FEW) (arc_value spans.now) }
     ensures { IfOk result (λ seqs. seqs ≡ slice_index_or (arc_value spans.now) piece []) }
 {
     if spans.count(piece) <= FEW {
-        Ok(Seqs::from(spans.seqs(piece).to_vec(alloc)?))
+        Seqs::listed(few, piece)
     } else {
         Ok(Seqs::shared(spans.clone()?, piece))
     }
 }
 
-/// The fragment of a piece, with copies of the cut points on both sides.
-fn fragment_at(
-    alloc: Global,
-    cuts: &[&[u8]],
-    piece: usize,
-    seqs: Seqs,
-) -> Result<Fragment, AllocError>
-    requires { piece + 1 < length cuts.now }
-    ensures { IfOk result (λ fragment. fragment ≡
-        record {
-          begin = slice_index_or (map (λ cut. cut.now) cuts.now) piece [];
-          end = slice_index_or (map (λ cut. cut.now) cuts.now) (piece + 1) [];
-          seqs = seqs;
-        }) }
-{
-    Ok(Fragment {
-        begin: Bytes::from_slice(alloc, cuts[piece])?,
-        end: Bytes::from_slice(alloc, cuts[piece + 1])?,
-        seqs,
-    })
-}
-
 /// One fragment for each piece that a range covers.
-fn covered(alloc: Global, cuts: &[&[u8]], spans: &Arc<Spans>) -> Result<Vec<Fragment>, AllocError>
-    requires { length (arc_value spans.now) ≡ length cuts.now - 1 }
+fn covered(
+    alloc: Global,
+    cuts: &Arc<Lists<u8>>,
+    spans: &Arc<Spans>,
+    few: &Arc<Lists<u64>>,
+) -> Result<Vec<Fragment>, AllocError>
+    requires pieces { length (arc_value spans.now) ≡ length (arc_value cuts.now) - 1 }
+    requires few { arc_value few.now ≡ map (spanning.if_few FEW) (arc_value spans.now) }
     ensures { IfOk result (λ fragments. fragments.items ≡
-        spanning.covered (with_seqs (pieces (map (λ cut. cut.now) cuts.now)) (arc_value spans.now))) }
+        spanning.covered (with_seqs (pieces (arc_value cuts.now)) (arc_value spans.now))) }
 {
     let mut fragments = Vec::new(alloc);
     for piece in 0..spans.fragments() {
-        let seqs = seqs_over(alloc, spans, piece)?;
+        let seqs = seqs_over(spans, few, piece)?;
         if !seqs.is_empty() {
-            fragments.push(fragment_at(alloc, cuts, piece, seqs)?)?;
+            fragments.push(Fragment::new(cuts.clone()?, piece, seqs))?;
         }
     }
     Ok(fragments)
@@ -101,6 +106,8 @@ pub fn cut_ranges(alloc: Global, ranges: &[Range<'_>]) -> Result<Fragments, Allo
         alloc,
         Spans::new(alloc, cuts.len().saturating_sub(1), lists)?,
     )?;
-    let fragments = covered(alloc, &cuts, &spans)?;
+    let few = Arc::new(alloc, few_seqs(alloc, &spans)?)?;
+    let texts = Arc::new(alloc, Lists::of(alloc, &cuts)?)?;
+    let fragments = covered(alloc, &texts, &spans, &few)?;
     Ok(Fragments::with_spans(fragments, spans))
 }

@@ -1,16 +1,20 @@
 //! [`Fragments`]: the fragments of a run.
-ghost use Rattle.std.specs.Prelude.{◌≡◌, ◌↔◌, IsTrue, map, option_map};
+ghost use Rattle.std.specs.Prelude.{◌≡◌, ◌↔◌, ◌-◌, IsTrue, IfOk, length, map, option_map};
 ghost use Rattle.std.specs.Arc.{arc_value};
 ghost use Rattle.uc_run_entry.specs.Shared.{ends_of, AreOfSame};
-ghost use Rattle.uc_run_entry.specs.Spanning.{some_of};
+ghost use Rattle.uc_run_entry.specs.Cutting.{pieces};
+ghost use Rattle.uc_run_entry.specs.Spanning as spanning;
+ghost use Rattle.uc_run_entry.specs.Spanning.{some_of, with_seqs};
 
-use crate::Spans;
 use crate::fragment::Fragment;
+use crate::lists::Lists;
+use crate::{Seqs, Spans};
+use std::alloc::{AllocError, Global};
 use std::marker::Model;
 use std::sync::Arc;
 
-/// A fragment with at most this many sequences owns them: they take no more memory than a share of spans, and are
-/// searched faster.
+/// A fragment with at most this many sequences has them in a list: they take little memory, and are searched faster than
+/// spans.
 pub(crate) const FEW: u64 = 8;
 
 /// Fragments, and the spans that those with many sequences share. A contract sees the list of the fragments.
@@ -22,7 +26,7 @@ pub struct Fragments {
 
 impl Model for Fragments {
     ghost use Rattle.std.specs.Prelude.{List};
-    ghost use Rattle.uc_run_entry.specs.declared.fragment.Fragment.{Fragment};
+    ghost use Rattle.uc_run_entry.specs.Fragment.{Fragment};
     ghost use Rattle.uc_run_entry.specs.Shared.{AreShared};
 
     ghost Value = { List Fragment };
@@ -39,13 +43,6 @@ impl Drop for Fragments {
     }
 }
 
-/// Whether a fragment has the ends of another.
-fn has_ends_of(fragment: &Fragment, other: &Fragment) -> bool
-    ensures { IsTrue result ↔ (ends_of fragment.now ≡ ends_of other.now) }
-{
-    fragment.begin == other.begin && fragment.end == other.end
-}
-
 /// Whether fragments have equal ends.
 fn same_ends(fragments: &[Fragment], others: &[Fragment]) -> bool
     ensures { IsTrue result ↔ (map ends_of fragments.now ≡ map ends_of others.now) }
@@ -54,7 +51,7 @@ fn same_ends(fragments: &[Fragment], others: &[Fragment]) -> bool
         && fragments
             .iter()
             .zip(others)
-            .all(|(fragment, other)| has_ends_of(fragment, other))
+            .all(|(fragment, other)| fragment.has_ends_of(other))
 }
 
 /// Whether both have spans, and their lists are the same.
@@ -74,6 +71,26 @@ fn same_one_by_one(fragments: &[Fragment], others: &[Fragment]) -> bool
 }
 
 impl Fragments {
+    /// One fragment for each piece between neighbouring cut points whose list has sequences.
+    pub fn of_lists(
+        alloc: Global,
+        cuts: &Arc<Lists<u8>>,
+        lists: &Arc<Lists<u64>>,
+    ) -> Result<Fragments, AllocError>
+        requires { length (arc_value lists.now) ≡ length (arc_value cuts.now) - 1 }
+        ensures { IfOk result (λ fragments. fragments ≡
+            spanning.covered (with_seqs (pieces (arc_value cuts.now)) (arc_value lists.now))) }
+    {
+        let mut list = Vec::new(alloc);
+        for piece in 0..lists.len() {
+            if !lists.list(piece).is_empty() {
+                let seqs = Seqs::listed(lists, piece)?;
+                list.push(Fragment::new(cuts.clone()?, piece, seqs))?;
+            }
+        }
+        Ok(Fragments::from(list))
+    }
+
     /// Fragments whose sequences are those of the pieces of the spans that have some.
     ///
     /// The spans are kept only if a fragment shares them.
@@ -81,7 +98,7 @@ impl Fragments {
         requires { map (λ f. f.seqs) list.items ≡ some_of (arc_value spans) }
         ensures { result ≡ list.items }
     {
-        let is_shared = list.iter().any(|fragment| fragment.seqs.len() > FEW);
+        let is_shared = list.iter().any(|fragment| fragment.seqs().len() > FEW);
         Fragments {
             list,
             spans: if is_shared { Some(spans) } else { None },

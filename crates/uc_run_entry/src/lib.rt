@@ -10,8 +10,10 @@
 //!
 //! A range deletion is in all fragments between its ends, so n overlapping ranges give up to n^2 sequences. A [`Span`]
 //! says in which fragments a sequence is. [`Spans`] holds spans and answers as the lists would, in the time and memory of
-//! n log n. [`Seqs`] are the sequences of one fragment, which fall: a list of its own or a share of such spans.
+//! n log n. [`Seqs`] are the sequences of one fragment, which fall: one, a list or a share of such spans.
 //! `specs/Spans.antt` defines the lists; read `spans.rt` first.
+//!
+//! What many fragments have stands in one vector, [`Lists`], that they share: cut points, and sequences where a fragment has few.
 //!
 //! An `Err(AllocError)` comes only if an allocation fails.
 //!
@@ -24,6 +26,7 @@ mod checking;
 mod cutting;
 mod entry;
 mod falling;
+mod few;
 mod few_spans;
 mod fragment;
 mod fragment_laws;
@@ -53,6 +56,7 @@ pub use fragments::Fragments;
 pub use laws::{
     plain_list_does_what_is_found, plain_list_is_in_order, stripes_of_plain_list_do_what_is_found,
 };
+pub use lists::Lists;
 pub use newest::newer;
 pub use range::Range;
 pub use seqs::Seqs;

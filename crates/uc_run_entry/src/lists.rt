@@ -1,19 +1,22 @@
-//! [`Lists`]: lists of sequences in one vector.
-ghost use Rattle.std.specs.Prelude.{◌≡◌, ◌<◌, ◌≤◌, ◌+◌, ◌-◌, ◌^◌, ◌++◌, [], ◌∷◌, length, take, drop, slice_index, IfOk, OnOk, OnErr};
+//! [`Lists`]: lists in one vector.
+ghost use Rattle.std.specs.Prelude.{◌≡◌, ◌<◌, ◌≤◌, ◌+◌, ◌-◌, ◌^◌, ◌++◌, [], ◌∷◌, length, map, take, drop, slice_index, IfOk, OnOk, OnErr};
 ghost use Rattle.std.specs.List.{slice_index_or};
 
 use std::alloc::{AllocError, Global};
 use std::marker::Model;
 
-/// Lists of sequences in one vector, with the places at which they begin. A contract sees the lists.
+/// Lists in one vector, with the places at which they begin: the texts of cut points, say, or sequences. A contract sees
+/// the lists.
+///
+/// A list takes 8 bytes beside its items.
 #[derive(Debug, Drop)]
-pub(crate) struct Lists {
+pub struct Lists<T> {
     starts: Vec<usize>,
-    items: Vec<u64>,
+    items: Vec<T>,
 }
 
 /// The items from a start to the next one.
-fn part<'a>(starts: &[usize], items: &'a [u64], number: usize) -> &'a [u64]
+fn part<'a, T>(starts: &[usize], items: &'a [T], number: usize) -> &'a [T]
     requires within { number + 1 < length starts.now }
     requires order { slice_index starts.now number ≤ slice_index starts.now (number + 1) }
     requires bound { slice_index starts.now (number + 1) ≤ length items.now }
@@ -26,20 +29,20 @@ fn part<'a>(starts: &[usize], items: &'a [u64], number: usize) -> &'a [u64]
     &items[from..end]
 }
 
-impl Model for Lists {
-    ghost use Rattle.std.specs.Prelude.{ℕ, List, length};
+impl<T> Model for Lists<T> {
+    ghost use Rattle.std.specs.Prelude.{List, length};
     ghost use Rattle.uc_run_entry.specs.Lists.{cut, AreStarts};
 
-    ghost Value = { List (List ℕ) };
+    ghost Value = { List (List T) };
 
     ghost view = { λ lists. cut lists.starts.items lists.items.items };
 
     ghost invariant = { λ lists. AreStarts lists.starts.items (length lists.items.items) };
 }
 
-impl Lists {
+impl<T> Lists<T> {
     /// No lists.
-    pub(crate) fn new(alloc: Global) -> Result<Lists, AllocError>
+    pub fn new(alloc: Global) -> Result<Lists<T>, AllocError>
         ensures { IfOk result (λ lists. lists ≡ []) }
     {
         let mut starts = Vec::new(alloc);
@@ -48,8 +51,26 @@ impl Lists {
         Ok(Lists { starts, items })
     }
 
+    /// The list with a number.
+    pub fn list(&self, number: usize) -> &[T]
+        requires { number < length self.now }
+        ensures list { result.now ≡ slice_index_or self.now number [] }
+        ensures few { length self.now < 2 ^ 64 }
+    {
+        part(&self.starts, &self.items, number)
+    }
+
+    /// How many lists there are.
+    pub fn len(&self) -> usize
+        ensures { result ≡ length self.now }
+    {
+        self.starts.len().saturating_sub(1)
+    }
+}
+
+impl<T: Copy> Lists<T> {
     /// Pushes a list. An `Err` leaves the lists as they were.
-    pub(crate) fn push(&mut self, list: &[u64]) -> Result<(), AllocError>
+    pub fn push(&mut self, list: &[T]) -> Result<(), AllocError>
         ensures pushed { OnOk result (self.new ≡ self.old ++ list.now ∷ []) }
         ensures as_it_was { OnErr result (self.new ≡ self.old) }
     {
@@ -62,12 +83,14 @@ impl Lists {
         Ok(())
     }
 
-    /// The list with a number.
-    pub(crate) fn list(&self, number: usize) -> &[u64]
-        requires { number < length self.now }
-        ensures list { result.now ≡ slice_index_or self.now number [] }
-        ensures few { length self.now < 2 ^ 64 }
+    /// Copies of some lists.
+    pub fn of(alloc: Global, lists: &[&[T]]) -> Result<Lists<T>, AllocError>
+        ensures { IfOk result (λ made. made ≡ map (λ list. list.now) lists.now) }
     {
-        part(&self.starts, &self.items, number)
+        let mut made = Lists::new(alloc)?;
+        for list in lists {
+            made.push(list)?;
+        }
+        Ok(made)
     }
 }

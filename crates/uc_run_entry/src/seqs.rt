@@ -1,5 +1,5 @@
-//! [`Seqs`]: the sequences of a fragment, owned or shared.
-ghost use Rattle.std.specs.Prelude.{◌≡◌, ◌↔◌, ◌<◌, ◌-◌, ◌^◌, ◌==◌, [], length, min, IsTrue, IfOk};
+//! [`Seqs`]: the sequences of a fragment.
+ghost use Rattle.std.specs.Prelude.{◌≡◌, ◌↔◌, ◌<◌, ◌-◌, ◌^◌, ◌==◌, [], ◌∷◌, length, min, IsTrue, IfOk};
 ghost use Rattle.std.specs.Arc.{arc_value};
 ghost use Rattle.std.specs.List.{slice_get, slice_index_or};
 ghost use Rattle.std.proofs.Common.{rules};
@@ -10,26 +10,31 @@ ghost use Rattle.uc_run_entry.specs.Spans.{IsFalling};
 
 use crate::alike::{are_ahead, are_alike, are_equal};
 use crate::falling::are_falling;
+use crate::few::Few;
+use crate::lists::Lists;
 use crate::newest::newest_at_or_below;
 use crate::share::Share;
 use crate::spans::Spans;
 use std::alloc::{AllocError, Global};
 use std::marker::Model;
+use std::slice;
 use std::sync::Arc;
 
 /// Where the sequences are.
 #[derive(Debug, Drop)]
 enum Kind {
-    /// In a list of their own.
-    Own(Vec<u64>),
+    /// Here: there is one.
+    One(u64),
+    /// Among shared lists.
+    Few(Few),
     /// Among shared spans.
     Shared(Share),
 }
 
 /// The sequences of a fragment. A contract sees their list.
 ///
-/// They are owned, or shared: then many fragments share one [`Spans`], and each takes only its place there, however
-/// many sequences it has.
+/// One stands here. Some are one of many lists in one vector. Many are shared: then many fragments share one [`Spans`], and
+/// each takes only its place there, however many sequences it has.
 #[derive(Debug, Drop)]
 pub struct Seqs {
     kind: Kind,
@@ -45,6 +50,36 @@ impl Model for Seqs {
 }
 
 impl Seqs {
+    /// One sequence.
+    pub fn one(seq: u64) -> Seqs
+        ensures { result ≡ seq ∷ [] }
+    {
+        Seqs {
+            kind: Kind::One(seq),
+        }
+    }
+
+    /// One of many lists. A list of one isn't shared.
+    pub fn listed(lists: &Arc<Lists<u64>>, number: usize) -> Result<Seqs, AllocError>
+        requires { number < length (arc_value lists.now) }
+        ensures { IfOk result (λ seqs. seqs ≡ slice_index_or (arc_value lists.now) number []) }
+    {
+        if let [seq] = lists.list(number) {
+            return Ok(Seqs::one(*seq));
+        }
+        Ok(Seqs {
+            kind: Kind::Few(Few::new(lists.clone()?, number)),
+        })
+    }
+
+    /// A list that no other shares.
+    pub fn alone(alloc: Global, seqs: &[u64]) -> Result<Seqs, AllocError>
+        ensures { IfOk result (λ made. made ≡ seqs.now) }
+    {
+        let lists = Arc::new(alloc, Lists::of(alloc, &[seqs])?)?;
+        Seqs::listed(&lists, 0)
+    }
+
     /// The sequences of a fragment of shared spans. It doesn't allocate.
     pub fn shared(spans: Arc<Spans>, fragment: usize) -> Seqs
         requires { fragment < length (arc_value spans) }
@@ -60,7 +95,8 @@ impl Seqs {
         ensures { result ≡ min (length self.now) (2 ^ 64 - 1) }
     {
         match &self.kind {
-            Kind::Own(seqs) => seqs.len() as u64,
+            Kind::One(_) => 1,
+            Kind::Few(list) => list.as_slice().len() as u64,
             Kind::Shared(share) => share.len(),
         }
     }
@@ -77,7 +113,8 @@ impl Seqs {
         ensures { result ≡ slice_get self.now 0 }
     {
         match &self.kind {
-            Kind::Own(seqs) => seqs.first().copied(),
+            Kind::One(seq) => Some(*seq),
+            Kind::Few(list) => list.as_slice().first().copied(),
             Kind::Shared(share) => share.ahead().next(),
         }
     }
@@ -90,7 +127,8 @@ impl Seqs {
         ensures { result ≡ newest.newest_at_or_below at self.now }
     {
         match &self.kind {
-            Kind::Own(seqs) => newest_at_or_below(seqs, at),
+            Kind::One(seq) => newest_at_or_below(slice::from_ref(seq), at),
+            Kind::Few(list) => newest_at_or_below(list.as_slice(), at),
             Kind::Shared(share) => share.newest_at_or_below(at),
         }
     }
@@ -100,7 +138,8 @@ impl Seqs {
         ensures { IsTrue result ↔ IsFalling self.now }
     {
         match &self.kind {
-            Kind::Own(seqs) => are_falling(seqs),
+            Kind::One(seq) => are_falling(slice::from_ref(seq)),
+            Kind::Few(list) => are_falling(list.as_slice()),
             Kind::Shared(share) => {
                 share.recall_falling();
                 true
@@ -113,35 +152,42 @@ impl Seqs {
         ensures { IfOk result (λ seqs. seqs.items ≡ self.now) }
     {
         match &self.kind {
-            Kind::Own(seqs) => Ok(seqs.as_slice().to_vec(alloc)?),
+            Kind::One(seq) => Ok(slice::from_ref(seq).to_vec(alloc)?),
+            Kind::Few(list) => Ok(list.as_slice().to_vec(alloc)?),
             Kind::Shared(share) => share.ahead().to_vec(alloc),
         }
     }
 
-    /// Whether both have the same sequences.
-    fn is_same(&self, other: &Seqs) -> bool
-        ensures { IsTrue result ↔ (self.now ≡ other.now) }
+    /// Whether these are the sequences.
+    fn are(&self, seqs: &[u64]) -> bool
+        ensures { IsTrue result ↔ (self.now ≡ seqs.now) }
     {
         match &self.kind {
-            Kind::Own(seqs) => match &other.kind {
-                Kind::Own(others) => are_equal(seqs, others),
-                Kind::Shared(share) => are_ahead(share.ahead(), seqs),
-            },
-            Kind::Shared(share) => match &other.kind {
-                Kind::Own(others) => are_ahead(share.ahead(), others),
-                Kind::Shared(others) => are_alike(share.ahead(), others.ahead()),
-            },
+            Kind::One(seq) => are_equal(slice::from_ref(seq), seqs),
+            Kind::Few(list) => are_equal(list.as_slice(), seqs),
+            Kind::Shared(share) => are_ahead(share.ahead(), seqs),
         }
     }
-}
 
-impl From<Vec<u64>> for Seqs {
-    ghost from_gives = { λ items seqs. seqs ≡ items.items };
+    /// Whether these shared ones are the sequences.
+    fn are_shared(&self, share: &Share) -> bool
+        ensures { IsTrue result ↔ (self.now ≡ share.now) }
+    {
+        match &self.kind {
+            Kind::One(seq) => are_ahead(share.ahead(), slice::from_ref(seq)),
+            Kind::Few(list) => are_ahead(share.ahead(), list.as_slice()),
+            Kind::Shared(other) => are_alike(other.ahead(), share.ahead()),
+        }
+    }
 
-    /// Takes over the vector without allocating.
-    fn from(items: Vec<u64>) -> Seqs {
-        Seqs {
-            kind: Kind::Own(items),
+    /// Whether both have the same sequences.
+    pub(crate) fn is_same(&self, other: &Seqs) -> bool
+        ensures { IsTrue result ↔ (self.now ≡ other.now) }
+    {
+        match &other.kind {
+            Kind::One(seq) => self.are(slice::from_ref(seq)),
+            Kind::Few(list) => self.are(list.as_slice()),
+            Kind::Shared(share) => self.are_shared(share),
         }
     }
 }
@@ -155,7 +201,8 @@ impl Clone for Seqs {
     {
         Ok(Seqs {
             kind: match &self.kind {
-                Kind::Own(seqs) => Kind::Own(seqs.clone()?),
+                Kind::One(seq) => Kind::One(*seq),
+                Kind::Few(list) => Kind::Few(list.again()?),
                 Kind::Shared(share) => Kind::Shared(share.again()?),
             },
         })

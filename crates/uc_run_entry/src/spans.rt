@@ -40,7 +40,7 @@ fn first_seq(spans: &[Span]) -> Option<u64>
 pub struct Spans {
     fragments: usize,
     spans: Vec<Span>,
-    nodes: Lists,
+    nodes: Lists<u64>,
 }
 
 impl Model for Spans {

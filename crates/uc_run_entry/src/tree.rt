@@ -76,7 +76,7 @@ fn halved(
 /// At each level, at most four nodes look at a span and at most two hold it.
 fn push_nodes(
     alloc: Global,
-    lists: &mut Lists,
+    lists: &mut Lists<u64>,
     low: usize,
     high: usize,
     spans: Vec<Span>,
@@ -95,7 +95,7 @@ fn push_nodes(
 }
 
 /// What each node of the tree over `fragments` fragments holds.
-pub(crate) fn nodes(alloc: Global, fragments: usize, spans: &[Span]) -> Result<Lists, AllocError>
+pub(crate) fn nodes(alloc: Global, fragments: usize, spans: &[Span]) -> Result<Lists<u64>, AllocError>
     ensures { IfOk result (λ lists. lists ≡ tree.nodes fragments 0 fragments spans.now) }
 {
     let mut lists = Lists::new(alloc)?;

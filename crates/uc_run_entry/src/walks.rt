@@ -10,7 +10,7 @@ use crate::newest::{newer, newest_at_or_below};
 use crate::node::Node;
 
 /// The newest sequence at or below a number that a node over a fragment holds.
-pub(crate) fn newest_over(nodes: &Lists, fragments: usize, fragment: usize, at: u64) -> Option<u64>
+pub(crate) fn newest_over(nodes: &Lists<u64>, fragments: usize, fragment: usize, at: u64) -> Option<u64>
     requires all { length nodes.now + 1 ≡ 2 * fragments }
     requires within { fragment < fragments }
     requires falling { AllByRecursion Descends nodes.now }
@@ -26,7 +26,7 @@ pub(crate) fn newest_over(nodes: &Lists, fragments: usize, fragment: usize, at: 
 }
 
 /// How many sequences the nodes over a fragment hold together, at most 2^64 - 1.
-pub(crate) fn count_over(nodes: &Lists, fragments: usize, fragment: usize) -> u64
+pub(crate) fn count_over(nodes: &Lists<u64>, fragments: usize, fragment: usize) -> u64
     requires all { length nodes.now + 1 ≡ 2 * fragments }
     requires within { fragment < fragments }
     ensures { result ≡ min (sum_by length (held_over fragments fragment nodes.now)) (2 ^ 64 - 1) }

@@ -186,7 +186,7 @@ fn is_one_share(
         return Ok(false);
     }
     let shared = Seqs::shared(Arc::new(alloc, spans)?, fragment);
-    both_are(alloc, &Seqs::from(plain.to_vec(alloc)?), &shared, &plain)
+    both_are(alloc, &Seqs::alone(alloc, &plain)?, &shared, &plain)
 }
 
 #[test]

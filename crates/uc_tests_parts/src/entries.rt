@@ -3,7 +3,6 @@ use crate::given::entry_of;
 use std::alloc::{AllocError, Global};
 use std::process::Abort;
 use std::test::Fail;
-use uc_bytes::Bytes;
 use uc_oper::Counter;
 use uc_run_entry::{
     Entry, Fragment, Seqs, WhatRef, covering_fragment, is_run, plain_list_does_what_is_found,
@@ -59,12 +58,10 @@ fn points(alloc: Global, points: &[PointAt]) -> Result<Vec<Entry>, AllocError> {
     Ok(list)
 }
 
-/// A fragment that owns its ends.
+/// A fragment that shares nothing.
 fn fragment(alloc: Global, fragment: &FragmentOf) -> Result<Fragment, AllocError> {
-    let begin = Bytes::from_slice(alloc, fragment.0)?;
-    let end = Bytes::from_slice(alloc, fragment.1)?;
-    let seqs = Seqs::from(fragment.2.to_vec(alloc)?);
-    Ok(Fragment { begin, end, seqs })
+    let seqs = Seqs::alone(alloc, fragment.2)?;
+    Fragment::alone(alloc, fragment.0, fragment.1, seqs)
 }
 
 /// Fragments of these ends and sequences.
@@ -112,7 +109,7 @@ fn wants_covered(rt: &impl Abort, list: &[Fragment]) {
     for (key, want) in &COVERED {
         let found = covering_fragment(list, key);
         assert_eq!(rt;
-            found.map(|fragment| fragment.begin.as_slice()),
+            found.map(|fragment| fragment.begin()),
             *want,
             "{key:?}"
         );

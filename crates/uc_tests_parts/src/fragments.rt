@@ -92,9 +92,9 @@ static CUTS: [Cut; 9] = [
 /// Whether a fragment has these ends and sequences.
 fn is(alloc: Global, fragment: &Fragment, piece: &Piece) -> Result<bool, AllocError> {
     Ok(
-        fragment.begin.as_slice() == piece.0
-            && fragment.end.as_slice() == piece.1
-            && fragment.seqs.to_vec(alloc)?.as_slice() == piece.2,
+        fragment.begin() == piece.0
+            && fragment.end() == piece.1
+            && fragment.seqs().to_vec(alloc)?.as_slice() == piece.2,
     )
 }
 
@@ -192,15 +192,15 @@ fn plain_over(alloc: Global, ranges: &[Range<'_>], key: &[u8]) -> Result<Vec<u64
 
 /// Whether a fragment has these sequences, and returns the newest of them for each number.
 fn find_all(alloc: Global, fragment: &Fragment, seqs: &[u64]) -> Result<bool, AllocError> {
-    if !fragment.seqs.are_falling() || fragment.seqs.len() != seqs.len() as u64 {
+    if !fragment.seqs().are_falling() || fragment.seqs().len() != seqs.len() as u64 {
         return Ok(false);
     }
     for at in 0..=MOST + 1 {
-        if fragment.seqs.newest_at_or_below(at) != newest_of(seqs, at) {
+        if fragment.seqs().newest_at_or_below(at) != newest_of(seqs, at) {
             return Ok(false);
         }
     }
-    Ok(fragment.seqs.to_vec(alloc)?.as_slice() == seqs)
+    Ok(fragment.seqs().to_vec(alloc)?.as_slice() == seqs)
 }
 
 /// Whether one fragment is over a key and has these sequences, or none is and there are none.
@@ -212,7 +212,7 @@ fn are_over(
 ) -> Result<bool, AllocError> {
     let mut count = 0u64;
     for fragment in fragments {
-        if fragment.begin.as_slice() <= key && key < fragment.end.as_slice() {
+        if fragment.begin() <= key && key < fragment.end() {
             if !find_all(alloc, fragment, seqs)? {
                 return Ok(false);
             }

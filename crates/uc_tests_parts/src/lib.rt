@@ -2,8 +2,8 @@
 //!
 //! `entries.rt` has points and fragments that make a run, and `fragments.rt` range deletions cut into fragments.
 //! `points.rt` has packed points, `groups.rt` runs merged by key, and `stripes.rt` what is kept of one key and of one
-//! fragment. `given.rt` has what several of them make. `spans.rt` has spans worked by hand, and `drawn_spans.rt` random
-//! ones compared with plain lists.
+//! fragment. `given.rt` has what several of them make. `lists.rt` has lists that are shared, `spans.rt` spans worked by
+//! hand, and `drawn_spans.rt` random ones compared with plain lists.
 #![tactic(auto)]
 
 #[cfg(test)]
@@ -16,6 +16,8 @@ mod fragments;
 mod given;
 #[cfg(test)]
 mod groups;
+#[cfg(test)]
+mod lists;
 #[cfg(test)]
 mod points;
 #[cfg(test)]

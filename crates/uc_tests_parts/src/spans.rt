@@ -144,7 +144,7 @@ fn are_equal_alike(
     lists: &[&[u64]],
     other: &[u64],
 ) -> Result<bool, AllocError> {
-    let own = Seqs::from(other.to_vec(alloc)?);
+    let own = Seqs::alone(alloc, other)?;
     for (seqs, list) in shared.iter().zip(lists) {
         if (*seqs == own) != (*list == other) || (own == *seqs) != (*list == other) {
             return Ok(false);
@@ -169,7 +169,7 @@ fn shared_sequences_equal_their_lists_alone(rt: HostRuntime) -> Result<(), Fail>
 
 #[test]
 fn sequences_of_their_own_may_rise(rt: HostRuntime) -> Result<(), Fail> {
-    let rising = Seqs::from([1, 2].to_vec(rt.alloc())?);
+    let rising = Seqs::alone(rt.alloc(), &[1, 2])?;
     assert!(rt; !rising.are_falling());
     assert_eq!(rt; rising.newest(), Some(1));
     assert_eq!(rt; rising.len(), 2);

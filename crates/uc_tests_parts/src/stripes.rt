@@ -165,7 +165,7 @@ fn every_other(alloc: Global, seqs: &[u64], first: usize) -> Result<Seqs, AllocE
             part.push(*seq)?;
         }
     }
-    Ok(Seqs::from(part))
+    Seqs::alone(alloc, &part)
 }
 
 /// What is pushed after one point that is there, if the sequences come from two lists.
@@ -372,8 +372,8 @@ fn find_as(first: &Seqs, second: &Seqs, wanted: &[u64]) -> bool {
 
 /// Whether the lists of a case find what their plain list does.
 fn find_as_wanted(alloc: Global, case: &OfLists) -> Result<bool, AllocError> {
-    let first = Seqs::from(case.first.to_vec(alloc)?);
-    let second = Seqs::from(case.second.to_vec(alloc)?);
+    let first = Seqs::alone(alloc, case.first)?;
+    let second = Seqs::alone(alloc, case.second)?;
     Ok(find_as(&first, &second, case.wanted))
 }
 

@@ -28,13 +28,13 @@ impl Parts {
     }
 
     /// Appends what a line says.
-    fn push(&mut self, said: Said) -> Result<(), AllocError> {
+    fn push(&mut self, alloc: Global, said: Said) -> Result<(), AllocError> {
         for seq in &said.seqs {
             self.low = self.low.min(*seq);
             self.high = self.high.max(*seq);
         }
         if said.kind == OpKind::DeleteRange {
-            self.fragments.push(said.into_fragment())?;
+            self.fragments.push(said.to_fragment(alloc)?)?;
         } else {
             self.points.push(said.into_point())?;
         }
@@ -45,7 +45,7 @@ impl Parts {
 /// Appends what a line says with each byte that stands in turn.
 fn push_line(parts: &mut Parts, alloc: Global, line: &str) -> Result<(), CaseError> {
     for each in &each_in(alloc, line)? {
-        parts.push(Said::read(alloc, line, *each)?)?;
+        parts.push(alloc, Said::read(alloc, line, *each)?)?;
     }
     Ok(())
 }

@@ -21,8 +21,8 @@ fn push_ranges(
     alloc: Global,
     fragment: &Fragment,
 ) -> Result<(), AllocError> {
-    for seq in &fragment.seqs.to_vec(alloc)? {
-        let op = OpRef::delete_range(fragment.begin.as_slice(), fragment.end.as_slice());
+    for seq in &fragment.seqs().to_vec(alloc)? {
+        let op = OpRef::delete_range(fragment.begin(), fragment.end());
         writes.push(WriteRef::new(*seq, op).to_write(alloc)?)?;
     }
     Ok(())
@@ -71,8 +71,8 @@ fn push_keys(keys: &mut Vec<Vec<u8>>, alloc: Global, points: &Points) -> Result<
 pub fn push_keys_of(keys: &mut Vec<Vec<u8>>, alloc: Global, run: &Run) -> Result<(), AllocError> {
     push_keys(keys, alloc, run.entries())?;
     for fragment in run.fragments() {
-        push_beside(keys, alloc, fragment.begin.as_slice())?;
-        push_beside(keys, alloc, fragment.end.as_slice())?;
+        push_beside(keys, alloc, fragment.begin())?;
+        push_beside(keys, alloc, fragment.end())?;
     }
     Ok(())
 }

@@ -42,9 +42,9 @@ fn push_numbers(text: &mut String, numbers: &[u64]) -> Result<(), AllocError> {
 
 /// Appends the line of a fragment.
 fn push_fragment(text: &mut String, alloc: Global, fragment: &Fragment) -> Result<(), AllocError> {
-    push_numbers(text, &fragment.seqs.to_vec(alloc)?)?;
-    push_word(text, " range ", fragment.begin.as_slice())?;
-    push_word(text, " ", fragment.end.as_slice())?;
+    push_numbers(text, &fragment.seqs().to_vec(alloc)?)?;
+    push_word(text, " range ", fragment.begin())?;
+    push_word(text, " ", fragment.end())?;
     text.push('\n')
 }
 

@@ -95,17 +95,8 @@ impl Said {
     }
 
     /// The fragment that it says.
-    pub fn into_fragment(self) -> Fragment {
-        let Said {
-            seqs,
-            kind: _,
-            first,
-            second,
-        } = self;
-        Fragment {
-            begin: Bytes::from(first),
-            end: Bytes::from(second),
-            seqs: Seqs::from(seqs),
-        }
+    pub fn to_fragment(&self, alloc: Global) -> Result<Fragment, AllocError> {
+        let seqs = Seqs::alone(alloc, &self.seqs)?;
+        Fragment::alone(alloc, &self.first, &self.second, seqs)
     }
 }

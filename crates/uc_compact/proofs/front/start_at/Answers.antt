@@ -1,5 +1,5 @@
 use Rattle.std.proofs.Common.{sym, ◌∙◌}
-use Rattle.uc_compact.proofs.Fronts.{before_place}
+use Rattle.uc_compact.proofs.FirstAbove.{before_place}
 use Rattle.uc_compact.proofs.front.start_at.Goals as goal
 
 pub returns-then-ends_by-clause-before : goal.returns-then-ends_by-clause-before

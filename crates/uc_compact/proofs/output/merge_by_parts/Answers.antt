@@ -25,8 +25,8 @@ from_points_in_threads-requires-after_bounds g c κs within =
     let asked : Compaction = record { inputs = map arc_value c.args.inputs.now; keeps = c.args.keeps.now; oldest = c.args.oldest } in
     is_run_by (output_of m asked) c.low_seq-low.result c.high_seq-high.result c.in_ok-points.points c.in_ok-fragments.fragments c.low_seq-low.ensures c.high_seq-high.ensures c.in_ok-points.ensures c.in_ok-fragments.ensures (c.compaction_gives_a_run.ensures asked c.are_runs.ensures c.requires.stand)
 
-pub returns : goal.returns
-returns g c =
+pub returns-else-parts-eq1 : goal.returns-else-parts-eq1
+returns-else-parts-eq1 g c =
     let m = g.O.Operator.meaning in
     let asked : Compaction = record { inputs = map arc_value c.args.inputs.now; keeps = c.args.keeps.now; oldest = c.args.oldest } in
     subst (λ (r : Contents). IfOk c.from_points_in_threads.result (λ run. run ≡ r)) (run_by (output_of m asked) c.low_seq-low.result c.high_seq-high.result c.in_ok-points.points c.in_ok-fragments.fragments c.low_seq-low.ensures c.high_seq-high.ensures c.in_ok-points.ensures c.in_ok-fragments.ensures) c.from_points_in_threads.ensures

@@ -2,20 +2,13 @@ use Rattle.std.proofs.Common.{◌≡◌, map}
 use Rattle.std.specs.Arc.{arc_value}
 use Rattle.std.proofs.lemmas.Result.{IfOk-weaker}
 use Rattle.uc_compact.specs.Inputs.{Compaction, keeping_of}
-use Rattle.uc_compact.proofs.Building.{in_order_in, one_key_in, points_by, keeping_by}
+use Rattle.uc_compact.proofs.Building.{points_by, keeping_by}
 use Rattle.uc_compact.proofs.output.points_alone.Goals as goal
-
-pub points_kept_alone-requires-clause-order : goal.points_kept_alone-requires-clause-order
-points_kept_alone-requires-clause-order g c =
-    let m = g.O.Operator.meaning in
-    let asked : Compaction = record { inputs = map arc_value c.args.inputs.now; keeps = c.args.keeps.now; oldest = c.args.oldest } in
-    in_order_in m asked c.args.pieces.now c.requires.pieces
 
 pub points_kept_alone-requires-clause-each : goal.points_kept_alone-requires-clause-each
 points_kept_alone-requires-clause-each g c = λ key.
-    let m = g.O.Operator.meaning in
     let asked : Compaction = record { inputs = map arc_value c.args.inputs.now; keeps = c.args.keeps.now; oldest = c.args.oldest } in
-    one_key_in m asked key c.args.pieces.now c.requires.pieces (c.points_are_chosen_key_by_key.ensures.fall asked key c.are_runs.ensures c.requires.stand)
+    c.points_are_chosen_key_by_key.ensures.fall asked key c.are_runs.ensures c.requires
 
 pub returns : goal.returns
 returns g c =
@@ -23,4 +16,4 @@ returns g c =
     let asked : Compaction = record { inputs = map arc_value c.args.inputs.now; keeps = c.args.keeps.now; oldest = c.args.oldest } in
     let keeping : c.new-keeping.result ≡ keeping_of asked = keeping_by asked c.new-keeping.result c.bottom_of.result c.new-keeping.ensures c.bottom_of.ensures in
     IfOk-weaker c.points_kept_alone.result _ _
-    (λ points made. points_by m asked c.new-keeping.result c.args.pieces.now points keeping c.requires.pieces made (c.points_are_chosen_key_by_key.ensures.points asked c.are_runs.ensures c.requires.stand)) c.points_kept_alone.ensures
+    (λ points made. points_by m asked c.new-keeping.result points keeping made (c.points_are_chosen_key_by_key.ensures.points asked c.are_runs.ensures c.requires)) c.points_kept_alone.ensures

@@ -1,7 +1,7 @@
 use Rattle.std.proofs.Common.{ℕ, filter, sym, ◌∙◌}
 use Rattle.std.specs.Prelude.{nat_le}
 use Rattle.std.specs.List.{flat_map}
-use Rattle.uc_run_entry.specs.declared.fragment.Fragment.{Fragment}
+use Rattle.uc_run_entry.specs.Fragment.{Fragment}
 use Rattle.uc_run_entry.specs.Run.{covers}
 use Rattle.uc_run.proofs.PutFirst.{put_first_does}
 use Rattle.uc_run.proofs.lookup.effect_found.Goals as goal

@@ -4,7 +4,7 @@ use Rattle.std.specs.List.{flat_map}
 use Rattle.std.specs.List.Sorted.{IsPartitionedBy}
 use Rattle.uc_oper.specs.declared.effect.Effect.{Effect}
 use Rattle.uc_run_entry.specs.declared.entry.Entry.{Entry}
-use Rattle.uc_run_entry.specs.declared.fragment.Fragment.{Fragment}
+use Rattle.uc_run_entry.specs.Fragment.{Fragment}
 use Rattle.uc_run_entry.specs.Lookup.{points_effect}
 use Rattle.uc_run_entry.specs.Run.{covers}
 use Rattle.uc_run.specs.Found.{before_points}

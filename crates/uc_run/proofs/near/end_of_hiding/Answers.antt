@@ -1,6 +1,6 @@
 use Rattle.std.proofs.Common.{rules, ◌≡◌, ℕ, true, false, List, Some, Bor, sym, ap, ◌∙◌, subst, option_map, filter, []}
 use Rattle.std.specs.List.{AllByRecursion}
-use Rattle.uc_run_entry.specs.declared.fragment.Fragment.{Fragment}
+use Rattle.uc_run_entry.specs.Fragment.{Fragment}
 use Rattle.uc_run_entry.specs.Order.{IsFalling}
 use Rattle.uc_run_entry.specs.Run.{covers}
 use Rattle.uc_run_entry.proofs.Points.{all-filtered}
@@ -17,17 +17,17 @@ pub is_any_by-requires : goal.is_any_by-requires
 is_any_by-requires c =
     let all = all-filtered (λ f. IsFalling f.seqs) (λ g. covers g c.args.key.now) c.args.fragments.now c.requires.falling in
     let one = subst (AllByRecursion (λ (f : Fragment). IsFalling f.seqs)) c.in_ok-fragment.ensures.some all in
-    one.0
+    subst (λ (seqs : List ℕ). IsFalling seqs) (sym c.seqs.ensures) one.0
 
 pub returns-then-is_any_by : goal.returns-then-is_any_by
 returns-then-is_any_by c =
     let fragment = c.in_ok-fragment.fragment.now in
-    let passes : seen c.args.at fragment.seqs ≡ true = sym c.is_any_by.ensures ∙ c.if-is_any_by.true in
-    ap Some c.as_slice.ensures
+    let passes : seen c.args.at fragment.seqs ≡ true = ap (seen c.args.at) (sym c.seqs.ensures) ∙ sym c.is_any_by.ensures ∙ c.if-is_any_by.true in
+    ap Some c.end.ensures
     ∙ sym (ap (option_map (λ (f : Fragment). f.end)) (one_hides c.args.at c.args.key.now c.args.fragments.now fragment true c.in_ok-fragment.ensures.some passes))
 
 pub returns-else-is_any_by : goal.returns-else-is_any_by
 returns-else-is_any_by c =
     let fragment = c.in_ok-fragment.fragment.now in
-    let fails : seen c.args.at fragment.seqs ≡ false = sym c.is_any_by.ensures ∙ c.if-is_any_by.false in
+    let fails : seen c.args.at fragment.seqs ≡ false = ap (seen c.args.at) (sym c.seqs.ensures) ∙ sym c.is_any_by.ensures ∙ c.if-is_any_by.false in
     sym (ap (option_map (λ (f : Fragment). f.end)) (one_hides c.args.at c.args.key.now c.args.fragments.now fragment false c.in_ok-fragment.ensures.some fails))

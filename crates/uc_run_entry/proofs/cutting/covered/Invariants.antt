@@ -1,4 +1,4 @@
-use Rattle.std.proofs.Common.{◌≡◌, map, take}
+use Rattle.std.proofs.Common.{◌≡◌, take}
 use Rattle.std.specs.Arc.{arc_value}
 use Rattle.uc_run_entry.specs.Cutting.{pieces}
 use Rattle.uc_run_entry.specs.Spanning as spanning
@@ -6,4 +6,4 @@ use Rattle.uc_run_entry.specs.Spanning.{with_seqs}
 use Rattle.uc_run_entry.proofs.cutting.covered.Given as goal
 
 abbrev pub invariant-loop-piece : goal.invariant-loop-piece
-invariant-loop-piece l = l.fragments.items ≡ spanning.covered (take l.piece (with_seqs (pieces (map (λ cut. cut.now) l.cuts)) (arc_value l.spans)))
+invariant-loop-piece l = l.fragments.items ≡ spanning.covered (take l.piece (with_seqs (pieces (arc_value l.cuts)) (arc_value l.spans)))

@@ -5,7 +5,7 @@ use Rattle.std.specs.List.Sorted.{IsStrictlySortedBy}
 use Rattle.uc_oper.specs.declared.effect.Effect.{Effect}
 use Rattle.uc_model.specs.Meaning.{effect_on}
 use Rattle.uc_run_entry.specs.declared.entry.Entry.{Entry}
-use Rattle.uc_run_entry.specs.declared.fragment.Fragment.{Fragment}
+use Rattle.uc_run_entry.specs.Fragment.{Fragment}
 use Rattle.uc_run_entry.specs.Lookup.{is_visible}
 use Rattle.uc_run_entry.specs.Order.{IsFalling, entry_cmp}
 use Rattle.uc_run_entry.specs.PlainList.{plain_list}

@@ -1,5 +1,5 @@
 use Rattle.std.proofs.Common.{List, filter, ap, ◌∙◌}
-use Rattle.uc_run_entry.specs.declared.fragment.Fragment.{Fragment}
+use Rattle.uc_run_entry.specs.Fragment.{Fragment}
 use Rattle.uc_run_entry.specs.Run.{covers}
 use Rattle.uc_run.specs.Cursors.{Standing}
 use Rattle.uc_run.specs.Hiding.{hidden_to}
