@@ -176,7 +176,7 @@ pub(crate) fn drawn(
 fn most_seqs(run: &Run) -> u64 {
     let mut most = 0;
     for fragment in run.fragments() {
-        most = most.max(fragment.seqs.len());
+        most = most.max(fragment.seqs().len());
     }
     most
 }

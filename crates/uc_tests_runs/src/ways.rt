@@ -111,15 +111,15 @@ fn told_end<'a>(
     at: u64,
 ) -> Result<Option<&'a [u8]>, AllocError> {
     for fragment in run.fragments() {
-        let is_over = fragment.begin.as_slice() <= key && key < fragment.end.as_slice();
+        let is_over = fragment.begin() <= key && key < fragment.end();
         if is_over
             && fragment
-                .seqs
+                .seqs()
                 .to_vec(alloc)?
                 .last()
                 .is_some_and(|seq| *seq <= at)
         {
-            return Ok(Some(fragment.end.as_slice()));
+            return Ok(Some(fragment.end()));
         }
     }
     Ok(None)
