@@ -55,11 +55,7 @@ fn few_seqs(alloc: Global, spans: &Spans) -> Result<Lists<u64>, AllocError>
 }
 
 /// The sequences of a piece: a list if they are few, else a share of the spans.
-fn seqs_over(
-    spans: &Arc<Spans>,
-    few: &Arc<Lists<u64>>,
-    piece: usize,
-) -> Result<Seqs, AllocError>
+fn seqs_over(spans: &Arc<Spans>, few: &Arc<Lists<u64>>, piece: usize) -> Result<Seqs, AllocError>
     requires piece { piece < length (arc_value spans.now) }
     requires few { arc_value few.now ≡ map (spanning.if_few FEW) (arc_value spans.now) }
     ensures { IfOk result (λ seqs. seqs ≡ slice_index_or (arc_value spans.now) piece []) }

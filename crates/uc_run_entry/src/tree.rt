@@ -95,7 +95,11 @@ fn push_nodes(
 }
 
 /// What each node of the tree over `fragments` fragments holds.
-pub(crate) fn nodes(alloc: Global, fragments: usize, spans: &[Span]) -> Result<Lists<u64>, AllocError>
+pub(crate) fn nodes(
+    alloc: Global,
+    fragments: usize,
+    spans: &[Span],
+) -> Result<Lists<u64>, AllocError>
     ensures { IfOk result (λ lists. lists ≡ tree.nodes fragments 0 fragments spans.now) }
 {
     let mut lists = Lists::new(alloc)?;

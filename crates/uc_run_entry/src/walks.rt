@@ -10,7 +10,12 @@ use crate::newest::{newer, newest_at_or_below};
 use crate::node::Node;
 
 /// The newest sequence at or below a number that a node over a fragment holds.
-pub(crate) fn newest_over(nodes: &Lists<u64>, fragments: usize, fragment: usize, at: u64) -> Option<u64>
+pub(crate) fn newest_over(
+    nodes: &Lists<u64>,
+    fragments: usize,
+    fragment: usize,
+    at: u64,
+) -> Option<u64>
     requires all { length nodes.now + 1 ≡ 2 * fragments }
     requires within { fragment < fragments }
     requires falling { AllByRecursion Descends nodes.now }

@@ -108,11 +108,7 @@ fn wants_covered(rt: &impl Abort, list: &[Fragment]) {
     assert!(rt; is_run(1, 9, &[], list));
     for (key, want) in &COVERED {
         let found = covering_fragment(list, key);
-        assert_eq!(rt;
-            found.map(|fragment| fragment.begin()),
-            *want,
-            "{key:?}"
-        );
+        assert_eq!(rt; found.map(|fragment| fragment.begin()), *want, "{key:?}");
     }
 }
 

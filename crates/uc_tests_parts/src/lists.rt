@@ -20,11 +20,13 @@ fn is_listed(
         return Ok(false);
     }
     let seqs = Seqs::listed(lists, number)?;
-    Ok(lists.list(number) == list
-        && seqs.to_vec(alloc)?.as_slice() == list
-        && seqs.len() == list.len() as u64
-        && seqs.newest() == list.first().copied()
-        && seqs == Seqs::alone(alloc, list)?)
+    Ok(
+        lists.list(number) == list
+            && seqs.to_vec(alloc)?.as_slice() == list
+            && seqs.len() == list.len() as u64
+            && seqs.newest() == list.first().copied()
+            && seqs == Seqs::alone(alloc, list)?,
+    )
 }
 
 #[test]
@@ -52,10 +54,12 @@ fn lies_between(cuts: &Arc<Lists<u8>>, first: usize, seq: u64) -> Result<bool, A
         return Ok(false);
     }
     let fragment = Fragment::new(cuts.clone()?, first, Seqs::one(seq));
-    Ok(fragment.begin() == cuts.list(first)
-        && fragment.end() == cuts.list(first + 1)
-        && fragment.seqs().newest() == Some(seq)
-        && fragment == fragment.clone()?)
+    Ok(
+        fragment.begin() == cuts.list(first)
+            && fragment.end() == cuts.list(first + 1)
+            && fragment.seqs().newest() == Some(seq)
+            && fragment == fragment.clone()?,
+    )
 }
 
 #[test]
