@@ -12,6 +12,7 @@ use std::alloc::{AllocError, Global};
 use std::marker::Model;
 use uc_bytes::Bytes;
 use uc_oper::{Operator, ValueRef};
+use uc_run::text_order;
 use uc_version_state::Placed;
 
 /// The place of a walk over the points of runs. A contract sees it as the runs' contents, the newest first, and the
@@ -43,7 +44,7 @@ fn is_below(key: &[u8], high: &Option<Bytes>) -> bool
 {
     match high {
         None => true,
-        Some(high) => key.cmp(&high.as_slice()).is_lt(),
+        Some(high) => text_order(key, high.as_slice()).is_lt(),
     }
 }
 

@@ -16,7 +16,7 @@ use std::alloc::{AllocError, Global};
 use std::marker::Model;
 use uc_model::{effect_gives_value, effects_of_parts_compose};
 use uc_oper::{Effect, EffectRef, Operator, ValueRef};
-use uc_run::{Cursor, Head, Heads, keys_at_places_are_next, other_keys_are_kept};
+use uc_run::{Cursor, Head, Heads, keys_at_places_are_next, other_keys_are_kept, text_order};
 use uc_version_state::Placed;
 
 /// The least of the next keys.
@@ -99,7 +99,7 @@ fn least_of<'a>(newer: Option<Head<'a>>, oldest: Option<&'a [u8]>) -> Option<Lea
 {
     match (newer, oldest) {
         (Some(head), Some(key)) => {
-            if key.cmp(&head.key).is_lt() {
+            if text_order(key, head.key).is_lt() {
                 Some(Least { key, number: None })
             } else {
                 Some(Least {

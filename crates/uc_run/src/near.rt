@@ -6,6 +6,7 @@ ghost use Rattle.uc_run_entry.specs.Run.{covers};
 ghost use Rattle.uc_run.specs.Cursors as cursors;
 ghost use Rattle.uc_run.specs.Hiding.{hides};
 
+use crate::texts::text_order;
 use uc_run_entry::{Fragment, Seqs, covering_fragment};
 
 /// Whether a fragment ends at or before a key.
@@ -13,7 +14,7 @@ use uc_run_entry::{Fragment, Seqs, covering_fragment};
 fn ends_by(fragment: &Fragment, key: &[u8]) -> bool
     ensures { result ≡ cursors.ends_by key.now fragment.now }
 {
-    fragment.end().cmp(&key).is_le()
+    text_order(fragment.end(), key).is_le()
 }
 
 /// The fragments from a place on, if those before it end by the key; otherwise all.

@@ -21,7 +21,7 @@ pub(crate) fn insert(
 #[test]
 fn drawn_writes_keep_their_effects(rt: HostRuntime) -> Result<(), Fail> {
     let mut dice = Dice(7);
-    for _ in 0..200 {
+    for _ in 0..50 {
         wants_drawn(&rt, rt.alloc(), &mut dice, Kinds::Each, &KEYS)?;
     }
     Ok(())
