@@ -13,6 +13,9 @@ use Rattle.uc_compact.specs.Inputs.{AreRuns, points_of}
 use Rattle.uc_compact.specs.Choice.{AreOfOneKey, points_for, points_named, seqs_over}
 use Rattle.uc_compact.specs.Parts.{points_of_each}
 use Rattle.uc_compact.specs.Kept.{AreOfOneKeyEach}
+use Rattle.uc_compact.specs.Lasting.{lasting_group}
+use Rattle.uc_compact.proofs.LastingPoints.{lasting_groups, lasting_have}
+use Rattle.uc_compact.proofs.Parted.{Rise}
 use Rattle.uc_compact.proofs.Pushing.{of_groups, HasOneKey}
 
 -- lists that are seen as the points of runs
@@ -53,12 +56,21 @@ module _ (m : Operation) (keeping : Keeping) (cut : List Fragment) (points : Lis
   pub groups_by_key : of_groups m keeping cut (groups_of points) ≡ flat_map (λ key. points_for m keeping key (points_named key points) (seqs_over key cut)) (keys_of points)
   groups_by_key = by_key (keys_of points)
 
-  -- by what the groups are equal to
-  pub each_by : (groups : List Group) → groups ≡ groups_of points → ((key : List ℕ) → AreOfOneKey (points_named key points) (seqs_over key cut)) → AllByRecursion (HasOneKey m keeping cut) groups
-  each_by groups e h = subst (AllByRecursion (HasOneKey m keeping cut)) (sym e) (each_group h)
+  -- by what the groups are equal to: those of their points that last do the same
+  module _ (rise : Rise keeping.keeps) (groups : List Group) (keeps : List ℕ) (same : keeps ≡ keeping.keeps) (are : groups ≡ map (lasting_group keeps) (groups_of points)) (each : (key : List ℕ) → AreOfOneKey (points_named key points) (seqs_over key cut)) where
+    lasting_are : groups ≡ map (lasting_group keeping.keeps) (groups_of points)
+    lasting_are = are ∙ ap (λ (ks : List ℕ). map (lasting_group ks) (groups_of points)) same
 
-  pub kept_by : (groups : List Group) (before after : List Entry) → groups ≡ groups_of points → before ≡ [] → after ≡ before ++ of_groups m keeping cut groups → after ≡ flat_map (λ key. points_for m keeping key (points_named key points) (seqs_over key cut)) (keys_of points)
-  kept_by groups before after e empty made = made ∙ ap (λ (ps : List Entry). ps ++ of_groups m keeping cut groups) empty ∙ ap (of_groups m keeping cut) e ∙ groups_by_key
+    pub each_by : AllByRecursion (HasOneKey m keeping cut) groups
+    each_by = subst (AllByRecursion (HasOneKey m keeping cut)) (sym lasting_are) (lasting_have m keeping rise cut (groups_of points) (each_group each))
+
+    pub kept_by : (before after : List Entry) → before ≡ [] → after ≡ before ++ of_groups m keeping cut groups → after ≡ flat_map (λ key. points_for m keeping key (points_named key points) (seqs_over key cut)) (keys_of points)
+    kept_by before after empty made =
+        made
+        ∙ ap (λ (ps : List Entry). ps ++ of_groups m keeping cut groups) empty
+        ∙ ap (of_groups m keeping cut) lasting_are
+        ∙ lasting_groups m keeping rise cut (groups_of points) (each_group each)
+        ∙ groups_by_key
 
 -- the runs that are lent have the points of the inputs
 pub lent_points : {X : Type 0} (f : X → List Entry) (xs lent : List X) (runs : List Contents) → map f xs ≡ points_of_each runs → lent ≡ xs → flat_map f lent ≡ points_of runs

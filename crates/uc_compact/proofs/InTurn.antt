@@ -16,7 +16,7 @@ use Rattle.uc_run_entry.specs.Overwriting.{sets, overwrites}
 use Rattle.uc_compact.proofs.Effects.{points_effect-append, continued}
 
 module _ (m : Operation) where
-  set_after : (older other : Effect) (what : What) → sets what ≡ true → composed m older (what_effect what) ≡ composed m other (what_effect what)
+  pub set_after : (older other : Effect) (what : What) → sets what ≡ true → composed m older (what_effect what) ≡ composed m other (what_effect what)
   set_after older other (Put value) e = refl
   set_after older other Delete e = refl
   set_after older other (Merge operand) e = absurd (false≢true e)

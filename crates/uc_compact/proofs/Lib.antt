@@ -1,5 +1,6 @@
 pub mod Together
 pub mod Pushing
+pub mod LastingPoints
 pub mod Grouping
 pub mod Building
 pub mod Lists

@@ -2,12 +2,13 @@
 use Rattle.std.proofs.Common.{◌≡◌, ◌≢◌, ℕ, zero, suc, ◌+◌, ◌-◌, ◌<◌, ◌≤◌, inl, inr, Bool, true, false, cond, List, [], ◌∷◌, ◌++◌, length, get_or, set, map, take, drop, Option, Some, None, refl, sym, ap, ◌∙◌, subst, arith}
 use Rattle.std.specs.List.{AllByRecursion, AllWithin, flat_map}
 use Rattle.std.specs.Cmp.Lexicographic.{bytes_decides}
-use Rattle.std.proofs.lemmas.List.{get_or-map, append-nil, map-set, set-get_or}
+use Rattle.std.proofs.lemmas.List.{get_or-map, map-set, set-get_or}
 use Rattle.uc_bytes.specs.Bytes.{same_bytes}
 use Rattle.uc_run_entry.specs.declared.entry.Entry.{Entry}
 use Rattle.uc_run_entry.proofs.Written.{written}
 use Rattle.uc_run.specs.Heads as heads
 use Rattle.uc_compact.specs.Heads.{first_key, first_named, IsFrom, IsOther, IsLeast}
+use Rattle.uc_compact.specs.Lasting.{with_next, with_lasting}
 use Rattle.uc_compact.proofs.Stepping.{gathered}
 
 -- ---- the first keys of lists
@@ -53,18 +54,33 @@ moved keys lists i ps own beside is =
     ∙ ap (λ (k : Option (List ℕ)). set (map first_key lists) i k) is
     ∙ sym (map-set first_key lists i ps)
 
+-- ---- what lasts of points that come in two parts
+
+with_lasting-append : (keeps : List ℕ) (points newer older : List Entry) → with_lasting keeps points (newer ++ older) ≡ with_lasting keeps (with_lasting keeps points newer) older
+with_lasting-append keeps points [] older = refl
+with_lasting-append keeps points (p ∷ newer) older = with_lasting-append keeps (with_next keeps points p) newer older
+
 -- ---- nothing is taken from one that isn't at the key
 
-module _ (key : List ℕ) where
+module _ (keeps : List ℕ) (key : List ℕ) where
   abbrev left : List Entry → List Entry
   left ps = drop (first_named key ps) ps
 
   abbrev taken : List Entry → List Entry
   taken ps = take (first_named key ps) ps
 
-  -- up to a place all cursors have moved past the key, and its points have been taken
+  -- up to a place all cursors have moved past the key, and those of its points that last have been taken
   abbrev pub IsTakenTo : List (List Entry) → List (List Entry) → List Entry → List Entry → ℕ → Type 0
-  IsTakenTo old now before so_far i = (now ≡ map left (take i old) ++ drop i old) × (so_far ≡ before ++ flat_map taken (take i old))
+  IsTakenTo old now before so_far i = (now ≡ map left (take i old) ++ drop i old) × (so_far ≡ with_lasting keeps before (flat_map taken (take i old)))
+
+  pub gathered_lasting : (old now : List (List Entry)) (i : ℕ) (d before so_far after : List Entry) → i < length old → now ≡ map left (take i old) ++ drop i old → so_far ≡ with_lasting keeps before (flat_map taken (take i old)) → after ≡ with_lasting keeps so_far (taken (get_or now i d)) → after ≡ with_lasting keeps before (flat_map taken (take (i + 1) old))
+  gathered_lasting old now i d before so_far after lt is had made =
+      let named : List Entry = flat_map taken (take i old) in
+      let more : List Entry = taken (get_or now i d) in
+      made
+      ∙ ap (λ (ps : List Entry). with_lasting keeps ps more) had
+      ∙ sym (with_lasting-append keeps before named more)
+      ∙ ap (with_lasting keeps before) (gathered left taken old now i d [] named (named ++ more) lt is refl refl)
 
   unnamed_by : (p : Entry) (ps : List Entry) (b : Bool) → same_bytes p.key key ≡ b → p.key ≢ key → cond b (suc (first_named key ps)) 0 ≡ 0
   unnamed_by p ps true e other = absurd (other ((bytes_decides p.key key).0 e))
@@ -89,8 +105,8 @@ module _ (key : List ℕ) where
       unmoved : now ≡ map left (take (i + 1) old) ++ drop (i + 1) old
       unmoved = sym (set-get_or now i []) ∙ written left old now i [] here lt is (ap (λ n. drop n here) (sym none))
 
-      untaken : (before so_far : List Entry) → so_far ≡ before ++ flat_map taken (take i old) → so_far ≡ before ++ flat_map taken (take (i + 1) old)
-      untaken before so_far had = gathered left taken old now i [] before so_far so_far lt is had (sym (append-nil so_far) ∙ ap (λ n. so_far ++ take n here) (sym none))
+      untaken : (before so_far : List Entry) → so_far ≡ with_lasting keeps before (flat_map taken (take i old)) → so_far ≡ with_lasting keeps before (flat_map taken (take (i + 1) old))
+      untaken before so_far had = gathered_lasting old now i [] before so_far so_far lt is had (ap (λ n. with_lasting keeps so_far (take n here)) (sym none))
 
     passed_by : (i n : ℕ) → i + n ≤ length old → length now ≡ length old → AllWithin (λ k. k ≢ Some key) keys i (i + n) → (before so_far : List Entry) → IsTakenTo old now before so_far i → IsTakenTo old now before so_far (i + n)
     passed_by i zero le long others before so_far h = subst (IsTakenTo old now before so_far) (omega arith) h

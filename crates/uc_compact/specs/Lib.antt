@@ -1,6 +1,7 @@
 pub mod Made
 pub mod Parts
 pub mod Groups
+pub mod Lasting
 pub mod Kept
 pub mod Cuts
 pub mod Heads

@@ -1,8 +1,12 @@
 //! [`Cursor`]: the place of a merge in one run.
-ghost use Rattle.std.specs.Prelude.{◌≡◌, ◌++◌, ◌∷◌, true, option_map, take, drop, IfSome, IfNone, OnOk};
+ghost use Rattle.std.specs.Prelude.{◌≡◌, ◌∷◌, true, option_map, take, drop, IfSome, IfNone, OnOk};
+ghost use Rattle.std.specs.List.Sorted.{IsStrictlySortedBy};
+ghost use Rattle.std.specs.Ordering.{nat_cmp};
 ghost use Rattle.uc_bytes.specs.Bytes.{same_bytes};
 ghost use Rattle.uc_compact.specs.Heads as heads;
+ghost use Rattle.uc_compact.specs.Lasting.{with_lasting};
 
+use crate::lasting_points::push_lasting;
 use std::alloc::AllocError;
 use std::marker::Model;
 use std::mem;
@@ -67,18 +71,22 @@ impl<'a> Cursor<'a> {
         }
     }
 
-    /// Pushes the next points as long as they are of the key, and moves past them. After an `Err` it may have moved past some.
+    /// Pushes the next points as long as they are of the key, but for those that one before them hides, and moves past them.
+    /// After an `Err` it may have moved past some.
     pub(crate) fn take_named(
         &mut self,
+        keeps: &[u64],
         key: &[u8],
         points: &mut Vec<PointRef<'a>>,
     ) -> Result<(), AllocError>
+        requires { IsStrictlySortedBy nat_cmp keeps.now }
         ensures taken { OnOk result
-            (points.new.items ≡ points.old.items ++ take (heads.first_named key.now self.old) self.old) }
+            (points.new.items ≡
+            with_lasting keeps.now points.old.items (take (heads.first_named key.now self.old) self.old)) }
         ensures left { OnOk result (self.new ≡ drop (heads.first_named key.now self.old) self.old) }
     {
         while let Some(point) = self.next_named(key) {
-            points.push(point)?;
+            push_lasting(keeps, points, point)?;
         }
         Ok(())
     }

@@ -1,9 +1,11 @@
 //! [`Groups`]: the points of several runs, key by key.
-ghost use Rattle.std.specs.Prelude.{◌≡◌, ◌++◌, [], map, option_map, take, drop, OnOk, OnErr, IfOk};
+ghost use Rattle.std.specs.Prelude.{◌≡◌, [], map, option_map, take, drop, OnOk, OnErr, IfOk};
 ghost use Rattle.std.specs.List.{AllByRecursion, flat_map};
 ghost use Rattle.std.specs.List.Sorted.{IsStrictlySortedBy};
+ghost use Rattle.std.specs.Ordering.{nat_cmp};
 ghost use Rattle.uc_run_entry.specs.Order.{entry_cmp};
 ghost use Rattle.uc_compact.specs.Groups.{groups_of, Comes};
+ghost use Rattle.uc_compact.specs.Lasting.{lasting_group, with_lasting};
 ghost use Rattle.uc_run.specs.Heads.{number_of};
 ghost use Rattle.uc_compact.specs.Heads.{first_key, first_named};
 
@@ -13,10 +15,13 @@ use std::marker::Model;
 use uc_run::{Head, Heads};
 use uc_run_points::{PointRef, PointSlice};
 
-/// The place of a merge in several runs. A contract sees it as the groups that are still ahead: for each key its
-/// points, those of the first run first.
+/// The place of a merge in several runs. A contract sees it as the groups that are still ahead: for each key those of its points
+/// that none of them hides from all reads, those of the first run first. So it never holds many points of a key that is put or
+/// deleted again and again.
 #[derive(Debug, Drop)]
 pub struct Groups<'a> {
+    /// The sequences of reads.
+    keeps: &'a [u64],
     cursors: Vec<Cursor<'a>>,
     /// The next key of each: a step touches only the cursors that are at its key.
     heads: Heads<'a>,
@@ -45,27 +50,29 @@ fn cursors_over<'a>(alloc: Global, runs: &[PointSlice<'a>]) -> Result<Vec<Cursor
     Ok(cursors)
 }
 
-/// Takes the points of the key from each cursor that is at it, in order. After an `Err` the cursors and heads are no
-/// longer of use.
+/// Takes the points of the key that last from each cursor that is at it, in order. After an `Err` the cursors and heads are
+/// no longer of use.
 fn take_from_each<'a>(
+    keeps: &[u64],
     cursors: &mut [Cursor<'a>],
     heads: &mut Heads<'a>,
     head: Head<'_>,
     points: &mut Vec<PointRef<'a>>,
 ) -> Result<(), AllocError>
+    requires rise { IsStrictlySortedBy nat_cmp keeps.now }
     requires keys { heads.old.keys ≡ map first_key cursors.old }
     requires number { head.number ≡ number_of heads.old.front head.key.now }
     ensures taken { OnOk result
         (points.new.items ≡
-        points.old.items
-        ++ flat_map (λ ps. take (first_named head.entry.key.now ps) ps) cursors.old) }
+        with_lasting keeps.now points.old.items
+        (flat_map (λ ps. take (first_named head.entry.key.now ps) ps) cursors.old)) }
     ensures left { OnOk result (cursors.new ≡ map (λ ps. drop (first_named head.entry.key.now ps) ps) cursors.old) }
     ensures heads { OnOk result (heads.new.keys ≡ map first_key cursors.new) }
 {
     let mut place = heads.next_at(0, head);
     while place < cursors.len() {
         let cursor = &mut cursors[place];
-        cursor.take_named(head.key, points)?;
+        cursor.take_named(keeps, head.key, points)?;
         heads.set(place, cursor.key());
         place = heads.next_at(place + 1, head);
     }
@@ -73,14 +80,24 @@ fn take_from_each<'a>(
 }
 
 impl<'a> Groups<'a> {
-    /// All groups of runs, each of which has its points in order.
-    pub fn over(alloc: Global, runs: &[PointSlice<'a>]) -> Result<Groups<'a>, AllocError>
-        requires { AllByRecursion (IsStrictlySortedBy entry_cmp) runs.now }
-        ensures { IfOk result (λ groups. groups ≡ groups_of (flat_map (λ points. points) runs.now)) }
+    /// All groups of runs, each of which has its points in order, where reads are made at these keeps.
+    pub fn over(
+        alloc: Global,
+        runs: &[PointSlice<'a>],
+        keeps: &'a [u64],
+    ) -> Result<Groups<'a>, AllocError>
+        requires sorted { AllByRecursion (IsStrictlySortedBy entry_cmp) runs.now }
+        requires rise { IsStrictlySortedBy nat_cmp keeps.now }
+        ensures { IfOk result (λ groups.
+            groups ≡ map (lasting_group keeps.now) (groups_of (flat_map (λ points. points) runs.now))) }
     {
         let cursors = cursors_over(alloc, runs)?;
         let heads = Heads::of_runs(alloc, runs)?;
-        Ok(Groups { cursors, heads })
+        Ok(Groups {
+            keeps,
+            cursors,
+            heads,
+        })
     }
 
     /// The next key. Its points replace those in `points`; there are none if there is no key. After an `Err` `points`
@@ -99,7 +116,13 @@ impl<'a> Groups<'a> {
         let Some(head) = self.heads.least() else {
             return Ok(None);
         };
-        if let Err(error) = take_from_each(&mut self.cursors, &mut self.heads, head, points) {
+        if let Err(error) = take_from_each(
+            self.keeps,
+            &mut self.cursors,
+            &mut self.heads,
+            head,
+            points,
+        ) {
             self.cursors.clear();
             self.heads.clear();
             points.clear();

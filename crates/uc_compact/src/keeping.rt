@@ -31,6 +31,13 @@ impl<'a> Keeping<'a> {
         Keeping { keeps, bottom }
     }
 
+    /// The sequences of reads.
+    pub(crate) fn keeps(&self) -> &'a [u64]
+        ensures { result.now ≡ self.now.keeps }
+    {
+        self.keeps
+    }
+
     /// The stripe of a sequence.
     pub(crate) fn stripe_of(&self, seq: u64) -> Stripe
         requires { IsStrictlySortedBy nat_cmp self.now.keeps }

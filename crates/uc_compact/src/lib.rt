@@ -10,7 +10,8 @@
 //! `parts.rt` and `points.rt`.
 //!
 //! [`Groups`] merges the inputs' points. It has a cursor in each run, and returns the least key's points next, those of
-//! the newest run first. Read `specs/Groups.antt` first.
+//! the newest run first, without those that a newer one hides from all reads. Read `specs/Groups.antt` and
+//! `specs/Lasting.antt` first.
 //!
 //! The range deletions over a key are asked of each run by a `Front`, a place among its fragments that moves along with the
 //! keys. So are the cut points, one after the other: nothing is stored between two of them (`fronts.rt`, `fragments.rt`).
@@ -36,6 +37,7 @@ mod groups;
 mod inputs;
 mod keeping;
 mod kept_points;
+mod lasting_points;
 mod laws;
 mod merger;
 mod output;

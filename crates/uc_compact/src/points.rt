@@ -77,7 +77,7 @@ pub(crate) fn points_kept<O: Operator, F: Folder<O>>(
         (flat_map (λ points. points) runs.now)) }
 {
     let mut kept = Points::new(alloc);
-    let mut groups = Groups::over(alloc, runs)?;
+    let mut groups = Groups::over(alloc, runs, keeping.keeps())?;
     let mut fronts = fronts_of(alloc, inputs)?;
     push_groups::<O, F>(folder, alloc, &mut kept, &mut groups, &mut fronts, keeping)?;
     Ok(kept)

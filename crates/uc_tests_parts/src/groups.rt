@@ -6,7 +6,7 @@ ghost use Rattle.uc_run_entry.specs.Order.{entry_cmp};
 use crate::given::{entry_of, next_random};
 use std::alloc::{AllocError, Global};
 use std::test::Fail;
-use uc_compact::Groups;
+use uc_compact::{Groups, keeps_rise};
 use uc_run_entry::{Entry, WhatRef, is_run};
 use uc_run_points::{PointRef, Points};
 
@@ -65,41 +65,50 @@ fn come(
     Ok(groups.next_into(&mut points)?.is_none() && points.is_empty())
 }
 
-/// Whether the runs, the newest first, have exactly these groups.
+/// Whether the runs, the newest first, have exactly these groups where reads are made at these keeps.
 fn have_groups(
     alloc: Global,
     runs: [&[(u8, u64)]; 3],
+    keeps: &[u64],
     expected: &[(u8, &[u64])],
 ) -> Result<bool, Fail> {
+    if !keeps_rise(keeps) {
+        return Err(Fail::new("keeps fall"));
+    }
     let newer = points_of(alloc, runs[0])?;
     let middle = points_of(alloc, runs[1])?;
     let older = points_of(alloc, runs[2])?;
     let mut groups = Groups::over(
         alloc,
         &[newer.as_slice(), middle.as_slice(), older.as_slice()],
+        keeps,
     )?;
     Ok(come(alloc, &mut groups, expected)?)
 }
 
-/// Two runs, the newer one first, and the keys of both, each with the sequences of its points.
+/// Two runs of deletions, the newer one first, the keeps, and the keys of both runs, each with the sequences of its points that
+/// last.
 struct Merge {
     newer: &'static [(u8, u64)],
     older: &'static [(u8, u64)],
+    keeps: &'static [u64],
     groups: &'static [(u8, &'static [u64])],
 }
 
 /// Worked by hand.
-static MERGES: [Merge; 5] = [
+static MERGES: [Merge; 7] = [
     // No points.
     Merge {
         newer: &[],
         older: &[],
+        keeps: &[],
         groups: &[],
     },
     // Keys of one run only and of both, several points of a key, and equal last keys.
     Merge {
         newer: &[(1, 9), (3, 8), (3, 7), (4, 6), (9, 10)],
         older: &[(2, 1), (3, 4), (3, 2), (9, 3)],
+        keeps: &[2, 4, 7],
         groups: &[
             (1, &[9]),
             (2, &[1]),
@@ -108,30 +117,53 @@ static MERGES: [Merge; 5] = [
             (9, &[10, 3]),
         ],
     },
+    // The same where 8 and 7, and 4 and 2, are of one stripe.
+    Merge {
+        newer: &[(1, 9), (3, 8), (3, 7), (4, 6), (9, 10)],
+        older: &[(2, 1), (3, 4), (3, 2), (9, 3)],
+        keeps: &[5],
+        groups: &[
+            (1, &[9]),
+            (2, &[1]),
+            (3, &[8, 4]),
+            (4, &[6]),
+            (9, &[10, 3]),
+        ],
+    },
     // All keys of the newer run before those of the older one.
     Merge {
         newer: &[(1, 7), (2, 9), (2, 8)],
         older: &[(3, 2), (4, 1)],
+        keeps: &[8],
         groups: &[(1, &[7]), (2, &[9, 8]), (3, &[2]), (4, &[1])],
     },
     // All keys of the newer run after those of the older one.
     Merge {
         newer: &[(5, 9)],
         older: &[(3, 2), (4, 1)],
+        keeps: &[],
         groups: &[(3, &[2]), (4, &[1]), (5, &[9])],
     },
     // One key in all: the points of the newer run first.
     Merge {
         newer: &[(6, 9), (6, 5)],
         older: &[(6, 4), (6, 3)],
+        keeps: &[3, 4, 5],
         groups: &[(6, &[9, 5, 4, 3])],
+    },
+    // Without keeps the newest hides all others.
+    Merge {
+        newer: &[(6, 9), (6, 5)],
+        older: &[(6, 4), (6, 3)],
+        keeps: &[],
+        groups: &[(6, &[9])],
     },
 ];
 
 #[test]
 fn points_come_by_key(rt: HostRuntime) -> Result<(), Fail> {
     for merge in &MERGES {
-        assert!(rt; have_groups(rt.alloc(), [merge.newer, &[], merge.older], merge.groups)?);
+        assert!(rt; have_groups(rt.alloc(), [merge.newer, &[], merge.older], merge.keeps, merge.groups)?);
     }
     Ok(())
 }
@@ -139,7 +171,7 @@ fn points_come_by_key(rt: HostRuntime) -> Result<(), Fail> {
 #[test]
 fn no_runs_have_no_groups(rt: HostRuntime) -> Result<(), Fail> {
     let alloc = rt.alloc();
-    let mut groups = Groups::over(alloc, &[])?;
+    let mut groups = Groups::over(alloc, &[], &[])?;
     assert!(rt; come(alloc, &mut groups, &[])?);
     Ok(())
 }
@@ -158,12 +190,41 @@ fn random_points(state: &mut u64, alloc: Global, top: u64) -> Result<Vec<(u8, u6
     Ok(points)
 }
 
-/// The sequences of a key's points, found by a look at all points of all runs.
-fn seqs_of_key(alloc: Global, runs: &[&[(u8, u64)]], key: u8) -> Result<Vec<u64>, AllocError> {
+/// The sequences of drawn keeps, below 30.
+fn random_keeps(state: &mut u64, alloc: Global) -> Result<Vec<u64>, AllocError> {
+    let mut keeps = Vec::new(alloc);
+    for seq in 1..30 {
+        if next_random(state) % 4 == 0 {
+            keeps.push(seq)?;
+        }
+    }
+    Ok(keeps)
+}
+
+/// Whether a sequence is of the same stripe as the one before it: no keep lies between them.
+fn is_hidden(newer: Option<&u64>, older: u64, keeps: &[u64]) -> bool {
+    let Some(newer) = newer else {
+        return false;
+    };
+    for keep in keeps {
+        if older <= *keep && keep < newer {
+            return false;
+        }
+    }
+    true
+}
+
+/// The newest sequences of a key's points in each stripe, found by a look at all points of all runs.
+fn seqs_of_key(
+    alloc: Global,
+    runs: &[&[(u8, u64)]],
+    keeps: &[u64],
+    key: u8,
+) -> Result<Vec<u64>, AllocError> {
     let mut seqs = Vec::new(alloc);
     for run in runs {
         for &(other, seq) in *run {
-            if other == key {
+            if other == key && !is_hidden(seqs.last(), seq, keeps) {
                 seqs.push(seq)?;
             }
         }
@@ -171,11 +232,15 @@ fn seqs_of_key(alloc: Global, runs: &[&[(u8, u64)]], key: u8) -> Result<Vec<u64>
     Ok(seqs)
 }
 
-/// The keys of all runs, each with the sequences of its points.
-fn groups_of_all(alloc: Global, runs: &[&[(u8, u64)]]) -> Result<Vec<(u8, Vec<u64>)>, AllocError> {
+/// The keys of all runs, each with the sequences of its points that last.
+fn groups_of_all(
+    alloc: Global,
+    runs: &[&[(u8, u64)]],
+    keeps: &[u64],
+) -> Result<Vec<(u8, Vec<u64>)>, AllocError> {
     let mut groups = Vec::new(alloc);
     for key in 0..MOST_KEYS {
-        let seqs = seqs_of_key(alloc, runs, key)?;
+        let seqs = seqs_of_key(alloc, runs, keeps, key)?;
         if !seqs.is_empty() {
             groups.push((key, seqs))?;
         }
@@ -193,17 +258,18 @@ fn lent(alloc: Global, groups: &[(u8, Vec<u64>)]) -> Result<Vec<(u8, &[u64])>, A
 }
 
 /// Whether runs, the newest first, have the groups that a look at all points finds.
-fn come_by_key(alloc: Global, runs: [&[(u8, u64)]; 3]) -> Result<bool, Fail> {
-    let groups = groups_of_all(alloc, &runs)?;
-    have_groups(alloc, runs, &lent(alloc, &groups)?)
+fn come_by_key(alloc: Global, runs: [&[(u8, u64)]; 3], keeps: &[u64]) -> Result<bool, Fail> {
+    let groups = groups_of_all(alloc, &runs, keeps)?;
+    have_groups(alloc, runs, keeps, &lent(alloc, &groups)?)
 }
 
-/// Whether three random runs do.
+/// Whether three random runs do, with drawn keeps.
 fn drawn_come_by_key(alloc: Global, state: &mut u64) -> Result<bool, Fail> {
     let newer = random_points(state, alloc, 30)?;
     let middle = random_points(state, alloc, 20)?;
     let older = random_points(state, alloc, 10)?;
-    come_by_key(alloc, [&newer, &middle, &older])
+    let keeps = random_keeps(state, alloc)?;
+    come_by_key(alloc, [&newer, &middle, &older], &keeps)
 }
 
 #[test]

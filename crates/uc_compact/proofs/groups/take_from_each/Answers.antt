@@ -1,11 +1,10 @@
-use Rattle.std.proofs.Common.{◌≡◌, ◌<◌, ◌≤◌, ◌+◌, ◌∙◌, ℕ, length, map, take, drop, set, List, sym, ap, subst, option_map, refl, arith}
-use Rattle.std.proofs.lemmas.List.{append-nil, length-map, length-set}
+use Rattle.std.proofs.Common.{◌≡◌, ◌<◌, ◌≤◌, ◌+◌, ◌∙◌, ℕ, length, map, drop, set, List, ap, subst, option_map, refl, arith}
+use Rattle.std.proofs.lemmas.List.{length-map, length-set}
 use Rattle.uc_run_entry.specs.declared.entry.Entry.{Entry}
 use Rattle.uc_run_entry.proofs.Written.{written}
 use Rattle.uc_run.specs.Heads.{NextKeys}
 use Rattle.uc_compact.specs.Heads.{first_key, first_named}
-use Rattle.uc_compact.proofs.Stepping.{gathered}
-use Rattle.uc_compact.proofs.NextKeys.{moved, passed_to}
+use Rattle.uc_compact.proofs.NextKeys.{moved, passed_to, gathered_lasting}
 use Rattle.uc_compact.proofs.groups.take_from_each.Goals as goal
 
 pub loop-place-init : goal.loop-place-init
@@ -15,7 +14,7 @@ loop-place-init c =
     let within : c.next_at-place.result ≤ length old = subst (λ (n : ℕ). c.next_at-place.result ≤ n) (ap length c.requires.keys ∙ length-map old first_key) c.next_at-place.ensures.bound.1 in
     record {
       within = within;
-      taken = passed_to c.args.head.key.now c.args.heads.now.keys old old c.requires.keys 0 c.next_at-place.result (omega arith) within refl c.next_at-place.ensures.before before before (refl, sym (append-nil before));
+      taken = passed_to c.args.keeps.now c.args.head.key.now c.args.heads.now.keys old old c.requires.keys 0 c.next_at-place.result (omega arith) within refl c.next_at-place.ensures.before before before (refl, refl);
       heads = c.requires.keys;
       front = refl;
     }
@@ -29,7 +28,6 @@ loop-place-preserved c =
     let next = c.next_at-place-in-loop-place.result in
     let own = c.take_named.new.self in
     let left = λ (ps : List Entry). drop (first_named key ps) ps in
-    let taken = λ (ps : List Entry). take (first_named key ps) ps in
     let before = c.args.points.now.items in
     let so_far = c.loop-place.points.items in
     let more = c.take_named.new.points.items in
@@ -42,9 +40,9 @@ loop-place-preserved c =
     record {
       within = within;
       taken =
-          passed_to key c.set.new.self.keys old (set now place own) beside (place + 1) next c.next_at-place-in-loop-place.ensures.bound.0 within long c.next_at-place-in-loop-place.ensures.before before more (
+          passed_to c.args.keeps.now key c.set.new.self.keys old (set now place own) beside (place + 1) next c.next_at-place-in-loop-place.ensures.bound.0 within long c.next_at-place-in-loop-place.ensures.before before more (
             written left old now place _ own lt c.loop-place.invariant.taken.0 c.in_ok-take_named.ensures.left,
-            gathered left taken old now place _ before so_far more lt c.loop-place.invariant.taken.0 c.loop-place.invariant.taken.1 c.in_ok-take_named.ensures.taken,
+            gathered_lasting c.args.keeps.now key old now place _ before so_far more lt c.loop-place.invariant.taken.0 c.loop-place.invariant.taken.1 c.in_ok-take_named.ensures.taken,
           );
       heads = beside;
       front = ap (λ (h : NextKeys). h.front) c.set.ensures ∙ c.loop-place.invariant.front;

@@ -18,7 +18,7 @@ push_groups-requires-clause-each g c =
     let fronts = c.deref_mut.result.now in
     let runs = map arc_value c.args.inputs.now in
     let same : ranges_of fronts ≡ ranges_of runs = same_ranges fronts runs (ap fragments_in c.deref_mut.ensures.value ∙ c.in_ok-fronts.ensures) in
-    each_by m c.args.keeping.now (fragments_of (ranges_of fronts)) points c.in_ok-groups.groups c.in_ok-groups.ensures
+    each_by m c.args.keeping.now (fragments_of (ranges_of fronts)) points c.requires.keeps_rise c.in_ok-groups.groups c.keeps.result.now c.keeps.ensures c.in_ok-groups.ensures
     (subst (λ (cut : List Fragment). AreOfOneKeyEach cut points) (sym (ap fragments_of same)) c.requires.each)
 
 pub returns : goal.returns
@@ -28,5 +28,6 @@ returns g c =
     let fronts = c.deref_mut.result.now in
     let runs = map arc_value c.args.inputs.now in
     let same : ranges_of fronts ≡ ranges_of runs = same_ranges fronts runs (ap fragments_in c.deref_mut.ensures.value ∙ c.in_ok-fronts.ensures) in
-    kept_by m keeping (fragments_of (ranges_of runs)) (flat_map (λ points. points) c.args.runs.now) c.in_ok-groups.groups c.new-kept.result c.push_groups.new.kept c.in_ok-groups.ensures c.new-kept.ensures
+    kept_by m keeping (fragments_of (ranges_of runs)) (flat_map (λ points. points) c.args.runs.now) c.requires.keeps_rise c.in_ok-groups.groups c.keeps.result.now c.keeps.ensures c.in_ok-groups.ensures c.requires.each
+    c.new-kept.result c.push_groups.new.kept c.new-kept.ensures
     (c.in_ok-push_groups.ensures ∙ ap (λ (cut : List Fragment). c.new-kept.result ++ of_groups m keeping cut c.in_ok-groups.groups) (ap fragments_of same))
