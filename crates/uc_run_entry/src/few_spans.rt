@@ -6,6 +6,7 @@ ghost use Rattle.uc_run_entry.specs.Joined as joining;
 ghost use Rattle.uc_run_entry.specs.Joined.{AreSorted, SayWhat};
 ghost use Rattle.uc_run_entry.specs.Spans.{IsWithin};
 
+use crate::freeing::make_small;
 use crate::span::Span;
 use std::alloc::{AllocError, Global};
 use std::cmp::Reverse;
@@ -58,5 +59,8 @@ pub(crate) fn in_few(
     requires { AllByRecursion (IsWithin fragments) spans.items }
     ensures { IfOk result (λ made. SayWhat fragments spans.items made.items) }
 {
-    joined(alloc, &sorted(spans))
+    let mut ordered = sorted(spans);
+    let made = joined(alloc, &ordered);
+    make_small(&mut ordered, size_of::<Span>());
+    made
 }

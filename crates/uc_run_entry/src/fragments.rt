@@ -7,6 +7,7 @@ ghost use Rattle.uc_run_entry.specs.Spanning as spanning;
 ghost use Rattle.uc_run_entry.specs.Spanning.{some_of, with_seqs};
 
 use crate::fragment::Fragment;
+use crate::freeing::make_small;
 use crate::lists::Lists;
 use crate::{Seqs, Spans};
 use std::alloc::{AllocError, Global};
@@ -38,7 +39,8 @@ impl Model for Fragments {
 
 // A destructor of its own: where a value is dropped, the proof of a caller has one call, and not one for each field.
 impl Drop for Fragments {
-    fn drop(self) {
+    fn drop(mut self) {
+        make_small(&mut self.list, size_of::<Fragment>());
         let Fragments { list: _, spans: _ } = self;
     }
 }

@@ -31,6 +31,7 @@ mod few_spans;
 mod fragment;
 mod fragment_laws;
 mod fragments;
+mod freeing;
 mod laws;
 mod lists;
 mod newest;
@@ -53,6 +54,7 @@ pub use entry::{Entry, What};
 pub use fragment::Fragment;
 pub use fragment_laws::{fragments_are_in_order, fragments_cover_what_ranges_cover};
 pub use fragments::Fragments;
+pub use freeing::make_small;
 pub use laws::{
     plain_list_does_what_is_found, plain_list_is_in_order, stripes_of_plain_list_do_what_is_found,
 };

@@ -2,6 +2,7 @@
 ghost use Rattle.std.specs.Prelude.{◌≡◌, ◌<◌, ◌≤◌, ◌+◌, ◌-◌, ◌^◌, ◌++◌, [], ◌∷◌, length, map, take, drop, slice_index, IfOk, OnOk, OnErr};
 ghost use Rattle.std.specs.List.{slice_index_or};
 
+use crate::freeing::make_small;
 use std::alloc::{AllocError, Global};
 use std::marker::Model;
 
@@ -9,7 +10,7 @@ use std::marker::Model;
 /// the lists.
 ///
 /// A list takes 8 bytes beside its items.
-#[derive(Debug, Drop)]
+#[derive(Debug)]
 pub struct Lists<T> {
     starts: Vec<usize>,
     items: Vec<T>,
@@ -38,6 +39,18 @@ impl<T> Model for Lists<T> {
     ghost view = { λ lists. cut lists.starts.items lists.items.items };
 
     ghost invariant = { λ lists. AreStarts lists.starts.items (length lists.items.items) };
+}
+
+impl<T: Drop> Drop for Lists<T> {
+    fn drop(mut self) {
+        make_small(&mut self.starts, size_of::<usize>());
+        // Items are numbers, or bytes, for which this is too much, and does no harm.
+        make_small(&mut self.items, size_of::<u64>());
+        let Lists {
+            starts: _,
+            items: _,
+        } = self;
+    }
 }
 
 impl<T> Lists<T> {

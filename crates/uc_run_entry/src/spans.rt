@@ -8,6 +8,7 @@ ghost use Rattle.uc_run_entry.specs.Spans.{IsWithin, IsFalling, listed};
 
 use crate::ahead::SeqsAhead;
 use crate::few_spans::in_few;
+use crate::freeing::make_small;
 use crate::lists::Lists;
 use crate::span::Span;
 use crate::tree::nodes;
@@ -36,7 +37,7 @@ fn first_seq(spans: &[Span]) -> Option<u64>
 /// sequences, each of them falling.
 ///
 /// For n spans over m fragments it takes memory for m and for n log m numbers.
-#[derive(Debug, Drop)]
+#[derive(Debug)]
 pub struct Spans {
     fragments: usize,
     spans: Vec<Span>,
@@ -54,6 +55,17 @@ impl Model for Spans {
     ghost view = { lists_of };
 
     ghost invariant = { IsIndexed };
+}
+
+impl Drop for Spans {
+    fn drop(mut self) {
+        make_small(&mut self.spans, size_of::<Span>());
+        let Spans {
+            fragments: _,
+            spans: _,
+            nodes: _,
+        } = self;
+    }
 }
 
 impl Spans {

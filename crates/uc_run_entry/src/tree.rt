@@ -2,6 +2,7 @@
 ghost use Rattle.std.specs.Prelude.{◌≡◌, ℕ, ◌<◌, ◌≤◌, ◌-◌, ◌++◌, filter, IfOk, OnOk};
 ghost use Rattle.uc_run_entry.specs.Tree as tree;
 
+use crate::freeing::make_small;
 use crate::lists::Lists;
 use crate::node::middle;
 use crate::span::Span;
@@ -57,7 +58,7 @@ fn halved(
     alloc: Global,
     low: usize,
     high: usize,
-    spans: Vec<Span>,
+    mut spans: Vec<Span>,
 ) -> Result<(Vec<Span>, Vec<Span>), AllocError>
     requires { low ≤ high }
     ensures first { IfOk result (λ halves.
@@ -68,6 +69,7 @@ fn halved(
     let middle = middle(low, high);
     let first = passed_on(alloc, low, high, low, middle, &spans)?;
     let second = passed_on(alloc, low, high, middle, high, &spans)?;
+    make_small(&mut spans, size_of::<Span>());
     Ok((first, second))
 }
 

@@ -11,7 +11,6 @@
 //! Tests: `uc_tests_runs`.
 #![tactic(auto)]
 
-mod freeing;
 mod number;
 mod point_ref;
 mod point_slice;
@@ -20,9 +19,9 @@ mod points;
 mod points_ahead;
 mod spelling;
 
-pub use freeing::make_small;
 pub use point_ref::PointRef;
 pub use point_slice::PointSlice;
 pub use point_test::PointTest;
 pub use points::{Points, points_of};
 pub use points_ahead::PointsAhead;
+pub use uc_run_entry::make_small;

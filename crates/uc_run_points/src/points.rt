@@ -8,14 +8,13 @@ ghost use Rattle.uc_run_points.specs.Spelling as spelling;
 ghost use Rattle.uc_run_points.specs.Spelling.{AreSpelled, Fits};
 ghost use Rattle.uc_run_points.specs.Starts.{AreStarts, quarter_points};
 
-use crate::freeing::make_small;
 use crate::point_ref::PointRef;
 use crate::point_slice::PointSlice;
 use crate::points_ahead::PointsAhead;
 use crate::spelling::{push_entry, read_entry};
 use std::alloc::{AllocError, Global};
 use std::marker::Model;
-use uc_run_entry::{Entry, WhatRef};
+use uc_run_entry::{Entry, WhatRef, make_small};
 
 /// Of how many points the first has its place at hand: a quarter of a run's block. The last quarter may have fewer.
 pub(crate) const QUARTER_POINTS: usize = 4;

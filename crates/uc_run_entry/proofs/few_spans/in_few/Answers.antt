@@ -11,6 +11,6 @@ ok_is (Err e) items ss P h p = tt
 
 pub returns : goal.returns
 returns c =
-    ok_is c.joined.result (λ made. made.items) (joined c.deref.result.now) (SayWhat c.args.fragments c.args.spans.items) c.joined.ensures
+    ok_is c.joined-made.result (λ made. made.items) (joined c.deref.result.now) (SayWhat c.args.fragments c.args.spans.items) c.joined-made.ensures
     (subst (λ (ss : List Span). SayWhat c.args.fragments c.args.spans.items (joined ss)) (sym c.deref.ensures.value)
-    (say_what c.args.fragments c.args.spans.items c.sorted.result.items c.sorted.ensures.permutation c.sorted.ensures.sorted c.requires))
+    (say_what c.args.fragments c.args.spans.items c.sorted-ordered.result.items c.sorted-ordered.ensures.permutation c.sorted-ordered.ensures.sorted c.requires))
