@@ -1,10 +1,11 @@
 pub mod Inserted
-pub mod FirstSlots
+pub mod WriteParts
+pub mod FirstWrites
+pub mod PackedWrites
 pub mod ByKey
 pub mod Parts
 pub mod Flushed
 pub mod Effects
-pub mod Slots
 pub mod Order
 pub mod LookupEffects
 pub mod Rests

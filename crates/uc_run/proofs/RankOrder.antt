@@ -10,27 +10,25 @@ use Rattle.std.proofs.lemmas.Bool.Decides.{nat_tests}
 use Rattle.std.proofs.lemmas.Bool.{cases_lt}
 use lib.Count.{count_leading_zeros}
 use Rattle.std.proofs.lemmas.Cmp.{nat_cmp_total, nat_list_cmp_total, back_total, on_total, then_total}
-use Rattle.std.proofs.lemmas.List.{take-append-drop, take-take, take_at, get_or-map, get_or_default, length-map, map-append}
+use Rattle.std.proofs.lemmas.List.{take-append-drop, take-take, take_at, get_or-map, length-map, map-append}
 use Rattle.std.proofs.lemmas.List.Elements.{All-map, All-more, All-weaker}
 use Rattle.std.proofs.lemmas.List.Sorted.{IsPermutation-map, All-permutation}
 use Rattle.std.proofs.lemmas.Nat.{pow_pos, shr_high, mod_low, mod_below, shr_split, or_shifted, leading_length}
-use Rattle.std.proofs.lemmas.Option.{slice_get_read}
+use Rattle.std.proofs.lemmas.Option.{slice_get_within}
 use Rattle.std.proofs.Math.Nat.{mul-le-mul_right, suc-mul, mod-eq_of_lt}
 use Rattle.std.specs.List.{slice_get}
 use Rattle.uc_bytes.specs.Bytes.{bytes_cmp}
 use Rattle.uc_bytes.specs.declared.write.Write.{Write}
 use Rattle.uc_run_entry.specs.declared.entry.Entry.{Entry}
 use Rattle.uc_run_entry.specs.Order.{entry_cmp}
-use Rattle.uc_run.specs.declared.slot.Slot.{Slot}
 use Rattle.uc_run.specs.Points.{HaveOwnSeqs}
 use Rattle.uc_run.specs.Flush.{by_key, point_of, points_in}
 use Rattle.uc_run.specs.Prefixes.{prefix_of, AreBytes}
 use Rattle.uc_run.specs.Ranks.{room, high_in, low_in, rank_of, behind_cmp, rank_cmp, entry_in, entry_or, entry_at, points_of, ranked_at, HasFront, HaveBytes, HaveFront}
-use Rattle.uc_run.specs.Slots.{slot_write, slot_writes}
 use Rattle.uc_run.proofs.ByKey.{sorted_is_by_key}
 use Rattle.uc_run.proofs.Fronts.{behind_front}
 use Rattle.uc_run.proofs.PrefixOrder.{bytes_behind, greater_is, lower_prefix, higher_prefix}
-use Rattle.uc_run.proofs.Slots.{part_pushed, part_missing}
+use Rattle.uc_run.proofs.WriteParts.{part_pushed, part_missing}
 
 -- ---- a rank has its parts
 
@@ -78,15 +76,15 @@ higher_by_first bits a b lt =
 
 -- ---- ranks stand as points
 
-pub rank_total : (text : List ℕ) (slots : List Slot) (shared bits : ℕ) → IsTotalOrder (rank_cmp text slots shared bits)
-rank_total text slots shared bits =
+pub rank_total : (writes : List Write) (shared bits : ℕ) → IsTotalOrder (rank_cmp writes shared bits)
+rank_total writes shared bits =
     then_total (on_total (high_in bits) nat_cmp_total)
-    (then_total (on_total (λ (r : ℕ). drop shared (entry_at text slots bits r).key) nat_list_cmp_total) (back_total (on_total (λ (r : ℕ). (entry_at text slots bits r).seq) nat_cmp_total)))
+    (then_total (on_total (λ (r : ℕ). drop shared (entry_at writes bits r).key) nat_list_cmp_total) (back_total (on_total (λ (r : ℕ). (entry_at writes bits r).seq) nat_cmp_total)))
 
 -- what has the lower first bits is below
-pub below_by_first : (text : List ℕ) (slots : List Slot) (shared bits r s : ℕ) → high_in bits r < high_in bits s → is_lt (rank_cmp text slots shared bits s r) ≡ false
-below_by_first text slots shared bits r s lt =
-    ap (λ o. is_lt (ordering_then o (behind_cmp shared (entry_at text slots bits s) (entry_at text slots bits r)))) (greater_is (high_in bits s) (high_in bits r) lt)
+pub below_by_first : (writes : List Write) (shared bits r s : ℕ) → high_in bits r < high_in bits s → is_lt (rank_cmp writes shared bits s r) ≡ false
+below_by_first writes shared bits r s lt =
+    ap (λ o. is_lt (ordering_then o (behind_cmp shared (entry_at writes bits s) (entry_at writes bits r)))) (greater_is (high_in bits s) (high_in bits r) lt)
 
 -- the first bits rise with the numbers
 pub first_rise : (bits a b : ℕ) → a ≤ b → high_in bits a ≤ high_in bits b
@@ -131,17 +129,17 @@ module _ (shared bits : ℕ) (first : List ℕ) (p q : Entry) (h : HasFront shar
 
 -- ---- ranks in order
 
-module _ (text : List ℕ) (slots : List Slot) (bits : ℕ) where
+module _ (writes : List Write) (bits : ℕ) where
   abbrev entry : ℕ → Entry
-  entry r = entry_at text slots bits r
+  entry r = entry_at writes bits r
 
   pub record AreRanked (shared : ℕ) (points : List Entry) (ranks : List ℕ) : Type 0 where
-    pub listed : points_of text slots bits ranks ≡ points
+    pub listed : points_of writes bits ranks ≡ points
     pub each : All (λ (r : ℕ). IsRanked shared bits (high_in bits r) (entry r)) ranks
 
-module _ (text : List ℕ) (slots : List Slot) (bits shared : ℕ) (first : List ℕ) (points : List Entry) (front : HaveFront shared first points) (ranks : List ℕ) (held : AreRanked text slots bits shared points ranks) where
+module _ (writes : List Write) (bits shared : ℕ) (first : List ℕ) (points : List Entry) (front : HaveFront shared first points) (ranks : List ℕ) (held : AreRanked writes bits shared points ranks) where
   abbrev point : ℕ → Entry
-  point r = entry_at text slots bits r
+  point r = entry_at writes bits r
 
   abbrev Good : ℕ → Type 0
   Good r = HasFront shared first (point r).key × IsRanked shared bits (high_in bits r) (point r)
@@ -152,83 +150,80 @@ module _ (text : List ℕ) (slots : List Slot) (bits shared : ℕ) (first : List
       (ap (λ (ps : List Entry). get_or ps i (point d)) (sym held.listed) ∙ get_or-map point ranks i d (point d) l)
       (front i (point d) (subst (λ (n : ℕ). i < n) (sym (length-map ranks point) ∙ ap length held.listed) l))
 
-  pub ranked_is_by_key : HaveOwnSeqs points → (sorted : List ℕ) → IsPermutation ranks sorted → IsSortedBy (λ r s. is_lt (rank_cmp text slots shared bits r s)) sorted → points_of text slots bits sorted ≡ by_key points
+  pub ranked_is_by_key : HaveOwnSeqs points → (sorted : List ℕ) → IsPermutation ranks sorted → IsSortedBy (λ r s. is_lt (rank_cmp writes shared bits r s)) sorted → points_of writes bits sorted ≡ by_key points
   ranked_is_by_key own sorted moved order =
       let good : All Good sorted = All-permutation Good ranks sorted moved (λ i d l. (fronts i d l, held.each i d l)) in
-      let in_order : IsSortedBy (λ p q. is_lt (entry_cmp p q)) (points_of text slots bits sorted) = each good in
-      sorted_is_by_key points (points_of text slots bits sorted) own
-      (subst (λ (ps : List Entry). IsPermutation ps (points_of text slots bits sorted)) held.listed (IsPermutation-map point ranks sorted moved)) in_order
+      let in_order : IsSortedBy (λ p q. is_lt (entry_cmp p q)) (points_of writes bits sorted) = each good in
+      sorted_is_by_key points (points_of writes bits sorted) own
+      (subst (λ (ps : List Entry). IsPermutation ps (points_of writes bits sorted)) held.listed (IsPermutation-map point ranks sorted moved)) in_order
     where
-      each : All Good sorted → IsSortedBy (λ p q. is_lt (entry_cmp p q)) (points_of text slots bits sorted)
+      each : All Good sorted → IsSortedBy (λ p q. is_lt (entry_cmp p q)) (points_of writes bits sorted)
       each good k d le l =
           let next : k + 1 < length sorted = subst (λ (n : ℕ). k + 1 < n) (length-map sorted point) l in
           let this : k < length sorted = omega (arith, next) in
           let r : ℕ = get_or sorted (k + 1) 0 in
           let s : ℕ = get_or sorted k 0 in
-          ap (λ (p : Entry). is_lt (entry_cmp p (get_or (points_of text slots bits sorted) k d))) (get_or-map point sorted (k + 1) 0 d next)
+          ap (λ (p : Entry). is_lt (entry_cmp p (get_or (points_of writes bits sorted) k d))) (get_or-map point sorted (k + 1) 0 d next)
           ∙ ap (λ (p : Entry). is_lt (entry_cmp (point r) p)) (get_or-map point sorted k 0 d this)
           ∙ ap is_lt (sym (by_first shared bits first (point r) (point s) (good (k + 1) 0 next).0 (good k 0 this).0 (high_in bits r) (high_in bits s) (nat_cmp (high_in bits r) (high_in bits s)) refl (good (k + 1) 0 next).1 (good k 0 this).1))
           ∙ order k 0 (omega arith) next
 
-module _ (text : List ℕ) (slots : List Slot) (bits shared : ℕ) where
+module _ (writes : List Write) (bits shared : ℕ) where
   -- a rank tells the number that it had before
-  same_point : (r : ℕ) → entry_at text slots bits (ranked_at text slots shared bits r) ≡ entry_at text slots bits r
-  same_point r = ap (λ (n : ℕ). entry_or text (slice_get slots (length slots - 1 - n))) (low_of_rank bits (prefix_of (drop shared (entry_at text slots bits r).key)) r)
+  same_point : (r : ℕ) → entry_at writes bits (ranked_at writes shared bits r) ≡ entry_at writes bits r
+  same_point r = ap (λ (n : ℕ). entry_or (slice_get writes (length writes - 1 - n))) (low_of_rank bits (prefix_of (drop shared (entry_at writes bits r).key)) r)
 
-  same_points : (rs : List ℕ) → points_of text slots bits (map (ranked_at text slots shared bits) rs) ≡ points_of text slots bits rs
+  same_points : (rs : List ℕ) → points_of writes bits (map (ranked_at writes shared bits) rs) ≡ points_of writes bits rs
   same_points [] = refl
-  same_points (r ∷ rs) = ap (λ (p : Entry). p ∷ points_of text slots bits (map (ranked_at text slots shared bits) rs)) (same_point r) ∙ ap (λ (ps : List Entry). entry_at text slots bits r ∷ ps) (same_points rs)
+  same_points (r ∷ rs) = ap (λ (p : Entry). p ∷ points_of writes bits (map (ranked_at writes shared bits) rs)) (same_point r) ∙ ap (λ (ps : List Entry). entry_at writes bits r ∷ ps) (same_points rs)
 
-  pub are_ranked : (rs : List ℕ) → HaveBytes (points_of text slots bits rs) → AreRanked text slots bits shared (points_of text slots bits rs) (map (ranked_at text slots shared bits) rs)
+  pub are_ranked : (rs : List ℕ) → HaveBytes (points_of writes bits rs) → AreRanked writes bits shared (points_of writes bits rs) (map (ranked_at writes shared bits) rs)
   are_ranked rs bytes = record {
     listed = same_points rs;
-    each = All-map (λ (r : ℕ). IsRanked shared bits (high_in bits r) (entry_at text slots bits r)) (ranked_at text slots shared bits) rs (λ i d l.
+    each = All-map (λ (r : ℕ). IsRanked shared bits (high_in bits r) (entry_at writes bits r)) (ranked_at writes shared bits) rs (λ i d l.
         let r : ℕ = get_or rs i d in
-        let p : Entry = entry_at text slots bits r in
-        let here : AreBytes p.key = subst (λ (p : Entry). AreBytes p.key) (get_or-map (entry_at text slots bits) rs i d (entry_at text slots bits d) l) (bytes i (entry_at text slots bits d) (subst (λ (n : ℕ). i < n) (sym (length-map rs (entry_at text slots bits))) l)) in
-        subst (IsRanked shared bits (high_in bits (ranked_at text slots shared bits r))) (sym (same_point r)) (record {
+        let p : Entry = entry_at writes bits r in
+        let here : AreBytes p.key = subst (λ (p : Entry). AreBytes p.key) (get_or-map (entry_at writes bits) rs i d (entry_at writes bits d) l) (bytes i (entry_at writes bits d) (subst (λ (n : ℕ). i < n) (sym (length-map rs (entry_at writes bits))) l)) in
+        subst (IsRanked shared bits (high_in bits (ranked_at writes shared bits r))) (sym (same_point r)) (record {
           prefix = high_of_rank bits (prefix_of (drop shared p.key)) r;
           bytes = bytes_behind shared p.key here;
         }));
   }
 
 -- a vector whose ranks were lent, sorted by key and came back
-pub back_by_key : (text : List ℕ) (slots : List Slot) (bits : ℕ) (points : List Entry) (held lent sorted tail now : List ℕ) (len : ℕ) → points_of text slots bits held ≡ points → length held ≡ len → lent ≡ held → points_of text slots bits sorted ≡ by_key (points_of text slots bits lent) → length sorted ≡ length lent → now ≡ take len (sorted ++ tail) → points_of text slots bits now ≡ by_key points
-back_by_key text slots bits points held lent sorted tail now len are long same order kept back =
-    ap (points_of text slots bits) (back ∙ take_at sorted tail len (kept ∙ ap length same ∙ long))
+pub back_by_key : (writes : List Write) (bits : ℕ) (points : List Entry) (held lent sorted tail now : List ℕ) (len : ℕ) → points_of writes bits held ≡ points → length held ≡ len → lent ≡ held → points_of writes bits sorted ≡ by_key (points_of writes bits lent) → length sorted ≡ length lent → now ≡ take len (sorted ++ tail) → points_of writes bits now ≡ by_key points
+back_by_key writes bits points held lent sorted tail now len are long same order kept back =
+    ap (points_of writes bits) (back ∙ take_at sorted tail len (kept ∙ ap length same ∙ long))
     ∙ order
-    ∙ ap by_key (ap (points_of text slots bits) same ∙ are)
+    ∙ ap by_key (ap (points_of writes bits) same ∙ are)
 
--- the number of a slot gives its point
-pub point_there : (text : List ℕ) (slots : List Slot) (bits place : ℕ) (s : Slot) → length slots ≤ room bits → place < length slots → s ≡ get_or slots place s → entry_at text slots bits (length slots - 1 - place) ≡ entry_in text s
-point_there text slots bits place s fits l is =
-    let number : ℕ = length slots - 1 - place in
+-- the number of a write gives its point
+pub point_there : (writes : List Write) (bits place : ℕ) (w : Write) → length writes ≤ room bits → slice_get writes place ≡ Some w → entry_at writes bits (length writes - 1 - place) ≡ entry_in w
+point_there writes bits place w fits is =
+    let l : place < length writes = slice_get_within writes place w is in
+    let number : ℕ = length writes - 1 - place in
     let small : number < room bits = omega (arith, fits, l) in
-    let back : length slots - 1 - low_in bits number ≡ place = ap (λ n. length slots - 1 - n) (mod-eq_of_lt small) ∙ omega (arith, l) in
-    ap (λ (n : ℕ). entry_or text (slice_get slots n)) back ∙ ap (entry_or text) (slice_get_read slots (length slots) place s refl l is)
+    let back : length writes - 1 - low_in bits number ≡ place = ap (λ n. length writes - 1 - n) (mod-eq_of_lt small) ∙ omega (arith, l) in
+    ap (λ (n : ℕ). entry_or (slice_get writes n)) back ∙ ap entry_or is
 
--- a loop over places, seen by the points of the slots so far
-module _ (text : List ℕ) (slots : List Slot) (bits i : ℕ) (d : Slot) (fits : length slots ≤ room bits) (l : i < length slots) where
-  abbrev slot : Slot
-  slot = get_or slots i d
-
+-- a loop over places, seen by the points of the writes so far
+module _ (writes : List Write) (bits i : ℕ) (w : Write) (fits : length writes ≤ room bits) (is : slice_get writes i ≡ Some w) where
   abbrev part : Write → Option Entry
-  part w = point_of w.seq w.op
+  part v = point_of v.seq v.op
 
   abbrev Told : Bool → Type 0
-  Told b = part (slot_write text slot) ≡ cond b (Some (entry_in text slot)) None
+  Told b = part w ≡ cond b (Some (entry_in w)) None
 
-  pub number_pushed : (b : Bool) (before after : List ℕ) → b ≡ true → Told b → points_of text slots bits before ≡ points_in (slot_writes text (take i slots)) → after ≡ before ++ (length slots - 1 - i) ∷ [] → points_of text slots bits after ≡ points_in (slot_writes text (take (i + 1) slots))
+  pub number_pushed : (b : Bool) (before after : List ℕ) → b ≡ true → Told b → points_of writes bits before ≡ points_in (take i writes) → after ≡ before ++ (length writes - 1 - i) ∷ [] → points_of writes bits after ≡ points_in (take (i + 1) writes)
   number_pushed b before after passed told known pushed =
-      let some : part (slot_write text slot) ≡ Some (entry_in text slot) = told ∙ ap (λ t. cond t (Some (entry_in text slot)) None) passed in
-      part_pushed part text slots i d (part (slot_write text slot)) (entry_in text slot) (points_of text slots bits before) (points_of text slots bits after) l refl some known
-      (ap (points_of text slots bits) pushed
-      ∙ map-append (entry_at text slots bits) before ((length slots - 1 - i) ∷ [])
-      ∙ ap (λ p. points_of text slots bits before ++ p ∷ []) (point_there text slots bits i slot fits l (get_or_default slots i d slot l)))
+      part_pushed part writes i w (entry_in w) (points_of writes bits before) (points_of writes bits after) is (told ∙ ap (λ t. cond t (Some (entry_in w)) None) passed) known
+      (ap (points_of writes bits) pushed
+      ∙ map-append (entry_at writes bits) before ((length writes - 1 - i) ∷ [])
+      ∙ ap (λ p. points_of writes bits before ++ p ∷ []) (point_there writes bits i w fits is))
 
-  pub number_missing : (b : Bool) (before : List ℕ) → b ≡ false → Told b → points_of text slots bits before ≡ points_in (slot_writes text (take i slots)) → points_of text slots bits before ≡ points_in (slot_writes text (take (i + 1) slots))
+  pub number_missing : (b : Bool) (before : List ℕ) → b ≡ false → Told b → points_of writes bits before ≡ points_in (take i writes) → points_of writes bits before ≡ points_in (take (i + 1) writes)
   number_missing b before failed told known =
-      part_missing part text slots i d (part (slot_write text slot)) (points_of text slots bits before) l refl (told ∙ ap (λ t. cond t (Some (entry_in text slot)) None) failed) known
+      part_missing part writes i w (points_of writes bits before) is (told ∙ ap (λ t. cond t (Some (entry_in w)) None) failed) known
 
 -- what holds of all points holds of those in front and of those behind them
 pub all_front : (P : Entry → Type 0) (ps qs : List Entry) → AllByRecursion P (ps ++ qs) → AllByRecursion P ps
@@ -277,23 +272,23 @@ shorter less shared first key le h = record {
 pub of_first : (less shared : ℕ) (first key : List ℕ) → less ≤ shared → HasFront less (take shared first) key → HasFront less first key
 of_first less shared first key le h = record { long = h.long; same = h.same ∙ take-take less shared first le }
 
-module _ (text : List ℕ) (slots : List Slot) (bits less shared : ℕ) (first : List ℕ) (rs : List ℕ) (i r : ℕ) (le : less ≤ shared) (l : i < length rs) (r_is : r ≡ get_or rs i 0) where
+module _ (writes : List Write) (bits less shared : ℕ) (first : List ℕ) (rs : List ℕ) (i r : ℕ) (le : less ≤ shared) (l : i < length rs) (r_is : r ≡ get_or rs i 0) where
   abbrev here_is : Entry
-  here_is = entry_at text slots bits r
+  here_is = entry_at writes bits r
 
-  point_is : get_or (points_of text slots bits rs) i here_is ≡ here_is
-  point_is = get_or-map (entry_at text slots bits) rs i 0 here_is l ∙ ap (entry_at text slots bits) (sym r_is)
+  point_is : get_or (points_of writes bits rs) i here_is ≡ here_is
+  point_is = get_or-map (entry_at writes bits) rs i 0 here_is l ∙ ap (entry_at writes bits) (sym r_is)
 
-  there : i < length (points_of text slots bits rs)
-  there = subst (λ (n : ℕ). i < n) (sym (length-map rs (entry_at text slots bits))) l
+  there : i < length (points_of writes bits rs)
+  there = subst (λ (n : ℕ). i < n) (sym (length-map rs (entry_at writes bits))) l
 
-  pub fronts_more : HasFront less (take shared first) here_is.key → HaveFront shared first (take i (points_of text slots bits rs)) → HaveFront less first (take (i + 1) (points_of text slots bits rs))
+  pub fronts_more : HasFront less (take shared first) here_is.key → HaveFront shared first (take i (points_of writes bits rs)) → HaveFront less first (take (i + 1) (points_of writes bits rs))
   fronts_more here so_far =
-      All-more (λ (q : Entry). HasFront less first q.key) (points_of text slots bits rs) i here_is there
-      (All-weaker (λ (q : Entry). HasFront shared first q.key) (λ (q : Entry). HasFront less first q.key) (λ q h. shorter less shared first q.key le h) (take i (points_of text slots bits rs)) so_far)
+      All-more (λ (q : Entry). HasFront less first q.key) (points_of writes bits rs) i here_is there
+      (All-weaker (λ (q : Entry). HasFront shared first q.key) (λ (q : Entry). HasFront less first q.key) (λ q h. shorter less shared first q.key le h) (take i (points_of writes bits rs)) so_far)
       (subst (λ (q : Entry). HasFront less first q.key) (sym point_is) (of_first less shared first here_is.key le here))
 
-  pub bytes_more : AreBytes here_is.key → HaveBytes (take i (points_of text slots bits rs)) → HaveBytes (take (i + 1) (points_of text slots bits rs))
+  pub bytes_more : AreBytes here_is.key → HaveBytes (take i (points_of writes bits rs)) → HaveBytes (take (i + 1) (points_of writes bits rs))
   bytes_more here so_far =
-      All-more (λ (q : Entry). AreBytes q.key) (points_of text slots bits rs) i here_is there so_far
+      All-more (λ (q : Entry). AreBytes q.key) (points_of writes bits rs) i here_is there so_far
       (subst (λ (q : Entry). AreBytes q.key) (sym point_is) here)

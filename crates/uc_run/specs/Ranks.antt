@@ -4,29 +4,36 @@ use Rattle.std.specs.List.{All, slice_get}
 use Rattle.std.specs.declared.cmp.Ordering.{Ordering}
 use Rattle.std.specs.Ordering.{nat_cmp, ordering_then}
 use Rattle.uc_bytes.specs.Bytes.{bytes_cmp}
-use Rattle.uc_bytes.specs.declared.op_ref.OpKind.{OpKind}
-use Rattle.uc_bytes.specs.declared.op_ref.OpKind.TheVariants.{Put, Delete, Merge, DeleteRange}
+use Rattle.uc_bytes.specs.declared.op.Op.{Op}
+use Rattle.uc_bytes.specs.declared.op.Op.TheVariants.{Put, Delete, Merge, DeleteRange}
+use Rattle.uc_bytes.specs.declared.write.Write.{Write}
 use Rattle.uc_run_entry.specs.declared.entry.Entry.{Entry}
 use Rattle.uc_run_entry.specs.declared.entry.What.{What}
 use Rattle.uc_run_entry.specs.declared.entry.What.TheVariants as what
-use Rattle.uc_run.specs.declared.slot.Slot.{Slot}
 use Rattle.uc_run.specs.Prefixes.{prefix_of, AreBytes}
 
--- what a write of this kind says of its key; a range deletion is no point, and counts as a deletion here
-abbrev pub what_in : OpKind → List ℕ → What
-what_in Put second = what.Put second
-what_in Delete second = what.Delete
-what_in Merge second = what.Merge second
-what_in DeleteRange second = what.Delete
+-- the key of a point; the begin of a range, which is no point
+abbrev pub key_in : Op → List ℕ
+key_in (Put key value) = key
+key_in (Delete key) = key
+key_in (Merge key operand) = key
+key_in (DeleteRange begin end) = begin
 
--- the point of a slot: its first text is the key
-abbrev pub entry_in : List ℕ → Slot → Entry
-entry_in text s = record { key = take s.first (drop s.start text); seq = s.seq; what = what_in s.kind (take s.second (drop (s.start + s.first) text)) }
+-- what a change says of its key; a range deletion is no point, and counts as a deletion here
+abbrev pub what_in : Op → What
+what_in (Put key value) = what.Put value
+what_in (Delete key) = what.Delete
+what_in (Merge key operand) = what.Merge operand
+what_in (DeleteRange begin end) = what.Delete
 
--- the point of a slot, if there is one
-abbrev pub entry_or : List ℕ → Option Slot → Entry
-entry_or text None = record { key = []; seq = 0; what = what.Delete }
-entry_or text (Some s) = entry_in text s
+-- the point of a write
+abbrev pub entry_in : Write → Entry
+entry_in w = record { key = key_in w.op; seq = w.seq; what = what_in w.op }
+
+-- the point of a write, if there is one
+abbrev pub entry_or : Option Write → Entry
+entry_or None = record { key = []; seq = 0; what = what.Delete }
+entry_or (Some w) = entry_in w
 
 -- how many numbers of slots ranks tell apart, if their last bits tell the number
 abbrev pub room : ℕ → ℕ
@@ -48,24 +55,24 @@ abbrev pub place_in : ℕ → ℕ → ℕ → ℕ
 place_in count bits rank = count - 1 - low_in bits rank
 
 -- the point of a rank's slot
-abbrev pub entry_at : List ℕ → List Slot → ℕ → ℕ → Entry
-entry_at text slots bits rank = entry_or text (slice_get slots (place_in (length slots) bits rank))
+abbrev pub entry_at : List Write → ℕ → ℕ → Entry
+entry_at writes bits rank = entry_or (slice_get writes (place_in (length writes) bits rank))
 
-abbrev pub points_of : List ℕ → List Slot → ℕ → List ℕ → List Entry
-points_of text slots bits ranks = map (entry_at text slots bits) ranks
+abbrev pub points_of : List Write → ℕ → List ℕ → List Entry
+points_of writes bits ranks = map (entry_at writes bits) ranks
 
 -- a rank by the prefix of its point's key after the first bytes
-abbrev pub ranked_at : List ℕ → List Slot → ℕ → ℕ → ℕ → ℕ
-ranked_at text slots shared bits rank = rank_of bits (prefix_of (drop shared (entry_at text slots bits rank).key)) rank
+abbrev pub ranked_at : List Write → ℕ → ℕ → ℕ → ℕ
+ranked_at writes shared bits rank = rank_of bits (prefix_of (drop shared (entry_at writes bits rank).key)) rank
 
 -- points by what is behind the first bytes of their keys, the newest of a key first
 abbrev pub behind_cmp : ℕ → Entry → Entry → Ordering
 behind_cmp shared p q = ordering_then (bytes_cmp (drop shared p.key) (drop shared q.key)) (nat_cmp q.seq p.seq)
 
 -- ranks by the first bits of the prefixes, then as their points
-abbrev pub rank_cmp : List ℕ → List Slot → ℕ → ℕ → ℕ → ℕ → Ordering
-rank_cmp text slots shared bits rank other =
-    ordering_then (nat_cmp (high_in bits rank) (high_in bits other)) (behind_cmp shared (entry_at text slots bits rank) (entry_at text slots bits other))
+abbrev pub rank_cmp : List Write → ℕ → ℕ → ℕ → ℕ → Ordering
+rank_cmp writes shared bits rank other =
+    ordering_then (nat_cmp (high_in bits rank) (high_in bits other)) (behind_cmp shared (entry_at writes bits rank) (entry_at writes bits other))
 
 abbrev pub first_key : List Entry → List ℕ
 first_key [] = []

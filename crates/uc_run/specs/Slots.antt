@@ -1,34 +1,60 @@
 -- The writes that slots and an arena hold.
-use Rattle.std.specs.Prelude.{◌≡◌, ℕ, ◌+◌, ◌≤◌, List, [], ◌∷◌, ◌++◌, map, take, drop, length}
-use Rattle.std.specs.List.{AllByRecursion}
+use Rattle.std.specs.Prelude.{⊤, ◌≡◌, ℕ, zero, suc, ◌+◌, ◌-◌, ◌*◌, ◌/◌, ◌%◌, ◌^◌, ◌<◌, ◌≤◌, List, [], ◌∷◌, ◌++◌, take, drop, length}
 use Rattle.uc_bytes.specs.declared.op_ref.OpKind.{OpKind}
+use Rattle.uc_bytes.specs.declared.op_ref.OpKind.TheVariants.{Put, Delete, Merge, DeleteRange}
 use Rattle.uc_bytes.specs.declared.write.Write.{Write}
 use Rattle.uc_bytes.specs.Borrowed.{op_of}
+use Rattle.uc_run_points.specs.Numbers.{number_text, number_from}
 use Rattle.uc_run.specs.declared.slot.Slot.{Slot}
 
--- the write of a slot: its second text follows its first
-abbrev pub slot_write : List ℕ → Slot → Write
-slot_write text s = record { seq = s.seq; op = op_of s.kind (take s.first (drop s.start text)) (take s.second (drop (s.start + s.first) text)) }
+-- the number of a kind, below 4
+abbrev pub kind_number : OpKind → ℕ
+kind_number Put = 0
+kind_number Delete = 1
+kind_number Merge = 2
+kind_number DeleteRange = 3
 
+abbrev pub kind_of : ℕ → OpKind
+kind_of zero = Put
+kind_of (suc zero) = Delete
+kind_of (suc (suc zero)) = Merge
+kind_of (suc (suc (suc n))) = DeleteRange
+
+-- the sequence and the kind as one number
+abbrev pub trailer_of : ℕ → OpKind → ℕ
+trailer_of seq kind = 4 * seq + kind_number kind
+
+-- the bytes of two texts: how long the first is, and both
+abbrev pub bytes_of : List ℕ → List ℕ → List ℕ
+bytes_of first second = number_text (length first) ++ (first ++ second)
+
+-- the write that a trailer tells with its bytes
+abbrev pub write_of : ℕ → List ℕ → Write
+write_of trailer bytes =
+    let len = number_from bytes in
+    record { seq = trailer / 4; op = op_of (kind_of (trailer % 4)) (take len.0 len.1) (drop len.0 len.1) }
+
+-- where the bytes before slots end, in an arena of so many bytes
+abbrev pub end_before : ℕ → List Slot → ℕ
+end_before room [] = room
+end_before room (s ∷ slots) = s.start
+
+-- the writes of slots, each with the bytes up to the next one's
 abbrev pub slot_writes : List ℕ → List Slot → List Write
-slot_writes text slots = map (slot_write text) slots
+slot_writes text [] = []
+slot_writes text (s ∷ slots) = write_of s.trailer (take (end_before (length text) slots - s.start) (drop s.start text)) ∷ slot_writes text slots
 
--- the texts of a slot lie within `room` bytes
-abbrev pub LiesWithin : ℕ → Slot → Type 0
-LiesWithin room s = s.start + s.first + s.second ≤ room
+-- each one's bytes end behind where they start, and the last one's within the arena
+abbrev pub AreInOrder : ℕ → List Slot → Type 0
+AreInOrder room [] = ⊤
+AreInOrder room (s ∷ slots) = (s.start ≤ end_before room slots) × AreInOrder room slots
 
-abbrev pub LieWithin : List ℕ → List Slot → Type 0
-LieWithin text slots = AllByRecursion (LiesWithin (length text)) slots
-
--- the slot of two texts that begin at `start`
-abbrev pub slot_at : ℕ → ℕ → OpKind → List ℕ → List ℕ → Slot
-slot_at start seq kind first second = record { seq = seq; kind = kind; start = start; first = length first; second = length second }
-
--- an arena and slots with one more write: its texts and its slot are at the end
+-- an arena and slots with one more write: its bytes and its slot are at the end
 pub record Grows (text grown : List ℕ) (slots more : List Slot) (w : Write) : Type 0 where
   pub kind : OpKind
   pub first : List ℕ
   pub second : List ℕ
-  pub texts : grown ≡ text ++ (first ++ second)
-  pub slots_are : more ≡ slots ++ slot_at (length text) w.seq kind first second ∷ []
+  pub bytes : grown ≡ text ++ bytes_of first second
+  pub slots_are : more ≡ slots ++ record { trailer = trailer_of w.seq kind; start = length text } ∷ []
+  pub fits : length first < 2 ^ 64
   pub op : op_of kind first second ≡ w.op

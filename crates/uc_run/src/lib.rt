@@ -1,6 +1,6 @@
 //! Memtables and runs: where writes are inserted, and the sorted tables that they become.
 //!
-//! A [`Memtable`] keeps the texts of its writes one after the other in one arena, and a small slot for each write. A
+//! A [`Memtable`] keeps the texts of its writes one after the other in one arena, and a small slot for each write (`slots.rt`). A
 //! contract sees it as the list of the writes that were inserted. [`Memtable::flush`] makes a [`Run`] of it. Read
 //! `specs/Flush.antt` and `memtable.rt`, then `ranks.rt`, which sorts the points.
 //!
@@ -38,7 +38,10 @@ mod run_size;
 mod same;
 mod size;
 mod slot;
+mod slot_ref;
+mod slot_slice;
 mod slot_totals;
+mod slots;
 mod sought_key;
 mod texts;
 

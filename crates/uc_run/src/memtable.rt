@@ -4,25 +4,21 @@ ghost use Rattle.std.specs.List.{slice_get};
 ghost use Rattle.uc_batch.specs.Rising.{last_of};
 ghost use Rattle.uc_run.specs.Flush.{flushed};
 ghost use Rattle.uc_run.specs.Size.{memtable_size};
-ghost use Rattle.uc_run.specs.Slots.{Grows};
 
-use crate::flush::{run_of_slots, write_at};
+use crate::flush::run_of_slots;
 use crate::run::Run;
 use crate::size::op_size;
-use crate::slot::Slot;
-use crate::slot_totals::{last_seq, reach, size_of_slots};
+use crate::slot_totals::{last_seq, size_of_slots};
+use crate::slots::Slots;
 use std::alloc::{AllocError, Global};
 use std::marker::Model;
 use uc_bytes::{Write, WriteRef};
-use uc_run_points::make_small;
 
 /// The newest writes, before they become a run (RocksDB wiki, "MemTable"). A contract sees it as the list of the
 /// writes that were inserted, in order.
-#[derive(Debug)]
+#[derive(Debug, Drop)]
 pub struct Memtable {
-    /// The arena: the texts of all writes, one after the other.
-    text: Vec<u8>,
-    slots: Vec<Slot>,
+    slots: Slots,
     size: u64,
     last: u64,
 }
@@ -39,66 +35,13 @@ impl Model for Memtable {
     ghost invariant = { IsHeld };
 }
 
-impl Drop for Memtable {
-    fn drop(mut self) {
-        make_small(&mut self.text, size_of::<u8>());
-        make_small(&mut self.slots, size_of::<Slot>());
-        let Memtable {
-            text: _,
-            slots: _,
-            size: _,
-            last: _,
-        } = self;
-    }
-}
-
-/// Writes both texts at the end. An `Err` writes nothing.
-fn push_texts(text: &mut Vec<u8>, first: &[u8], second: &[u8]) -> Result<(), AllocError>
-    ensures ok { OnOk result (text.new.items ≡ text.old.items ++ (first.now ++ second.now)) }
-    ensures err { OnErr result (text.new.items ≡ text.old.items) }
-{
-    let before = text.len();
-    text.extend_from_slice(first)?;
-    if let Err(error) = text.extend_from_slice(second) {
-        text.truncate(before);
-        return Err(error);
-    }
-    Ok(())
-}
-
-/// Appends a write: a copy of its texts, and its slot. An `Err` changes nothing.
-fn push_write(
-    text: &mut Vec<u8>,
-    slots: &mut Vec<Slot>,
-    write: &WriteRef<'_>,
-) -> Result<(), AllocError>
-    ensures ok { OnOk result (Grows text.old.items text.new.items slots.old.items slots.new.items write.now) }
-    ensures texts_kept { OnErr result (text.new.items ≡ text.old.items) }
-    ensures slots_kept { OnErr result (slots.new.items ≡ slots.old.items) }
-{
-    let (kind, first, second) = write.op().parts();
-    // The steps that can fail come first.
-    slots.reserve(1)?;
-    let start = text.len();
-    push_texts(text, first, second)?;
-    slots.push(Slot {
-        seq: write.seq(),
-        kind,
-        start,
-        first: first.len(),
-        second: second.len(),
-    })?;
-    Ok(())
-}
-
 impl Memtable {
     /// A memtable without writes. It doesn't allocate.
     pub fn new(alloc: Global) -> Memtable
         ensures { result ≡ [] }
     {
         Memtable {
-            text: Vec::new(alloc),
-            slots: Vec::new(alloc),
+            slots: Slots::new(alloc),
             size: 0,
             last: 0,
         }
@@ -108,7 +51,7 @@ impl Memtable {
     pub fn is_empty(&self) -> bool
         ensures { IsTrue result ↔ (self.now ≡ []) }
     {
-        self.slots.is_empty()
+        self.slots.len() == 0
     }
 
     /// How many writes it has.
@@ -123,8 +66,7 @@ impl Memtable {
     pub fn write(&self, place: usize) -> Option<WriteRef<'_>>
         ensures { result ≡ slice_get self.now place }
     {
-        let slot = self.slots.get(place)?;
-        Some(write_at(&self.text, slot))
+        Some(self.slots.as_slice().get(place)?.write())
     }
 
     /// How many bytes its writes have: for each the lengths of its texts, and 8; nothing for a range whose begin isn't
@@ -160,7 +102,7 @@ impl Memtable {
         ensures ok { OnOk result (self.new ≡ self.old ++ write.now ∷ []) }
         ensures err { OnErr result (self.new ≡ self.old) }
     {
-        push_write(&mut self.text, &mut self.slots, write)?;
+        self.slots.push(write)?;
         self.size = self.size.saturating_add(op_size(write.op()));
         self.last = write.seq();
         Ok(())
@@ -172,10 +114,9 @@ impl Memtable {
     {
         if count < self.slots.len() {
             self.slots.truncate(count);
-            let end = reach(self.text.len(), &self.slots);
-            self.text.truncate(end);
-            self.size = size_of_slots(&self.text, &self.slots);
-            self.last = last_seq(&self.slots);
+            let kept = self.slots.as_slice();
+            self.size = size_of_slots(&kept);
+            self.last = last_seq(&kept);
         }
     }
 
@@ -187,7 +128,7 @@ impl Memtable {
         requires within { count ≤ length self.now }
         ensures { IfOk result (λ run. run ≡ flushed (take count self.now)) }
     {
-        run_of_slots(alloc, &self.text, &self.slots[..count])
+        run_of_slots(alloc, &self.slots.as_slice().up_to(count))
     }
 
     /// The run of all its writes, as [`run_of_first`](Memtable::run_of_first) makes it.

@@ -3,7 +3,7 @@
 //! The last bits of a rank are the number of the point's slot, as many as the numbers need. The last slot has the number 0, so
 //! the newest point of a key has its lowest rank. Those before them are the first bits of the key's prefix, after the bytes
 //! that all keys share. Most ranks differ there, and slots and texts are looked at only where two don't.
-ghost use Rattle.std.specs.Prelude.{◌≡◌, ◌≢◌, ◌<◌, ◌≤◌, ◌^◌, ◌%◌, ℕ, List, length, map, slice_index, ◌++◌, IfOk, OnOk};
+ghost use Rattle.std.specs.Prelude.{◌≡◌, ◌≢◌, ◌<◌, ◌≤◌, ◌^◌, ◌%◌, ℕ, length, map, slice_index, ◌++◌, IfOk, OnOk};
 ghost use Rattle.std.specs.List.{AllByRecursion};
 ghost use Rattle.std.specs.List.Sorted.{IsNonDecreasing, IsPermutation, IsSortedBy};
 ghost use Rattle.std.specs.Ordering.{is_lt};
@@ -12,11 +12,10 @@ ghost use Rattle.uc_run.specs.Points.{HaveOwnSeqs};
 ghost use Rattle.uc_run.specs.Prefixes.{AreBytes};
 ghost use Rattle.uc_run.specs.Ranks as of_rank;
 ghost use Rattle.uc_run.specs.Ranks.{behind_cmp, entry_at, first_key, points_of, rank_cmp, ranked_at, HasFront, HaveBytes, HaveFront};
-ghost use Rattle.uc_run.specs.Slots.{slot_writes};
 
 use crate::entry_ref::EntryRef;
 use crate::prefixes::{common_prefix_len, prefix_of};
-use crate::slot::Slot;
+use crate::slot_slice::SlotSlice;
 use crate::texts::{same_text, split_front};
 use std::alloc::{AllocError, Global};
 use std::cmp::Ordering;
@@ -26,11 +25,10 @@ use uc_run_points::Points;
 /// The slots of how many points are looked at before the points are packed.
 const POINTS_AT_ONCE: usize = 64;
 
-/// The slots whose points are ranked, and the arena with their texts.
-#[derive(Clone, Copy)]
+/// The slots whose points are ranked.
+#[derive(Drop)]
 pub(crate) struct Ranked<'a> {
-    pub(crate) text: &'a [u8],
-    pub(crate) slots: &'a [Slot],
+    pub(crate) slots: SlotSlice<'a>,
     /// How many bits of a rank tell the number of the slot.
     pub(crate) bits: u32,
 }
@@ -71,12 +69,12 @@ impl<'a> Ranked<'a> {
     /// The point of a rank.
     #[inline]
     fn point(&self, rank: u64) -> EntryRef<'a>
-        ensures { result ≡ entry_at self.now.text.now self.now.slots.now self.now.bits rank }
+        ensures { result ≡ entry_at self.now.slots self.now.bits rank }
     {
         let last = self.slots.len().saturating_sub(1);
         let place = last.saturating_sub(low_in(rank, self.bits) as usize);
         match self.slots.get(place) {
-            Some(slot) => slot.point_in(self.text),
+            Some(slot) => slot.point(),
             None => EntryRef::new(&[], 0, WhatRef::Delete),
         }
     }
@@ -84,7 +82,7 @@ impl<'a> Ranked<'a> {
     /// The rank of the same slot, by the prefix of its key after the bytes that all keys share.
     #[inline]
     fn ranked(&self, rank: u64, shared: usize) -> u64
-        ensures { result ≡ ranked_at self.now.text.now self.now.slots.now shared self.now.bits rank }
+        ensures { result ≡ ranked_at self.now.slots shared self.now.bits rank }
     {
         let (_, rest) = split_front(self.point(rank).key(), shared);
         rank_of(prefix_of(rest), rank, self.bits)
@@ -97,8 +95,8 @@ impl<'a> Ranked<'a> {
         ensures { result ≡
             behind_cmp
             shared
-            (entry_at self.now.text.now self.now.slots.now self.now.bits rank)
-            (entry_at self.now.text.now self.now.slots.now self.now.bits other) }
+            (entry_at self.now.slots self.now.bits rank)
+            (entry_at self.now.slots self.now.bits other) }
     {
         self.point(rank).order_behind(&self.point(other), shared)
     }
@@ -106,7 +104,7 @@ impl<'a> Ranked<'a> {
     /// The order of two ranks: by the first bits of the prefixes, then as their points.
     #[inline]
     fn order(&self, rank: u64, other: u64, shared: usize) -> Ordering
-        ensures { result ≡ rank_cmp self.now.text.now self.now.slots.now shared self.now.bits rank other }
+        ensures { result ≡ rank_cmp self.now.slots shared self.now.bits rank other }
     {
         match high_in(rank, self.bits).cmp(&high_in(other, self.bits)) {
             Ordering::Equal => self.order_of_points(rank, other, shared),
@@ -131,16 +129,15 @@ pub(crate) fn begins_with(front: &[u8], key: &[u8]) -> usize
 /// The numbers of the slots that are points, as ranks that tell nothing of the keys. An `Err` loses them.
 pub(crate) fn numbers_of_points(
     alloc: Global,
-    slots: &[Slot],
+    slots: &SlotSlice<'_>,
     bits: u32,
 ) -> Result<Vec<u64>, AllocError>
     requires { length slots.now ≤ of_rank.room bits }
-    ensures { IfOk result (λ numbers.
-        (text : List ℕ) → points_of text slots.now bits numbers.items ≡ flush.points_in (slot_writes text slots.now)) }
+    ensures { IfOk result (λ numbers. points_of slots.now bits numbers.items ≡ flush.points_in slots.now) }
 {
     let mut numbers = Vec::with_capacity(alloc, slots.len())?;
     for place in 0..slots.len() {
-        if slots[place].is_point() {
+        if slots.at(place).is_point() {
             numbers.push((slots.len() - 1 - place) as u64)?;
         }
     }
@@ -149,8 +146,8 @@ pub(crate) fn numbers_of_points(
 
 /// How many bytes at their front the keys of some points have in common with a key.
 fn shared_with(ranked: &Ranked<'_>, first: &[u8], ranks: &[u64]) -> usize
-    ensures front { HaveFront result first.now (points_of ranked.now.text.now ranked.now.slots.now ranked.now.bits ranks.now) }
-    ensures bytes { HaveBytes (points_of ranked.now.text.now ranked.now.slots.now ranked.now.bits ranks.now) }
+    ensures front { HaveFront result first.now (points_of ranked.now.slots ranked.now.bits ranks.now) }
+    ensures bytes { HaveBytes (points_of ranked.now.slots ranked.now.bits ranks.now) }
 {
     let mut shared = first.len();
     for rank in ranks {
@@ -161,9 +158,9 @@ fn shared_with(ranked: &Ranked<'_>, first: &[u8], ranks: &[u64]) -> usize
 
 /// How many bytes at their front the keys of some points have in common.
 fn shared_by(ranked: &Ranked<'_>, ranks: &[u64]) -> usize
-    ensures front { let points = points_of ranked.now.text.now ranked.now.slots.now ranked.now.bits ranks.now in
+    ensures front { let points = points_of ranked.now.slots ranked.now.bits ranks.now in
         HaveFront result (first_key points) points }
-    ensures bytes { HaveBytes (points_of ranked.now.text.now ranked.now.slots.now ranked.now.bits ranks.now) }
+    ensures bytes { HaveBytes (points_of ranked.now.slots ranked.now.bits ranks.now) }
 {
     match ranks.first() {
         None => 0,
@@ -173,7 +170,7 @@ fn shared_by(ranked: &Ranked<'_>, ranks: &[u64]) -> usize
 
 /// Ranks each point by its key, after the bytes that all keys share.
 fn rank_each(ranked: &Ranked<'_>, ranks: &mut [u64], shared: usize)
-    ensures { ranks.new ≡ map (ranked_at ranked.now.text.now ranked.now.slots.now shared ranked.now.bits) ranks.old }
+    ensures { ranks.new ≡ map (ranked_at ranked.now.slots shared ranked.now.bits) ranks.old }
 {
     for rank in ranks.iter_mut() {
         *rank = ranked.ranked(*rank, shared);
@@ -204,7 +201,7 @@ fn tied(ranks: &[u64], bits: u32) -> usize
 fn sort_tied(ranked: &Ranked<'_>, ranks: &mut [u64], shared: usize)
     ensures permutation { IsPermutation ranks.old ranks.new }
     ensures sorted { IsSortedBy
-        (λ r s. is_lt (rank_cmp ranked.now.text.now ranked.now.slots.now shared ranked.now.bits r s))
+        (λ r s. is_lt (rank_cmp ranked.now.slots shared ranked.now.bits r s))
         ranks.new }
 {
     if ranks.len() > 1 {
@@ -217,7 +214,7 @@ fn sort_ties(ranked: &Ranked<'_>, ranks: &mut [u64], shared: usize)
     requires { IsNonDecreasing ranks.old }
     ensures permutation { IsPermutation ranks.old ranks.new }
     ensures sorted { IsSortedBy
-        (λ r s. is_lt (rank_cmp ranked.now.text.now ranked.now.slots.now shared ranked.now.bits r s))
+        (λ r s. is_lt (rank_cmp ranked.now.slots shared ranked.now.bits r s))
         ranks.new }
 {
     let mut start = 0;
@@ -232,7 +229,7 @@ fn sort_ties(ranked: &Ranked<'_>, ranks: &mut [u64], shared: usize)
 fn sort_ranks(ranked: &Ranked<'_>, ranks: &mut [u64], shared: usize)
     ensures permutation { IsPermutation ranks.old ranks.new }
     ensures sorted { IsSortedBy
-        (λ r s. is_lt (rank_cmp ranked.now.text.now ranked.now.slots.now shared ranked.now.bits r s))
+        (λ r s. is_lt (rank_cmp ranked.now.slots shared ranked.now.bits r s))
         ranks.new }
 {
     ranks.sort_unstable();
@@ -241,9 +238,9 @@ fn sort_ranks(ranked: &Ranked<'_>, ranks: &mut [u64], shared: usize)
 
 /// Ranks points by key, and sorts them, the newest of a key first.
 pub(crate) fn sort_by_key(ranked: &Ranked<'_>, ranks: &mut [u64])
-    requires { HaveOwnSeqs (points_of ranked.now.text.now ranked.now.slots.now ranked.now.bits ranks.old) }
-    ensures order { points_of ranked.now.text.now ranked.now.slots.now ranked.now.bits ranks.new ≡
-        flush.by_key (points_of ranked.now.text.now ranked.now.slots.now ranked.now.bits ranks.old) }
+    requires { HaveOwnSeqs (points_of ranked.now.slots ranked.now.bits ranks.old) }
+    ensures order { points_of ranked.now.slots ranked.now.bits ranks.new ≡
+        flush.by_key (points_of ranked.now.slots ranked.now.bits ranks.old) }
     ensures len { length ranks.new ≡ length ranks.old }
 {
     let shared = shared_by(ranked, ranks);
@@ -258,7 +255,7 @@ fn put_points<'a>(
     points: &mut Vec<EntryRef<'a>>,
 ) -> Result<(), AllocError>
     ensures { OnOk result
-        (points.new.items ≡ points_of ranked.now.text.now ranked.now.slots.now ranked.now.bits ranks.now) }
+        (points.new.items ≡ points_of ranked.now.slots ranked.now.bits ranks.now) }
 {
     points.clear();
     for rank in ranks {
@@ -287,9 +284,9 @@ pub(crate) fn pack_ranked(
 ) -> Result<Points, AllocError>
     requires { AllByRecursion
         (λ p. p.seq < 2 ^ 56)
-        (points_of ranked.now.text.now ranked.now.slots.now ranked.now.bits ranks.now) }
+        (points_of ranked.now.slots ranked.now.bits ranks.now) }
     ensures { IfOk result (λ packed.
-        packed ≡ points_of ranked.now.text.now ranked.now.slots.now ranked.now.bits ranks.now) }
+        packed ≡ points_of ranked.now.slots ranked.now.bits ranks.now) }
 {
     let mut packed = Points::new(alloc);
     let mut points = Vec::with_capacity(alloc, POINTS_AT_ONCE)?;

@@ -1,53 +1,86 @@
-//! [`Slot`]: where a write's texts lie in the arena.
-ghost use Rattle.std.specs.Prelude.{◌≡◌, ℕ, List, Some, None, if◌then◌else◌};
-ghost use Rattle.uc_run.specs.Flush.{point_of};
-ghost use Rattle.uc_run.specs.Ranks.{entry_in};
-ghost use Rattle.uc_run.specs.Slots.{slot_write};
+//! [`Slot`]: where a write's bytes lie in the arena, in 16 bytes.
+ghost use Rattle.std.specs.Prelude.{◌≡◌, ◌*◌, ◌+◌, ◌<◌, ◌^◌};
+ghost use Rattle.uc_run.specs.Slots as of_slot;
+ghost use Rattle.uc_run.specs.Slots.{write_of};
 
-use crate::entry_ref::EntryRef;
+use crate::slot_ref::SlotRef;
 use crate::texts::split_front;
 use uc_bytes::OpKind;
-use uc_run_entry::WhatRef;
+use uc_run_points::read_number;
 
-/// A write whose texts lie in an arena, the second after the first.
+/// How many kinds of changes there are.
+const KINDS: u64 = 4;
+
+/// A write whose bytes lie in an arena, up to where those of the next slot start. They are the length of the first text as a
+/// number, the first text, and the second.
 #[derive(Debug, Drop)]
 pub(crate) struct Slot {
-    pub(crate) seq: u64,
-    pub(crate) kind: OpKind,
-    /// Where the first text begins.
-    pub(crate) start: usize,
-    /// The length of the first text.
-    pub(crate) first: usize,
-    /// The length of the second text, which is ignored if the kind has only one text.
-    pub(crate) second: usize,
+    /// The sequence above two bits of the kind.
+    trailer: u64,
+    /// Where the bytes start.
+    start: usize,
+}
+
+/// The number of a kind: its place in [`OpKind`], so that nothing is looked up.
+#[inline]
+fn kind_number(kind: OpKind) -> u64
+    ensures number { result ≡ of_slot.kind_number kind }
+    ensures bound { result < 4 }
+{
+    match kind {
+        OpKind::Put => 0,
+        OpKind::Delete => 1,
+        OpKind::Merge => 2,
+        OpKind::DeleteRange => 3,
+    }
+}
+
+/// The kind of a number.
+#[inline]
+fn kind_of(number: u64) -> OpKind
+    ensures { result ≡ of_slot.kind_of number }
+{
+    match number {
+        0 => OpKind::Put,
+        1 => OpKind::Delete,
+        2 => OpKind::Merge,
+        _ => OpKind::DeleteRange,
+    }
 }
 
 impl Slot {
-    /// Whether the write changes one key.
+    /// The slot of a write of a kind whose bytes start there.
     #[inline]
-    pub(crate) fn is_point(&self) -> bool
-        ensures { (text : List ℕ) →
-            point_of self.now.seq (slot_write text self.now).op ≡ (if result then Some (entry_in text self.now) else None) }
+    pub(crate) fn new(seq: u64, kind: OpKind, start: usize) -> Slot
+        requires { seq < 2 ^ 62 }
+        ensures { result ≡ record { trailer = of_slot.trailer_of seq kind; start = start } }
     {
-        match self.kind {
-            OpKind::DeleteRange => false,
-            OpKind::Put | OpKind::Delete | OpKind::Merge => true,
+        Slot {
+            trailer: KINDS * seq + kind_number(kind),
+            start,
         }
     }
 
-    /// The write's point, as far as the arena has its texts. Nothing is required of the slot, since a sort asks for the
-    /// order of any two.
+    /// Where the bytes start.
     #[inline]
-    pub(crate) fn point_in<'t>(&self, text: &'t [u8]) -> EntryRef<'t>
-        ensures { result ≡ entry_in text.now self.now }
+    pub(crate) fn start(&self) -> usize
+        ensures { result ≡ self.now.start }
     {
-        let (_, behind) = split_front(text, self.start);
-        let (key, behind) = split_front(behind, self.first);
-        let (second, _) = split_front(behind, self.second);
-        match self.kind {
-            OpKind::Put => EntryRef::new(key, self.seq, WhatRef::Put(second)),
-            OpKind::Merge => EntryRef::new(key, self.seq, WhatRef::Merge(second)),
-            OpKind::Delete | OpKind::DeleteRange => EntryRef::new(key, self.seq, WhatRef::Delete),
-        }
+        self.start
+    }
+
+    /// The write that the slot tells with its bytes.
+    #[inline]
+    pub(crate) fn read<'t>(&self, bytes: &'t [u8]) -> SlotRef<'t>
+        ensures { result ≡ write_of self.now.trailer bytes.now }
+    {
+        let (first_len, texts) = read_number(bytes);
+        let (first, second) = split_front(texts, first_len as usize);
+        SlotRef::new(
+            self.trailer / KINDS,
+            kind_of(self.trailer % KINDS),
+            first,
+            second,
+        )
     }
 }

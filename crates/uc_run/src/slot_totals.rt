@@ -1,45 +1,39 @@
-//! What slots have together: their size, their last sequence, and how far their texts reach.
-ghost use Rattle.std.specs.Prelude.{◌≡◌, ◌≤◌, ℕ, List};
-ghost use Rattle.std.specs.List.{AllByRecursion};
+//! What slots have together: their size, and their first and last sequence.
+ghost use Rattle.std.specs.Prelude.{◌≡◌};
 ghost use Rattle.uc_batch.specs.Rising.{last_of};
+ghost use Rattle.uc_run.specs.Flush as flush;
 ghost use Rattle.uc_run.specs.Size.{memtable_size};
-ghost use Rattle.uc_run.specs.Slots.{slot_writes, LiesWithin, LieWithin};
 
-use crate::flush::write_at;
 use crate::size::op_size;
-use crate::slot::Slot;
-
-/// How many of the first bytes of an arena hold the slots' texts, if all of its bytes do.
-pub(crate) fn reach(room: usize, slots: &[Slot]) -> usize
-    requires { AllByRecursion (LiesWithin room) slots.now }
-    ensures reached { AllByRecursion (LiesWithin result) slots.now }
-    ensures within { result ≤ room }
-{
-    let mut end: usize = 0;
-    for slot in slots {
-        end = end.max(slot.start + slot.first + slot.second);
-    }
-    end
-}
+use crate::slot_slice::SlotSlice;
 
 /// The size of the slots' writes, as [`Memtable::size`](crate::Memtable::size) counts it.
-pub(crate) fn size_of_slots(text: &[u8], slots: &[Slot]) -> u64
-    requires { LieWithin text.now slots.now }
-    ensures { result ≡ memtable_size (slot_writes text.now slots.now) }
+pub(crate) fn size_of_slots(slots: &SlotSlice<'_>) -> u64
+    ensures { result ≡ memtable_size slots.now }
 {
     let mut size: u64 = 0;
-    for slot in slots {
-        size = size.saturating_add(op_size(write_at(text, slot).op()));
+    for place in 0..slots.len() {
+        size = size.saturating_add(op_size(slots.at(place).write().op()));
     }
     size
 }
 
-/// The sequence of the last slot, or 0 if there is none.
-pub(crate) fn last_seq(slots: &[Slot]) -> u64
-    ensures { (text : List ℕ) → result ≡ last_of 0 (slot_writes text slots.now) }
+/// The sequence of the first slot, or 0 if there is none.
+pub(crate) fn first_seq(slots: &SlotSlice<'_>) -> u64
+    ensures { result ≡ flush.first_of slots.now }
 {
-    match slots.last() {
+    match slots.get(0) {
         None => 0,
-        Some(slot) => slot.seq,
+        Some(slot) => slot.seq(),
+    }
+}
+
+/// The sequence of the last slot, or 0 if there is none.
+pub(crate) fn last_seq(slots: &SlotSlice<'_>) -> u64
+    ensures { result ≡ last_of 0 slots.now }
+{
+    match slots.get(slots.len().saturating_sub(1)) {
+        None => 0,
+        Some(slot) => slot.seq(),
     }
 }

@@ -19,6 +19,7 @@ mod points;
 mod points_ahead;
 mod spelling;
 
+pub use number::{push_number, read_number};
 pub use point_ref::PointRef;
 pub use point_slice::PointSlice;
 pub use point_test::PointTest;

@@ -39,7 +39,7 @@ fn width_of(number: u64) -> usize
 
 /// Pushes a number. An `Err` may leave some of its bytes pushed.
 #[tactic(auto, unfolding(crate::specs::Numbers::number_text))]
-pub(crate) fn push_number(bytes: &mut Vec<u8>, number: u64) -> Result<(), AllocError>
+pub fn push_number(bytes: &mut Vec<u8>, number: u64) -> Result<(), AllocError>
     ensures pushed { OnOk result (bytes.new.items ≡ bytes.old.items ++ numbers.number_text number) }
     ensures begins { IsPrefix bytes.old.items bytes.new.items }
 {
@@ -97,7 +97,7 @@ fn wide_number(bytes: &[u8]) -> u64
 /// The number at the front, and the bytes behind it.
 #[inline]
 #[tactic(auto, unfolding(crate::specs::Numbers::number_from))]
-pub(crate) fn read_number(bytes: &[u8]) -> (u64, &[u8])
+pub fn read_number(bytes: &[u8]) -> (u64, &[u8])
     ensures number { result.0 ≡ (numbers.number_from bytes.now).0 }
     ensures rest { result.1.now ≡ (numbers.number_from bytes.now).1 }
 {

@@ -1,7 +1,6 @@
 use Rattle.std.proofs.Common.{◌≡◌, take}
-use Rattle.uc_run.specs.Slots.{slot_writes}
 use Rattle.uc_run.specs.Flush as flush
 use Rattle.uc_run.proofs.flush.ranges_in.Given as goal
 
-abbrev pub invariant-loop-slot : goal.invariant-loop-slot
-invariant-loop-slot l = l.ranges.items ≡ flush.ranges_in (slot_writes l.text (take l.slot-index l.slots))
+abbrev pub invariant-loop-place : goal.invariant-loop-place
+invariant-loop-place l = l.ranges.items ≡ flush.ranges_in (take l.place l.slots)

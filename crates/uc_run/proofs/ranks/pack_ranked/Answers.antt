@@ -9,21 +9,21 @@ use Rattle.uc_run.proofs.ranks.pack_ranked.Goals as goal
 pub push_points-requires : goal.push_points-requires
 push_points-requires c =
     let ranked = c.args.ranked.now in
-    let points = points_of ranked.text.now ranked.slots.now ranked.bits in
+    let points = points_of ranked.slots ranked.bits in
     let next = c.split_at.result.0.now in
     let behind = c.split_at.result.1.now in
-    let parts = ap points c.split_at.ensures.by_index.0 ∙ map-append (entry_at ranked.text.now ranked.slots.now ranked.bits) next behind in
+    let parts = ap points c.split_at.ensures.by_index.0 ∙ map-append (entry_at ranked.slots ranked.bits) next behind in
     let both = subst (AllByRecursion (λ (p : Entry). p.seq < 2 ^ 56)) parts c.loop-rest.invariant.below in
     subst (AllByRecursion (λ (p : Entry). p.seq < 2 ^ 56)) (sym (c.deref.ensures.value ∙ c.in_ok-put_points.ensures)) (all_front (λ (p : Entry). p.seq < 2 ^ 56) (points next) (points behind) both)
 
 pub loop-rest-preserved : goal.loop-rest-preserved
 loop-rest-preserved c =
     let ranked = c.args.ranked.now in
-    let points = points_of ranked.text.now ranked.slots.now ranked.bits in
+    let points = points_of ranked.slots ranked.bits in
     let next = c.split_at.result.0.now in
     let behind = c.split_at.result.1.now in
     let packed = c.loop-rest.packed in
-    let parts = ap points c.split_at.ensures.by_index.0 ∙ map-append (entry_at ranked.text.now ranked.slots.now ranked.bits) next behind in
+    let parts = ap points c.split_at.ensures.by_index.0 ∙ map-append (entry_at ranked.slots ranked.bits) next behind in
     let both = subst (AllByRecursion (λ (p : Entry). p.seq < 2 ^ 56)) parts c.loop-rest.invariant.below in
     record {
       all =

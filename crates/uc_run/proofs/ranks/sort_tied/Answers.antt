@@ -9,8 +9,8 @@ use Rattle.uc_run.proofs.ranks.sort_tied.Goals as goal
 pub returns-then-ranks-gt1 : goal.returns-then-ranks-gt1
 returns-then-ranks-gt1 c =
     let ranked = c.args.ranked.now in
-    let cmp = rank_cmp ranked.text.now ranked.slots.now c.args.shared ranked.bits in
+    let cmp = rank_cmp ranked.slots c.args.shared ranked.bits in
     record {
       permutation = c.sort_unstable_by.ensures.permutation;
-      sorted = c.sort_unstable_by.ensures.sorted (λ r s. is_lt (cmp r s)) (ranks_by (rank_total ranked.text.now ranked.slots.now c.args.shared ranked.bits) (λ r. r)) (always_returns_same _ _ _ (λ a r f called. search rules));
+      sorted = c.sort_unstable_by.ensures.sorted (λ r s. is_lt (cmp r s)) (ranks_by (rank_total ranked.slots c.args.shared ranked.bits) (λ r. r)) (always_returns_same _ _ _ (λ a r f called. search rules));
     }

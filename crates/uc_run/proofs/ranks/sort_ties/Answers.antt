@@ -18,7 +18,7 @@ overflow_add-end c =
 pub loop-start-init : goal.loop-start-init
 loop-start-init c =
     let ranked = c.args.ranked.now in
-    none_yet (λ r s. is_lt (rank_cmp ranked.text.now ranked.slots.now c.args.shared ranked.bits r s)) (high_in ranked.bits) (below_by_first ranked.text.now ranked.slots.now c.args.shared ranked.bits) c.args.ranks.now
+    none_yet (λ r s. is_lt (rank_cmp ranked.slots c.args.shared ranked.bits r s)) (high_in ranked.bits) (below_by_first ranked.slots c.args.shared ranked.bits) c.args.ranks.now
 
 pub loop-start-preserved : goal.loop-start-preserved
 loop-start-preserved c =
@@ -28,7 +28,7 @@ loop-start-preserved c =
     let n = c.tied.result in
     let rest : length (take (length xs - start) (drop start xs)) ≡ length xs - start = ap length (take_rest xs start) ∙ length-drop start xs in
     let within : start ≤ length xs = c.loop-start.invariant.within in
-    upto_next (λ r s. is_lt (rank_cmp ranked.text.now ranked.slots.now c.args.shared ranked.bits r s)) (high_in ranked.bits) (below_by_first ranked.text.now ranked.slots.now c.args.shared ranked.bits)
+    upto_next (λ r s. is_lt (rank_cmp ranked.slots c.args.shared ranked.bits r s)) (high_in ranked.bits) (below_by_first ranked.slots c.args.shared ranked.bits)
     c.args.ranks.now xs c.sort_tied.new.ranks (take (length xs - start) (drop start xs)) start n (start + n - start) (omega arith) (take_rest xs start)
     (λ i j le l. first_rise ranked.bits _ _ (c.requires i j 0 le l))
     c.loop-start.invariant c.tied.ensures.some (omega (arith, within, rest, c.tied.ensures.within)) c.tied.ensures.same c.tied.ensures.next c.sort_tied.ensures.permutation c.sort_tied.ensures.sorted
@@ -36,5 +36,5 @@ loop-start-preserved c =
 pub returns : goal.returns
 returns c = record {
   permutation = c.loop-start.invariant.moved;
-  sorted = all_sorted (λ r s. is_lt (rank_cmp c.args.ranked.now.text.now c.args.ranked.now.slots.now c.args.shared c.args.ranked.now.bits r s)) (high_in c.args.ranked.now.bits) (below_by_first c.args.ranked.now.text.now c.args.ranked.now.slots.now c.args.shared c.args.ranked.now.bits) c.args.ranks.now c.loop-start.ranks c.loop-start.start c.loop-start-test.false c.loop-start.invariant;
+  sorted = all_sorted (λ r s. is_lt (rank_cmp c.args.ranked.now.slots c.args.shared c.args.ranked.now.bits r s)) (high_in c.args.ranked.now.bits) (below_by_first c.args.ranked.now.slots c.args.shared c.args.ranked.now.bits) c.args.ranks.now c.loop-start.ranks c.loop-start.start c.loop-start-test.false c.loop-start.invariant;
 }

@@ -1,12 +1,12 @@
-use Rattle.std.proofs.Common.{rules, ◌≡◌, ◌<◌, ◌-◌, length, get_or, ap, sym, ◌∙◌, arith}
-use Rattle.uc_run.specs.declared.slot.Slot.{Slot}
-use Rattle.uc_run.proofs.FirstSlots.{last_slot}
+use Rattle.std.proofs.Common.{◌≡◌, ◌-◌, ◌∙◌, ℕ, length, ap, sym}
+use Rattle.uc_run.proofs.FirstWrites.{last_there, none_last}
 use Rattle.uc_run.proofs.slot_totals.last_seq.Goals as goal
 
+pub returns-in-None : goal.returns-in-None
+returns-in-None c =
+    sym (none_last c.args.slots.now c.saturating_sub.result (c.saturating_sub.ensures ∙ ap (λ (n : ℕ). n - 1) c.len.ensures.count) (sym c.in-None.ensures))
+
 pub returns-in-Some : goal.returns-in-Some
-returns-in-Some c text =
-    let slots = c.args.slots.now in
-    let slot = c.in-Some.slot.now in
-    let some : 0 < length slots = search rules in
-    let here : slot ≡ get_or slots (length slots - 1) slot = search rules in
-    ap (λ (s : Slot). s.seq) here ∙ sym (last_slot text slots (length slots - 1) slot (omega (arith, some)))
+returns-in-Some c =
+    c.seq.ensures
+    ∙ sym (last_there c.args.slots.now c.saturating_sub.result c.in-Some.slot (c.saturating_sub.ensures ∙ ap (λ (n : ℕ). n - 1) c.len.ensures.count) (sym c.in-Some.ensures))
