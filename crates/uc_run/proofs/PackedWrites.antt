@@ -1,5 +1,5 @@
 -- Writes that slots and an arena hold, when they grow and when they are cut.
-use Rattle.std.proofs.Common.{◌≡◌, ℕ, zero, suc, ◌+◌, ◌-◌, ◌*◌, ◌/◌, ◌%◌, ◌^◌, ◌<◌, ◌≤◌, List, [], ◌∷◌, ◌++◌, Some, None, length, take, drop, refl, add-one, ap, sym, ◌∙◌, subst, arith}
+use Rattle.std.proofs.Common.{◌≡◌, ℕ, zero, suc, ◌+◌, ◌-◌, ◌/◌, ◌%◌, ◌^◌, ◌<◌, ◌≤◌, List, [], ◌∷◌, ◌++◌, Some, None, length, take, drop, refl, add-one, ap, sym, ◌∙◌, subst, arith}
 use Rattle.std.specs.List.{slice_get}
 use Rattle.std.proofs.Math.Seq.{drop-append_seam, take-append_seam}
 use Rattle.std.proofs.lemmas.List.{drop-append-le, take-append-le, take-append-drop, length-drop, length-take-le, length-append, take_all}
@@ -8,7 +8,7 @@ use Rattle.uc_bytes.specs.declared.op_ref.OpKind.{OpKind}
 use Rattle.uc_bytes.specs.declared.op_ref.OpKind.TheVariants.{Put, Delete, Merge, DeleteRange}
 use Rattle.uc_bytes.specs.declared.write.Write.{Write}
 use Rattle.uc_bytes.specs.Borrowed.{op_of}
-use Rattle.uc_run_points.specs.Numbers.{number_text, number_from}
+use Rattle.uc_run_points.specs.Numbers.{number_from}
 use Rattle.uc_run_points.proofs.NumbersAgain.{number_again}
 use Rattle.uc_run.specs.declared.slot.Slot.{Slot}
 use Rattle.uc_run.specs.Slots.{kind_of, kind_number, trailer_of, bytes_of, write_of, end_before, slot_writes, AreInOrder, Grows}

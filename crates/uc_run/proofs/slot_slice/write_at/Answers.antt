@@ -1,7 +1,5 @@
-use Rattle.std.proofs.Common.{rules, ◌≡◌, ◌≤◌, Some, length, get_or, arith}
-use Rattle.std.specs.List.{slice_get}
+use Rattle.std.proofs.Common.{rules, ◌≤◌, length}
 use Rattle.std.proofs.lemmas.Option.{slice_get-get_or}
-use Rattle.uc_run.specs.declared.slot.Slot.{Slot}
 use Rattle.uc_run.proofs.PackedWrites.{starts_before, ends_inside, read_there}
 use Rattle.uc_run.proofs.slot_slice.write_at.Goals as goal
 

@@ -1,4 +1,4 @@
-use Rattle.std.proofs.Common.{◌≡◌, ◌-◌, ◌∙◌, ℕ, length, ap, sym}
+use Rattle.std.proofs.Common.{◌-◌, ◌∙◌, ℕ, ap, sym}
 use Rattle.uc_run.proofs.FirstWrites.{last_there, none_last}
 use Rattle.uc_run.proofs.slot_totals.last_seq.Goals as goal
 
