@@ -11,7 +11,7 @@
 //!
 //! An `Err(AllocError)` comes only if an allocation fails.
 //!
-//! Tests: `uc_tests_base`, `uc_tests_store`, `uc_tests_answers`.
+//! Tests: `uc_tests_base`, `uc_tests_store`.
 #![tactic(auto)]
 
 mod answer;

@@ -8,7 +8,7 @@
 //!
 //! An `Err(AllocError)`, or a variant `Memory`, comes only if an allocation fails.
 //!
-//! Tests: `uc_tests_versions`, `uc_tests_store`.
+//! Tests: `uc_tests_store`.
 #![tactic(auto)]
 
 mod at_once;

@@ -15,7 +15,7 @@
 //!
 //! An `Err(AllocError)` comes only if an allocation fails.
 //!
-//! Tests: `uc_tests_versions`.
+//! Tests: `uc_tests_store`.
 #![tactic(auto)]
 
 mod candidate;
