@@ -86,6 +86,16 @@ fn have_groups(
     Ok(come(alloc, &mut groups, expected)?)
 }
 
+/// Whether no runs have no groups.
+fn have_none(alloc: Global) -> Result<bool, Fail> {
+    let keeps: &[u64] = &[];
+    if !keeps_rise(keeps) {
+        return Err(Fail::new("keeps fall"));
+    }
+    let mut groups = Groups::over(alloc, &[], keeps)?;
+    Ok(come(alloc, &mut groups, &[])?)
+}
+
 /// Two runs of deletions, the newer one first, the keeps, and the keys of both runs, each with the sequences of its points that
 /// last.
 struct Merge {
@@ -122,13 +132,7 @@ static MERGES: [Merge; 7] = [
         newer: &[(1, 9), (3, 8), (3, 7), (4, 6), (9, 10)],
         older: &[(2, 1), (3, 4), (3, 2), (9, 3)],
         keeps: &[5],
-        groups: &[
-            (1, &[9]),
-            (2, &[1]),
-            (3, &[8, 4]),
-            (4, &[6]),
-            (9, &[10, 3]),
-        ],
+        groups: &[(1, &[9]), (2, &[1]), (3, &[8, 4]), (4, &[6]), (9, &[10, 3])],
     },
     // All keys of the newer run before those of the older one.
     Merge {
@@ -163,7 +167,14 @@ static MERGES: [Merge; 7] = [
 #[test]
 fn points_come_by_key(rt: HostRuntime) -> Result<(), Fail> {
     for merge in &MERGES {
-        assert!(rt; have_groups(rt.alloc(), [merge.newer, &[], merge.older], merge.keeps, merge.groups)?);
+        assert!(rt;
+            have_groups(
+                rt.alloc(),
+                [merge.newer, &[], merge.older],
+                merge.keeps,
+                merge.groups
+            )?
+        );
     }
     Ok(())
 }
@@ -171,8 +182,7 @@ fn points_come_by_key(rt: HostRuntime) -> Result<(), Fail> {
 #[test]
 fn no_runs_have_no_groups(rt: HostRuntime) -> Result<(), Fail> {
     let alloc = rt.alloc();
-    let mut groups = Groups::over(alloc, &[], &[])?;
-    assert!(rt; come(alloc, &mut groups, &[])?);
+    assert!(rt; have_none(alloc)?);
     Ok(())
 }
 
