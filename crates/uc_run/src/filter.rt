@@ -5,13 +5,14 @@ ghost use Rattle.uc_run.specs.Filters.{HasBits, Admits, AdmitsAll};
 
 use crate::filter_bits::{BLOCK_WORDS, admit, is_admitted};
 use crate::sought_key::SoughtKey;
+use crate::texts::same_text;
 use std::alloc::{AllocError, Global};
 use std::marker::{Model, Sync};
 use std::thread::{Threads, join};
-use uc_run_points::{PointSlice, Points, make_small};
+use uc_run_points::{PointSlice, Points, PointsAhead, make_small};
 
-/// How many points share a block: ten bits for each, of which six are set. Of other keys about 1.1 % are admitted.
-const BLOCK_POINTS: usize = 51;
+/// How many keys share a block: ten bits for each, of which six are set. Of other keys about 1.1 % are admitted.
+const BLOCK_KEYS: usize = 51;
 
 /// Into how many parts points are cut whose filter is made in threads.
 const PARTS: usize = 4;
@@ -48,11 +49,36 @@ impl Filter {
     }
 }
 
-/// How many words a filter of so many points has.
-fn count_words(points: usize) -> usize
-    ensures { 0 < points → BLOCK_WORDS ≤ result }
+/// How many words a filter of so many keys has.
+fn count_words(keys: usize) -> usize
+    ensures { 0 < keys → BLOCK_WORDS ≤ result }
 {
-    points.div_ceil(BLOCK_POINTS) * BLOCK_WORDS
+    keys.div_ceil(BLOCK_KEYS) * BLOCK_WORDS
+}
+
+/// How many keys some points have, from a key on, that one among them.
+fn count_keys_from(first: &[u8], mut ahead: PointsAhead<'_>) -> usize
+    ensures { 0 < result }
+{
+    let (mut count, mut last) = (1_usize, first);
+    while let Some(point) = ahead.next() {
+        if !same_text(point.key(), last) {
+            count = count.saturating_add(1);
+        }
+        last = point.key();
+    }
+    count
+}
+
+/// How many keys the points have, where those of a key are neighbours.
+fn count_keys(points: &Points) -> usize
+    ensures { 0 < length points.now → 0 < result }
+{
+    let mut ahead = points.ahead();
+    match ahead.next() {
+        None => 0,
+        Some(first) => count_keys_from(first.key(), ahead),
+    }
 }
 
 /// Makes the words admit the key of each point.
@@ -77,11 +103,12 @@ fn words_of(alloc: Global, count: usize, points: &PointSlice<'_>) -> Result<Vec<
     Ok(words)
 }
 
-/// A filter that admits the keys of the points.
+/// A filter that admits the keys of the points. It is as large as their keys need.
 pub(crate) fn filter_of(alloc: Global, points: &Points) -> Result<Filter, AllocError>
     ensures { IfOk result (λ filter. AdmitsAll filter points.now) }
 {
-    let words = words_of(alloc, count_words(points.len()), &points.as_slice())?;
+    let count = count_words(count_keys(points));
+    let words = words_of(alloc, count, &points.as_slice())?;
     Ok(Filter { words })
 }
 
@@ -135,7 +162,8 @@ fn words_by_parts<R: Threads + Sync>(
     Ok(words)
 }
 
-/// As [`filter_of`], made of four parts of the points side by side, in threads.
+/// As [`filter_of`], made of four parts of the points side by side, in threads. It is as large as if each point had a key of its own,
+/// as most have behind a compaction.
 pub(crate) fn filter_in_threads<R: Threads + Sync>(
     rt: &R,
     alloc: Global,
