@@ -7,7 +7,8 @@ use std::process::Abort;
 use std::test::Fail;
 use std::thread::Threads;
 use uc_bytes::{OpRef, Write, WriteRef};
-use uc_version::{ClaimError, InstallError, MOST_CLAIMS, MOST_SLOTS, OwnedClaim, Stretch};
+use uc_version::{MOST_CLAIMS, MOST_SLOTS, OwnedClaim, Stretch};
+use uc_version_compact::{ClaimError, InstallError};
 
 /// A step of a row: a call, and its outcome.
 #[derive(Clone, Copy)]
