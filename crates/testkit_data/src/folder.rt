@@ -1,5 +1,5 @@
 //! [`play_folder`]: a program that plays the files of a folder.
-use crate::playing::{Interpreter, play, rewritten};
+use crate::playing::{Interpreter, Lone, Player, play_by, rewritten_by};
 use anyhow::{Context, Result, bail, ensure};
 use std::alloc::Global;
 use std::env::Env;
@@ -54,7 +54,7 @@ fn paths_in<R: Files + AllocGlobal + Clone + Drop>(rt: &R, folder: &str) -> Resu
 }
 
 /// Plays a file, or writes it as it would be right. What is returned says where it is wrong.
-fn play_file<I: Interpreter + Drop, R: Files + AllocGlobal>(
+fn play_file<P: Player<R> + Drop, R: Files + AllocGlobal>(
     rt: &R,
     path: &str,
     rewrites: bool,
@@ -62,11 +62,11 @@ fn play_file<I: Interpreter + Drop, R: Files + AllocGlobal>(
     let alloc: Global = rt.alloc();
     let text = fs::read_to_string(rt, path).context(format_args!("{path}"))?;
     if rewrites {
-        let text = rewritten::<I>(alloc, text.as_str()).context(format_args!("{path}"))?;
+        let text = rewritten_by::<P, R>(rt, alloc, text.as_str()).context(format_args!("{path}"))?;
         fs::write(rt, path, text.as_str())?;
         return Ok(String::new(alloc));
     }
-    play::<I>(alloc, path, text.as_str()).context(format_args!("{path}"))
+    play_by::<P, R>(rt, alloc, path, text.as_str()).context(format_args!("{path}"))
 }
 
 /// The `main` of a program that plays each file `*.txt` of the folder that it runs in, or of one that its command line
@@ -76,12 +76,20 @@ pub fn play_folder<I: Interpreter + Drop, R: Files + Env + Print + AllocGlobal +
     rt: &R,
     words: &[String],
 ) -> Result<()> {
+    play_folder_by::<Lone<I>, R>(rt, words)
+}
+
+/// The same by a player, which has the program's runtime.
+pub fn play_folder_by<P: Player<R> + Drop, R: Files + Env + Print + AllocGlobal + Clone + Drop>(
+    rt: &R,
+    words: &[String],
+) -> Result<()> {
     let asked = asked_by(words);
     let paths = paths_in(rt, asked.folder)?;
     ensure!(!paths.is_empty(), "no file *.txt");
     let mut agree = true;
     for path in &paths {
-        let failures = play_file::<I, R>(rt, path.as_str(), asked.rewrites)?;
+        let failures = play_file::<P, R>(rt, path.as_str(), asked.rewrites)?;
         if !failures.is_empty() {
             print!(rt; "{failures}")?;
             agree = false;

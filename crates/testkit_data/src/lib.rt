@@ -37,5 +37,5 @@ pub use case::Case;
 pub use case_error::CaseError;
 pub use case_file::read_cases;
 pub use file_error::FileError;
-pub use folder::play_folder;
-pub use playing::{Interpreter, play, rewritten};
+pub use folder::{play_folder, play_folder_by};
+pub use playing::{Interpreter, Player, play, rewritten};

@@ -1,4 +1,4 @@
-//! [`Interpreter`], and how it plays a file.
+//! [`Interpreter`] and [`Player`], and how they play a file.
 use crate::case::Case;
 use crate::case_error::CaseError;
 use crate::case_file::read_cases;
@@ -15,13 +15,37 @@ pub trait Interpreter {
     fn run(&mut self, alloc: Global, case: &Case<'_>) -> Result<String, CaseError>;
 }
 
+/// As an [`Interpreter`], with the runtime of the program: it may start threads.
+pub trait Player<R> {
+    /// A player before the first case of a file.
+    fn new(alloc: Global) -> Self;
+
+    /// What a case prints: lines, none of which is empty.
+    fn run(&mut self, rt: &R, alloc: Global, case: &Case<'_>) -> Result<String, CaseError>;
+}
+
+/// An interpreter as a player, which needs no runtime.
+#[derive(Drop)]
+pub(crate) struct Lone<I: Interpreter>(I);
+
+impl<I: Interpreter, R> Player<R> for Lone<I> {
+    fn new(alloc: Global) -> Lone<I> {
+        Lone(I::new(alloc))
+    }
+
+    fn run(&mut self, _rt: &R, alloc: Global, case: &Case<'_>) -> Result<String, CaseError> {
+        self.0.run(alloc, case)
+    }
+}
+
 /// What a case prints, or its error.
-fn output_of<I: Interpreter>(
+fn output_of<P: Player<R>, R>(
+    rt: &R,
     alloc: Global,
     case: &Case<'_>,
-    interpreter: &mut I,
+    player: &mut P,
 ) -> Result<String, AllocError> {
-    match interpreter.run(alloc, case) {
+    match player.run(rt, alloc, case) {
         Ok(output) => Ok(output),
         Err(CaseError::Memory(error)) => Err(error),
         Err(error) => format!(in alloc; "error: {error}\n"),
@@ -55,6 +79,42 @@ fn push_failure(
     failures.push_str(difference(alloc, &case.expected, &came)?.as_str())
 }
 
+/// Plays a file by a player, as [`play`] does.
+pub(crate) fn play_by<P: Player<R> + Drop, R>(
+    rt: &R,
+    alloc: Global,
+    name: &str,
+    text: &str,
+) -> Result<String, FileError> {
+    let mut player = P::new(alloc);
+    let mut failures = String::new(alloc);
+    for case in &read_cases(alloc, text)? {
+        let output = output_of(rt, alloc, case, &mut player)?;
+        push_failure(alloc, &mut failures, name, case, output.as_str())?;
+    }
+    Ok(failures)
+}
+
+/// Plays a file by a player, and returns it as [`rewritten`] does.
+pub(crate) fn rewritten_by<P: Player<R> + Drop, R>(
+    rt: &R,
+    alloc: Global,
+    text: &str,
+) -> Result<String, FileError> {
+    let mut player = P::new(alloc);
+    let lines: Vec<&str> = text.lines().collect(alloc)?;
+    let mut rewritten = String::new(alloc);
+    let mut done = 0;
+    for case in &read_cases(alloc, text)? {
+        push_lines(&mut rewritten, "", lines.get(done..case.separator))?;
+        let output = output_of(rt, alloc, case, &mut player)?;
+        push_lines(&mut rewritten, "", Some(&lines_of(alloc, output.as_str())?))?;
+        done = case.separator.saturating_add(case.expected.len());
+    }
+    push_lines(&mut rewritten, "", lines.get(done..))?;
+    Ok(rewritten)
+}
+
 /// Plays a file. What is returned says of each case that printed something else where it is, and how the lines differ: it is
 /// empty if all cases agree.
 pub fn play<I: Interpreter + Drop>(
@@ -62,27 +122,10 @@ pub fn play<I: Interpreter + Drop>(
     name: &str,
     text: &str,
 ) -> Result<String, FileError> {
-    let mut interpreter = I::new(alloc);
-    let mut failures = String::new(alloc);
-    for case in &read_cases(alloc, text)? {
-        let output = output_of(alloc, case, &mut interpreter)?;
-        push_failure(alloc, &mut failures, name, case, output.as_str())?;
-    }
-    Ok(failures)
+    play_by::<Lone<I>, ()>(&(), alloc, name, text)
 }
 
 /// Plays a file, and returns it with what its cases printed in the place of what they were to print.
 pub fn rewritten<I: Interpreter + Drop>(alloc: Global, text: &str) -> Result<String, FileError> {
-    let mut interpreter = I::new(alloc);
-    let lines: Vec<&str> = text.lines().collect(alloc)?;
-    let mut rewritten = String::new(alloc);
-    let mut done = 0;
-    for case in &read_cases(alloc, text)? {
-        push_lines(&mut rewritten, "", lines.get(done..case.separator))?;
-        let output = output_of(alloc, case, &mut interpreter)?;
-        push_lines(&mut rewritten, "", Some(&lines_of(alloc, output.as_str())?))?;
-        done = case.separator.saturating_add(case.expected.len());
-    }
-    push_lines(&mut rewritten, "", lines.get(done..))?;
-    Ok(rewritten)
+    rewritten_by::<Lone<I>, ()>(&(), alloc, text)
 }

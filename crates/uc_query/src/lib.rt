@@ -11,7 +11,7 @@
 //!
 //! An `Err(AllocError)` or `Memory` comes only if an allocation fails.
 //!
-//! Tests: `uc_tests_versions`, `uc_tests_store`.
+//! Tests: `uc_tests_store`.
 #![tactic(auto)]
 
 mod ask_turn;

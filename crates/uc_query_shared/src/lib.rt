@@ -12,7 +12,7 @@
 //!
 //! An `Err(AllocError)`, or an error `Memory`, comes only if an allocation fails.
 //!
-//! Tests: `uc_tests_answers`, `uc_tests_feeds`.
+//! Tests: `uc_tests_share`.
 #![tactic(auto)]
 
 mod answers;

@@ -16,7 +16,7 @@
 //!
 //! An `Err(AllocError)`, or a variant `Memory`, comes only if an allocation fails.
 //!
-//! Tests: `uc_tests_store`, `uc_tests_answers`.
+//! Tests: `uc_tests_store`, `uc_tests_share`.
 #![tactic(auto)]
 
 mod answered;

@@ -1,248 +1,261 @@
-//! Four compactors beside two readers, over many drawn stores: the same answers all along, and each install counted.
-ghost use Rattle.std.specs.Prelude.{◌≡◌, All};
+//! Two feeders, four compactors, one who keeps and releases and two who ask, all at once, over many drawn stores: whoever feeds and
+//! whatever is compacted meanwhile, what is kept is answered as the plain writes answer it, no install is refused, and nothing is
+//! lost.
+ghost use Rattle.std.specs.Prelude.{◌≡◌, false};
 ghost use Rattle.uc_share.specs.Stores.{IsNamed};
 
+use crate::actors::{Actor, Soak};
+use crate::done::Done;
+use crate::drawn::{Plan, writes_behind};
+use crate::scene::Scene;
+use crate::worker::{Worker, workers_of};
 use std::alloc::Global;
 use std::marker::{Brand, Send, Sync};
-use std::process::Abort;
-use std::sync::Wait;
-use std::test::Fail;
-use std::thread::{Threads, join};
-use testkit_compactors::drawn::{MANY, SOME, Size, drawn_store};
-use testkit_compactors::turns::{TURNS, four_compact, shows_installs};
-use testkit_compactors::worker::{Pair, next_pairs};
-use testkit_draws::dice::{Dice, KEYS};
+use std::sync::{RwLock, Wait};
+use std::thread::{Threads, map_vec};
+use testkit_draws::dice::Dice;
 use uc_batch::Writes;
-use uc_bytes::Bytes;
 use uc_oper::{Append, Counter, Maximum, Operator, Tail};
-use uc_query_read::{Answer, Query, answer_one, answer_writes};
-use uc_share::{Name, Opening, Reader, Seat, Store, Version};
+use uc_share::{Name, Opening, Reader, Version};
 
-/// Whether a version answers as it should.
-fn reads_alike<O: Operator>(alloc: Global, version: &Version, asked: &[(Query, Answer)]) -> bool {
-    for (query, wanted) in asked {
-        match answer_one::<O>(alloc, version, query) {
-            Ok(answer) => {
-                if answer != *wanted {
-                    return false;
-                }
-            }
-            Err(_) => return false,
-        }
-    }
-    true
-}
+/// How many readers a store has, of which four are for batches.
+const READERS: usize = 13;
 
-/// Whether so many pins of a reader answer as they should.
-pub(crate) fn pins_alike<O: Operator, N: Name, W: Wait + Drop>(
-    alloc: Global,
-    store: &Store<O, N, W>,
-    reader: &mut Reader<O, N>,
-    asked: &[(Query, Answer)],
-    count: usize,
-) -> bool {
-    for _ in 0..count {
-        match store.pin(reader) {
-            Ok(pin) => {
-                if !reads_alike::<O>(alloc, pin.version(), asked) {
-                    return false;
-                }
-            }
-            Err(_) => return false,
-        }
-    }
-    true
-}
+/// How many queries are asked in the end.
+const LAST_QUERIES: u64 = 40;
 
-/// Two readers at once. Whether the pins of both answer as they should.
-fn two_pin<O, N, W, R>(
-    rt: &R,
-    alloc: Global,
-    store: &Store<O, N, W>,
-    mut readers: (Reader<O, N>, Reader<O, N>),
-    asked: &[(Query, Answer)],
-) -> bool
-where
-    O: Operator + Send + Sync,
-    N: Name + Send + Sync,
-    W: Wait + Drop + Send,
-    R: Threads + Wait + Sync,
-{
-    let (one, other) = (&mut readers.0, &mut readers.1);
-    let (one, other) = join(
-        rt,
-        move || pins_alike(alloc, store, one, asked, TURNS),
-        move || pins_alike(alloc, store, other, asked, TURNS),
-    );
-    one && other
-}
+/// Stores of a few runs, which are fed more than they open with.
+const SMALL: Plan = Plan {
+    stores: 5,
+    fewest: 8,
+    most: 8,
+    greatest: u32::MAX,
+    percent: 25,
+    turns: 120,
+    draws: true,
+    feeds: 30,
+    installs: 5,
+};
 
-/// Two of the readers of a store.
-fn next_readers<O: Operator, N: Name>(
-    readers: &mut Vec<Reader<O, N>>,
-) -> Option<(Reader<O, N>, Reader<O, N>)> {
-    let one = readers.pop()?;
-    let other = readers.pop()?;
-    Some((one, other))
-}
+/// Stores of some runs, of which any number is picked.
+const SOME: Plan = Plan {
+    stores: 10,
+    fewest: 32,
+    most: 64,
+    turns: 24,
+    feeds: 6,
+    installs: 10,
+    ..SMALL
+};
 
-/// Four compactors beside two readers. How many installs there were, where all pins answer as they should.
-fn six_at_once<O, N, W, R>(
-    rt: &R,
-    alloc: Global,
-    store: &Store<O, N, W>,
-    compactors: (Pair<O, N>, Pair<O, N>),
-    readers: (Reader<O, N>, Reader<O, N>),
-    asked: &[(Query, Answer)],
+/// Stores that have few slots left, or none. At most eight runs are picked, so that there are many for a while.
+const MANY: Plan = Plan {
+    stores: 4,
+    fewest: 200,
+    most: 256,
+    greatest: 8,
+    percent: u32::MAX,
+    installs: 4,
+    ..SOME
+};
+
+/// A store with a run for each slot. Two are picked at a time, so that there are many installs, and all compactors take turns.
+const FULL: Plan = Plan {
+    stores: 1,
+    fewest: 256,
+    most: 256,
+    greatest: 2,
+    percent: 100_000,
+    turns: 200,
+    draws: false,
+    feeds: 6,
+    installs: 100,
+};
+
+/// What one is to do, and its seed.
+type Job<O, N> = (Actor<O, N>, u64);
+
+/// Appends jobs for compactors. Every second one draws, if that is the plan.
+fn push_compactors<O: Operator, N: Name>(
+    jobs: &mut Vec<Job<O, N>>,
+    workers: Vec<Worker<O, N>>,
+    draws: bool,
     seed: u64,
-) -> Option<u64>
-where
-    O: Operator + Send + Sync,
-    N: Name + Send + Sync,
-    W: Wait + Drop + Send,
-    R: Threads + Wait + Sync,
-    requires first { (compactors.0.0.1.table ≡ store.now.table) × (compactors.0.1.1.table ≡ store.now.table) }
-    requires second { (compactors.1.0.1.table ≡ store.now.table) × (compactors.1.1.1.table ≡ store.now.table) }
-{
-    let (first, second) = compactors;
-    let (installs, alike) = join(
-        rt,
-        move || -> Option<u64>
-            requires first { (first.0.1.table ≡ store.now.table) × (first.1.1.table ≡ store.now.table) }
-            requires second { (second.0.1.table ≡ store.now.table) × (second.1.1.table ≡ store.now.table) }
-        { four_compact(rt, alloc, store, first, second, seed) },
-        move || two_pin(rt, alloc, store, readers, asked),
-    );
-    if alike { installs } else { None }
+) -> Option<()> {
+    for (place, worker) in workers.into_iter().enumerate() {
+        let actor = if draws && place & 1 == 0 {
+            Actor::Draws(worker)
+        } else {
+            Actor::Turns(worker)
+        };
+        jobs.push((actor, seed.wrapping_add(place as u64))).ok()?;
+    }
+    Some(())
 }
 
-/// The same with readers and seats of a store.
-fn six_of_a_store<O, N, W, R>(
-    rt: &R,
-    alloc: Global,
-    store: &Store<O, N, W>,
-    readers: &mut Vec<Reader<O, N>>,
-    seats: &mut Vec<Seat>,
-    asked: &[(Query, Answer)],
-    seed: u64,
-) -> Option<u64>
-where
-    O: Operator + Send + Sync,
-    N: Name + Send + Sync,
-    W: Wait + Drop + Send,
-    R: Threads + Wait + Sync,
-    requires { All (λ seat. seat.table ≡ store.now.table) seats.old.items }
-{
-    let compactors = next_pairs(store, readers, seats)?;
-    let pair = next_readers(readers)?;
-    six_at_once(rt, alloc, store, compactors, pair, asked, seed)
-}
-
-/// How many installs are made in a store, where it answers as it should beside its compactors, and in the end has one event and
-/// one id for each install since a first id.
-fn soaks<O, N, W, R>(
-    rt: &R,
-    alloc: Global,
-    store: &Store<O, N, W>,
+/// Appends jobs for readers.
+fn push_readers<O: Operator, N: Name>(
+    jobs: &mut Vec<Job<O, N>>,
     mut readers: Vec<Reader<O, N>>,
-    mut seats: Vec<Seat>,
-    asked: &[(Query, Answer)],
-    numbers: (u64, u64),
-) -> Option<u64>
+    seed: u64,
+) -> Option<()> {
+    jobs.push((Actor::Feeder(readers.pop()?), !seed)).ok()?;
+    jobs.push((Actor::Feeder(readers.pop()?), seed)).ok()?;
+    jobs.push((Actor::Keeper(readers.pop()?), seed)).ok()?;
+    jobs.push((Actor::Pins(readers.pop()?), seed)).ok()?;
+    jobs.push((Actor::Batches(readers), !seed)).ok()?;
+    Some(())
+}
+
+/// What all have done together, if each has done what it should.
+fn all_done(done: &[Option<Done>]) -> Option<Done> {
+    let mut all = Done::events(0);
+    for one in done {
+        all = all.and((*one)?);
+    }
+    Some(all)
+}
+
+impl<O, N, W, R> Soak<'_, O, N, W, R>
 where
     O: Operator + Send + Sync,
     N: Name + Send + Sync,
     W: Wait + Drop + Send,
     R: Threads + Wait + Sync,
-    requires { All (λ seat. seat.table ≡ store.now.table) seats.items }
 {
-    let (first_id, seed) = numbers;
-    let mut late = readers.pop()?;
-    let installs = six_of_a_store(rt, alloc, store, &mut readers, &mut seats, asked, seed)?;
-    shows_installs(store, &mut late, first_id, installs).then_some(installs)
+    /// All at once.
+    fn act_at_once(&self, jobs: Vec<Job<O, N>>) -> Option<Done> {
+        let work = |job: Job<O, N>| -> Option<Done> {
+            let (actor, seed) = job;
+            self.act(actor, Dice::new(seed))
+        };
+        let done = map_vec(self.scene.rt, jobs, &work).ok()?;
+        all_done(&done)
+    }
+
+    /// Whether a version is behind all writes that were fed, and each of their runs and of the installs gave an id since a first one.
+    fn leads_to(&self, version: &Version, first_id: u64, done: Done) -> bool {
+        let count = self.count.saturating_add(done.writes) as usize;
+        let last = match self.writes.list().get(count.saturating_sub(1)) {
+            Some(write) => version.last() == write.seq,
+            None => false,
+        };
+        let ids = version.next_id().saturating_sub(first_id);
+        last && ids == done.runs.saturating_add(done.installs)
+    }
+
+    /// Whether the store shows all that was done, with an event for each, and answers at the last sequence, which is kept here.
+    fn shows_all(&self, reader: &mut Reader<O, N>, first_id: u64, done: Done) -> Option<bool> {
+        let (rt, alloc, store) = (self.scene.rt, self.scene.alloc, self.scene.store);
+        let last = store.keep(rt, alloc, reader).ok()?;
+        let alike = self.pin_is_alike(reader, &mut Dice::new(last), last, LAST_QUERIES)?;
+        let pin = reader.pin().ok()?;
+        let all = pin.front().len() == done.events.saturating_add(1);
+        Some(alike && all && self.leads_to(pin.version(), first_id, done))
+    }
 }
 
-/// The same of a store that is opened here.
-fn soaks_opened<O, N, W, R>(
-    rt: &R,
+/// What is done to a store that gets its name here, where all is answered as it should be, and nothing is lost.
+fn soak_named<'x, O, N, W, R>(
+    rt: &'x R,
     handle: W,
     alloc: Global,
     opening: Opening<O>,
-    asked: &[(Query, Answer)],
+    plan: Plan,
+    given: (&'x Writes, u64),
     seed: u64,
-) -> Option<u64>
+) -> Option<Done>
 where
     O: Operator + Send + Sync,
     N: Name + Send + Sync,
     W: Wait + Drop + Send,
     R: Threads + Wait + Sync,
-    requires { IsNamed opening N.book N.table N.base }
+    requires name { IsNamed opening N.book N.table N.base }
+    requires keeps { N.keeps_stay ≡ false }
 {
-    let numbers = (opening.version().next_id(), seed);
-    let (store, readers, seats) = opening.named::<N, W>(alloc, handle).ok()?;
-    soaks(rt, alloc, &store, readers, seats, asked, numbers)
+    let (first_id, opened) = (opening.version().next_id(), opening.version().last());
+    let (writes, count) = given;
+    let first_keep = opening.version().keeps().first().copied()?;
+    let (store, mut readers, seats) = opening.named::<N, W>(alloc, handle).ok()?;
+    let mut jobs = Vec::new(alloc);
+    push_compactors(
+        &mut jobs,
+        workers_of(alloc, &mut readers, seats)?,
+        plan.draws,
+        seed,
+    )?;
+    let mut late = readers.pop()?;
+    push_readers(&mut jobs, readers, seed)?;
+    let scene = Scene {
+        rt,
+        alloc,
+        store: &store,
+    };
+    let soak = Soak {
+        scene,
+        plan,
+        writes,
+        count,
+        first_keep,
+        opened,
+        kept: RwLock::new(opened),
+    };
+    let done = soak.act_at_once(jobs)?;
+    soak.shows_all(&mut late, first_id, done)?.then_some(done)
 }
 
-/// The lookup of each key and a scan of all, at a sequence.
-fn queries_at(alloc: Global, at: u64, queries: &mut Vec<Query>) -> Result<(), Fail> {
-    for key in KEYS {
-        let key = Bytes::from_slice(alloc, key)?;
-        queries.push(Query::Get { key, at })?;
-    }
-    queries.push(Query::Scan {
-        low: Bytes::from_slice(alloc, b"")?,
-        high: None,
-        at,
-        limit: 10,
-    })?;
-    Ok(())
-}
-
-/// What is asked at each kept sequence, with what the plain writes answer.
-fn questions<O: Operator>(
-    alloc: Global,
-    writes: &Writes,
-    keeps: &[u64],
-) -> Result<Vec<(Query, Answer)>, Fail> {
-    let mut queries = Vec::new(alloc);
-    for &at in keeps {
-        queries_at(alloc, at, &mut queries)?;
-    }
-    let mut asked = Vec::new(alloc);
-    for query in queries {
-        let answer = answer_writes::<O>(alloc, writes, keeps, &query)?;
-        asked.push((query, answer))?;
-    }
-    Ok(asked)
-}
-
-/// How many installs are made in so many drawn stores, where all of them answer as they should.
-fn installs_of<O: Operator + Send + Sync, R: Threads + Wait + Sync>(
+/// What is done to a drawn store.
+fn soak<O: Operator + Send + Sync, R: Threads + Wait + Sync>(
     rt: &R,
     alloc: Global,
+    plan: Plan,
+    writes: &Writes,
     dice: &mut Dice,
-    size: Size,
-    stores: usize,
-) -> Result<u64, Fail> {
-    let mut installs = 0_u64;
-    for _ in 0..stores {
-        let (writes, opening) = drawn_store::<O>(alloc, dice, size, 7).ok_or("no store is drawn")?;
-        let asked = questions::<O>(alloc, &writes, opening.version().keeps())?;
-        let seed = dice.roll(u64::MAX);
-        let made = soaks_opened::<O, Brand, &R, R>(rt, rt, alloc, opening, &asked, seed);
-        installs = installs.saturating_add(made.ok_or("a store answers differently")?);
+) -> Option<Done> {
+    let more = dice.roll(plan.most.saturating_sub(plan.fewest).saturating_add(1));
+    let count = plan.fewest.saturating_add(more);
+    let opened = writes_behind(alloc, 0, count)?;
+    let keeps = [dice.roll(opened.last())];
+    let opening = Opening::open(alloc, &opened, &keeps, plan.options(), READERS, 4).ok()?;
+    let seed = dice.roll(u64::MAX);
+    soak_named::<O, Brand, &R, R>(rt, rt, alloc, opening, plan, (writes, count), seed)
+}
+
+/// Whether drawn stores are as they should be, and enough was done to them that it means something.
+fn are_right<O: Operator + Send + Sync, R: Threads + Wait + Sync>(
+    rt: &R,
+    alloc: Global,
+    plan: Plan,
+) -> Option<bool> {
+    let writes = writes_behind(alloc, 0, plan.writes())?;
+    let mut dice = Dice::new(25);
+    let mut done = Done::events(0);
+    for _ in 0..plan.stores {
+        done = done.and(soak::<O, R>(rt, alloc, plan, &writes, &mut dice)?);
     }
-    Ok(installs)
+    Some(done.installs >= plan.installs && done.runs >= plan.stores)
+}
+
+/// Whether the stores of each operator are so.
+fn all_are_right<R: Threads + Wait + Sync>(rt: &R, alloc: Global, plan: Plan) -> bool {
+    are_right::<Append<0x2C>, R>(rt, alloc, plan) == Some(true)
+        && are_right::<Counter, R>(rt, alloc, plan) == Some(true)
+        && are_right::<Maximum, R>(rt, alloc, plan) == Some(true)
+        && are_right::<Tail<2>, R>(rt, alloc, plan) == Some(true)
 }
 
 #[test]
-fn stores_answer_beside_their_compactors(rt: HostRuntime) -> Result<(), Fail> {
-    let alloc = rt.alloc();
-    let mut dice = Dice::new(29);
-    assert!(rt; installs_of::<Append<0x2C>, _>(&rt, alloc, &mut dice, SOME, 30)? >= 30);
-    assert!(rt; installs_of::<Counter, _>(&rt, alloc, &mut dice, SOME, 30)? >= 30);
-    assert!(rt; installs_of::<Maximum, _>(&rt, alloc, &mut dice, SOME, 30)? >= 30);
-    assert!(rt; installs_of::<Tail<2>, _>(&rt, alloc, &mut dice, SOME, 30)? >= 30);
-    assert!(rt; installs_of::<Append<0x2C>, _>(&rt, alloc, &mut dice, MANY, 6)? >= 6);
-    Ok(())
+fn small_stores_answer_while_all_goes_on(rt: HostRuntime) {
+    assert!(rt; all_are_right(&rt, rt.alloc(), SMALL));
+}
+
+#[test]
+fn stores_answer_while_all_goes_on(rt: HostRuntime) {
+    assert!(rt; all_are_right(&rt, rt.alloc(), SOME));
+}
+
+#[test]
+fn stores_of_many_runs_answer_while_all_goes_on(rt: HostRuntime) {
+    assert!(rt; are_right::<Append<0x2C>, _>(&rt, rt.alloc(), MANY) == Some(true));
+    assert!(rt; are_right::<Append<0x2C>, _>(&rt, rt.alloc(), FULL) == Some(true));
 }

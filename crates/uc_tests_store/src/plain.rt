@@ -1,60 +1,63 @@
 //! [`Plain`]: the plain program beside a store, a list of writes and a set of keeps.
+use crate::said_writes::rising;
+use crate::setup::copied;
 use std::alloc::{AllocError, Global};
-use std::test::Fail;
+use testkit_data::CaseError;
 use uc_batch::Writes;
-use uc_bytes::Write;
+use uc_bytes::{Bytes, OpRef};
 
 /// What a store was given, and the sequences that it keeps, in any order.
 #[derive(Drop)]
-pub(crate) struct Plain {
-    pub(crate) writes: Writes,
-    pub(crate) keeps: Vec<u64>,
-}
-
-/// Pushes copies of writes.
-fn push_copies(all: &mut Vec<Write>, writes: &Writes) -> Result<(), AllocError> {
-    for write in writes.list() {
-        all.push(write.clone()?)?;
-    }
-    Ok(())
-}
-
-/// Writes, and others behind them.
-fn joined(alloc: Global, older: &Writes, newer: &Writes) -> Result<Writes, Fail> {
-    let mut all = Vec::new(alloc);
-    push_copies(&mut all, older)?;
-    push_copies(&mut all, newer)?;
-    Ok(Writes::of(all).ok_or("sequences don't rise")?)
+pub struct Plain {
+    pub writes: Writes,
+    pub keeps: Vec<u64>,
 }
 
 impl Plain {
+    /// What a store was opened with. It keeps the last sequence too.
+    pub fn opened(alloc: Global, writes: &Writes, keeps: &[u64]) -> Result<Plain, CaseError> {
+        let mut keeps = keeps.to_vec(alloc)?;
+        keeps.push(writes.last())?;
+        let writes = rising(copied(alloc, writes.list())?)?;
+        Ok(Plain { writes, keeps })
+    }
+
     /// The last sequence.
-    pub(crate) fn last(&self) -> u64 {
+    pub fn last(&self) -> u64 {
         self.writes.last()
     }
 
-    /// Whether a sequence is kept.
-    pub(crate) fn is_kept(&self, seq: u64) -> bool {
-        self.keeps.contains(&seq)
-    }
-
     /// Appends writes.
-    pub(crate) fn feed(&mut self, alloc: Global, writes: &Writes) -> Result<(), Fail> {
-        self.writes = joined(alloc, &self.writes, writes)?;
+    pub fn feed(&mut self, alloc: Global, writes: &Writes) -> Result<(), CaseError> {
+        let mut all = copied(alloc, self.writes.list())?;
+        all.append(&mut copied(alloc, writes.list())?)?;
+        self.writes = rising(all)?;
         Ok(())
     }
 
     /// Keeps the last sequence.
-    pub(crate) fn keep(&mut self) -> Result<(), AllocError> {
+    pub fn keep(&mut self) -> Result<(), AllocError> {
         let last = self.last();
-        if !self.is_kept(last) {
+        if !self.keeps.contains(&last) {
             self.keeps.push(last)?;
         }
         Ok(())
     }
 
     /// Keeps a sequence no more.
-    pub(crate) fn release(&mut self, seq: u64) {
+    pub fn release(&mut self, seq: u64) {
         self.keeps.retain(|keep| *keep != seq);
+    }
+
+    /// The keys of its writes, in order.
+    pub fn keys(&self, alloc: Global) -> Result<Vec<Bytes>, AllocError> {
+        let mut keys = Vec::new(alloc);
+        for write in self.writes.list() {
+            let (_, key, _) = OpRef::of(&write.op).parts();
+            keys.push(Bytes::from_slice(alloc, key)?)?;
+        }
+        keys.sort()?;
+        keys.dedup();
+        Ok(keys)
     }
 }

@@ -1,0 +1,76 @@
+//! [`Place`]: a seat, and what is claimed by it.
+ghost use Rattle.std.specs.Prelude.{◌≡◌, IfOk, IfSome};
+ghost use Rattle.std.proofs.Props.{props};
+
+use crate::scene::NamedSeat;
+use testkit_data::CaseError;
+use uc_oper::Append;
+use uc_share::{Held, Name, Seat};
+
+/// The operator of all stories: texts joined by a comma.
+pub type Commas = Append<0x2C>;
+
+/// A seat of the store that a name says: it is free, or there is a claim, or the claim was dropped.
+pub struct Place<N: Name> {
+    seat: Option<NamedSeat<N>>,
+    held: Option<Held<Commas, N>>,
+    ghost table: { IfSome held (λ held. held.seat.table ≡ N.table) } by { Prim.hlevel props },
+}
+
+impl<N: Name> Drop for Place<N> {
+    fn drop(self) {
+        let Place { seat: _, held: _ } = self;
+    }
+}
+
+impl<N: Name> Place<N> {
+    /// A free seat.
+    pub fn of(seat: NamedSeat<N>) -> Place<N> {
+        Place {
+            seat: Some(seat),
+            held: None,
+        }
+    }
+
+    /// The seat, if it is free.
+    pub fn take_seat(&mut self) -> Result<Seat, CaseError>
+        ensures { IfOk result (λ seat. seat.table ≡ N.table) }
+    {
+        match self.seat.take() {
+            Some(seat) => Ok(seat.into_seat()),
+            None => Err(CaseError::Said("the seat isn't free")),
+        }
+    }
+
+    /// The seat is free again.
+    pub fn put_seat(&mut self, seat: Seat)
+        requires { seat.table ≡ N.table }
+    {
+        self.seat = Some(NamedSeat::of(seat));
+    }
+
+    /// What is claimed.
+    pub fn claim(&self) -> Result<&Held<Commas, N>, CaseError> {
+        match &self.held {
+            Some(held) => Ok(held),
+            None => Err(CaseError::Said("there is no claim")),
+        }
+    }
+
+    /// What is claimed, which is its owner's then.
+    pub fn take_claim(&mut self) -> Result<Held<Commas, N>, CaseError>
+        ensures { IfOk result (λ held. held.seat.table ≡ N.table) }
+    {
+        match self.held.take() {
+            Some(held) => Ok(held),
+            None => Err(CaseError::Said("there is no claim")),
+        }
+    }
+
+    /// This is claimed.
+    pub fn put_claim(&mut self, held: Held<Commas, N>)
+        requires { held.seat.table ≡ N.table }
+    {
+        self.held = Some(held);
+    }
+}
