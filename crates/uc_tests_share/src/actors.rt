@@ -205,7 +205,8 @@ where
         kept: u64,
     ) -> Option<Vec<Reader<O, N>>> {
         let (rt, alloc) = (self.scene.rt, self.scene.alloc);
-        let count = 1 + dice.roll(40);
+        let most = if dice.roll(4) == 0 { 200 } else { 40 };
+        let count = 1 + dice.roll(most);
         let batch = self.batch(dice, kept, count)?;
         let workers = (dice.roll(readers.len() as u64) as usize).saturating_add(1);
         let piece = 1 + dice.roll(16) as usize;

@@ -25,7 +25,7 @@ pub struct Plan {
     /// How many turns each of four compactors has, and whether two of them claim drawn stretches, and give some back.
     pub turns: usize,
     pub draws: bool,
-    /// How often each of two feeders tries to feed.
+    /// How often each of two feeders tries to feed. If never, nobody keeps or releases either.
     pub feeds: u64,
     /// How many installs there are, of all stores, at the least.
     pub installs: u64,

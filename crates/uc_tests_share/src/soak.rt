@@ -1,6 +1,6 @@
 //! Two feeders, four compactors, one who keeps and releases and two who ask, all at once, over many drawn stores: whoever feeds and
 //! whatever is compacted meanwhile, what is kept is answered as the plain writes answer it, no install is refused, and nothing is
-//! lost.
+//! lost. Some stores are only compacted and asked.
 ghost use Rattle.std.specs.Prelude.{◌≡◌, false};
 ghost use Rattle.uc_share.specs.Stores.{IsNamed};
 
@@ -39,23 +39,23 @@ const SMALL: Plan = Plan {
 
 /// Stores of some runs, of which any number is picked.
 const SOME: Plan = Plan {
-    stores: 10,
+    stores: 25,
     fewest: 32,
     most: 64,
     turns: 24,
     feeds: 6,
-    installs: 10,
+    installs: 25,
     ..SMALL
 };
 
 /// Stores that have few slots left, or none. At most eight runs are picked, so that there are many for a while.
 const MANY: Plan = Plan {
-    stores: 4,
+    stores: 6,
     fewest: 200,
     most: 256,
     greatest: 8,
     percent: u32::MAX,
-    installs: 4,
+    installs: 6,
     ..SOME
 };
 
@@ -70,6 +70,23 @@ const FULL: Plan = Plan {
     draws: false,
     feeds: 6,
     installs: 100,
+};
+
+/// The same of a store that has room, and is fed for long.
+const LONG: Plan = Plan {
+    fewest: 64,
+    most: 64,
+    feeds: 100,
+    installs: 30,
+    ..FULL
+};
+
+/// Stores that nobody feeds, where nobody keeps or releases.
+const STILL: Plan = Plan {
+    stores: 10,
+    feeds: 0,
+    installs: 10,
+    ..SOME
 };
 
 /// What one is to do, and its seed.
@@ -93,15 +110,18 @@ fn push_compactors<O: Operator, N: Name>(
     Some(())
 }
 
-/// Appends jobs for readers.
+/// Appends jobs for readers. The first three feed and keep, if that is the plan.
 fn push_readers<O: Operator, N: Name>(
     jobs: &mut Vec<Job<O, N>>,
     mut readers: Vec<Reader<O, N>>,
+    feeds: bool,
     seed: u64,
 ) -> Option<()> {
-    jobs.push((Actor::Feeder(readers.pop()?), !seed)).ok()?;
-    jobs.push((Actor::Feeder(readers.pop()?), seed)).ok()?;
-    jobs.push((Actor::Keeper(readers.pop()?), seed)).ok()?;
+    if feeds {
+        jobs.push((Actor::Feeder(readers.pop()?), !seed)).ok()?;
+        jobs.push((Actor::Feeder(readers.pop()?), seed)).ok()?;
+        jobs.push((Actor::Keeper(readers.pop()?), seed)).ok()?;
+    }
     jobs.push((Actor::Pins(readers.pop()?), seed)).ok()?;
     jobs.push((Actor::Batches(readers), !seed)).ok()?;
     Some(())
@@ -185,7 +205,7 @@ where
         seed,
     )?;
     let mut late = readers.pop()?;
-    push_readers(&mut jobs, readers, seed)?;
+    push_readers(&mut jobs, readers, plan.feeds > 0, seed)?;
     let scene = Scene {
         rt,
         alloc,
@@ -233,29 +253,47 @@ fn are_right<O: Operator + Send + Sync, R: Threads + Wait + Sync>(
     for _ in 0..plan.stores {
         done = done.and(soak::<O, R>(rt, alloc, plan, &writes, &mut dice)?);
     }
-    Some(done.installs >= plan.installs && done.runs >= plan.stores)
+    let fed = plan.feeds == 0 || done.runs >= plan.stores;
+    Some(done.installs >= plan.installs && fed)
 }
 
-/// Whether the stores of each operator are so.
-fn all_are_right<R: Threads + Wait + Sync>(rt: &R, alloc: Global, plan: Plan) -> bool {
-    are_right::<Append<0x2C>, R>(rt, alloc, plan) == Some(true)
-        && are_right::<Counter, R>(rt, alloc, plan) == Some(true)
-        && are_right::<Maximum, R>(rt, alloc, plan) == Some(true)
-        && are_right::<Tail<2>, R>(rt, alloc, plan) == Some(true)
+/// Whether stores of a few runs and of some are so, and those that stay as they are.
+fn all_are_right<O: Operator + Send + Sync, R: Threads + Wait + Sync>(
+    rt: &R,
+    alloc: Global,
+) -> bool {
+    are_right::<O, R>(rt, alloc, SMALL) == Some(true)
+        && are_right::<O, R>(rt, alloc, SOME) == Some(true)
+        && are_right::<O, R>(rt, alloc, STILL) == Some(true)
 }
 
 #[test]
-fn small_stores_answer_while_all_goes_on(rt: HostRuntime) {
-    assert!(rt; all_are_right(&rt, rt.alloc(), SMALL));
+fn texts_answer_while_all_goes_on(rt: HostRuntime) {
+    assert!(rt; all_are_right::<Append<0x2C>, _>(&rt, rt.alloc()));
 }
 
 #[test]
-fn stores_answer_while_all_goes_on(rt: HostRuntime) {
-    assert!(rt; all_are_right(&rt, rt.alloc(), SOME));
+fn counters_answer_while_all_goes_on(rt: HostRuntime) {
+    assert!(rt; all_are_right::<Counter, _>(&rt, rt.alloc()));
+}
+
+#[test]
+fn maxima_answer_while_all_goes_on(rt: HostRuntime) {
+    assert!(rt; all_are_right::<Maximum, _>(&rt, rt.alloc()));
+}
+
+#[test]
+fn tails_answer_while_all_goes_on(rt: HostRuntime) {
+    assert!(rt; all_are_right::<Tail<2>, _>(&rt, rt.alloc()));
 }
 
 #[test]
 fn stores_of_many_runs_answer_while_all_goes_on(rt: HostRuntime) {
     assert!(rt; are_right::<Append<0x2C>, _>(&rt, rt.alloc(), MANY) == Some(true));
     assert!(rt; are_right::<Append<0x2C>, _>(&rt, rt.alloc(), FULL) == Some(true));
+}
+
+#[test]
+fn a_store_answers_while_it_is_fed_for_long(rt: HostRuntime) {
+    assert!(rt; are_right::<Append<0x2C>, _>(&rt, rt.alloc(), LONG) == Some(true));
 }

@@ -13,6 +13,9 @@ use uc_bytes::Bytes;
 use uc_oper::{Append, Counter, Maximum, Operator, Tail};
 use uc_version::{Options, Stretch};
 
+/// Under how many drawn sets of keeps a stretch is compacted.
+const KEEPS: usize = 8;
+
 /// What is drawn: how many stores, of how many writes at most, how many lists of calls each is given, and the seed.
 #[derive(Clone, Copy)]
 struct Draw {
@@ -145,26 +148,39 @@ fn drawn_calls(alloc: Global, dice: &mut Dice, last: u64) -> Result<Vec<String>,
     Ok(lines)
 }
 
-/// Demands of each stretch that ends with one run what `demand_of_stretch` does, under drawn keeps.
-fn demand_of_stretches<O: Operator + Sync, R: Threads + Sync>(
+/// Demands of a stretch what `demand_of_stretch` does, under drawn keeps, and also as the oldest one if it has the oldest run.
+fn demand_under_keeps<O: Operator + Sync, R: Threads + Sync>(
     rt: &R,
     alloc: Global,
     dice: &mut Dice,
     (owner, keys): (&Owner<O>, &[Bytes]),
-    end: usize,
+    stretch: Stretch,
 ) -> Result<(), CaseError> {
     let runs = owner.store.version().runs();
     let plain = &owner.plain;
-    for first in 0..end {
+    let mut keeps = drawn_keeps(alloc, dice, plain.last())?;
+    keeps.sort_unstable();
+    keeps.dedup();
+    let place = (runs, stretch);
+    demand_of_stretch::<O, R>(rt, alloc, place, (plain, keys), (&keeps, false))?;
+    if stretch.first.saturating_add(stretch.count) < runs.len() {
+        return Ok(());
+    }
+    demand_of_stretch::<O, R>(rt, alloc, place, (plain, keys), (&keeps, true))
+}
+
+/// Demands it of each stretch that ends with one run, some times.
+fn demand_of_stretches<O: Operator + Sync, R: Threads + Sync>(
+    rt: &R,
+    alloc: Global,
+    dice: &mut Dice,
+    asked: (&Owner<O>, &[Bytes]),
+    end: usize,
+) -> Result<(), CaseError> {
+    for place in 0..end.saturating_mul(KEEPS) {
+        let first = place / KEEPS;
         let count = end.saturating_sub(first);
-        let mut keeps = drawn_keeps(alloc, dice, plain.last())?;
-        keeps.sort_unstable();
-        keeps.dedup();
-        let place = (runs, Stretch { first, count });
-        demand_of_stretch::<O, R>(rt, alloc, place, (plain, keys), (&keeps, false))?;
-        if end == runs.len() {
-            demand_of_stretch::<O, R>(rt, alloc, place, (plain, keys), (&keeps, true))?;
-        }
+        demand_under_keeps(rt, alloc, dice, asked, Stretch { first, count })?;
     }
     Ok(())
 }
