@@ -1,4 +1,5 @@
 //! Readers that fail, give little at a time or too much, and writers that fail. Those that fail do so once, and would go on.
+use crate::reports::READ_SO_FAR;
 use std::alloc::Global;
 use std::io;
 use std::io::{ErrorKind, Read, Write};
@@ -7,7 +8,6 @@ use std::process::Abort;
 use std::sync::Wait;
 use std::thread::Threads;
 use testkit_draws::options::small;
-use testkit_reports::worked::READ_SO_FAR;
 use uc_oper::Counter;
 use uc_tool::{Done, ask, dump, is_plan, play, report_log};
 

@@ -5,8 +5,8 @@
 //!
 //! `devices.rt` has readers and writers that fail, for scripts and for logs, `endings.rt` the same for the calls that all
 //! programs share, `queries.rt` answers to queries by the plain programs, `reply_lines.rt` the line of each reply, and
-//! `reasons.rt` why runs are refused, as a reader is told. What reports print stands in `testkit_reports`. It goes through all
-//! crates.
+//! `reasons.rt` why runs are refused, as a reader is told. `reports.rt` has reports with what is printed of them. It goes through
+//! all crates.
 #![tactic(auto)]
 
 #[cfg(test)]
@@ -19,5 +19,7 @@ mod queries;
 mod reasons;
 #[cfg(test)]
 mod reply_lines;
+#[cfg(test)]
+mod reports;
 #[cfg(test)]
 mod runs;

@@ -1,7 +1,7 @@
 //! Lines worked by hand.
+use crate::reports::{Worked, all};
 use std::alloc::Global;
 use std::test::Fail;
-use testkit_reports::worked::{Worked, all};
 use uc_bytes::{Bytes, Items};
 use uc_query::{Reply, Report};
 use uc_query_read::Answer;

@@ -12,7 +12,7 @@ pub struct Worked {
 }
 
 /// Of a store that holds nothing.
-pub const EMPTY: Worked = Worked {
+const EMPTY: Worked = Worked {
     lines: &[],
     total: Totals {
         points: 0,
@@ -25,7 +25,7 @@ pub const EMPTY: Worked = Worked {
 };
 
 /// Of three puts of the key `k`, each in a run of its own: `a`, `bc` and the empty text.
-pub const THREE_PUTS: Worked = Worked {
+const THREE_PUTS: Worked = Worked {
     lines: &[
         RunLine {
             id: 3,
@@ -69,7 +69,7 @@ pub const THREE_PUTS: Worked = Worked {
 };
 
 /// Of a put and two range deletions that overlap, in one run: three fragments with four sequences.
-pub const OVERLAP: Worked = Worked {
+const OVERLAP: Worked = Worked {
     lines: &[RunLine {
         id: 1,
         slot: 0,
@@ -91,7 +91,7 @@ pub const OVERLAP: Worked = Worked {
 };
 
 /// Of no store: the totals of no run, which aren't zero, and no keep.
-pub const NO_RUNS: Worked = Worked {
+const NO_RUNS: Worked = Worked {
     lines: &[],
     total: Totals {
         points: 0,
@@ -104,7 +104,7 @@ pub const NO_RUNS: Worked = Worked {
 };
 
 /// Of no store either: two runs, no two of whose numbers are equal.
-pub const TWO_RUNS: Worked = Worked {
+const TWO_RUNS: Worked = Worked {
     lines: &[
         RunLine {
             id: 12,
@@ -145,7 +145,7 @@ pub fn all() -> &'static [Worked] {
 }
 
 /// The text of a store that holds nothing.
-pub const NOTHING: &str = "total runs 0 points 0 fragments 0 size 0\nkeeps 0\nlast 0\n";
+const NOTHING: &str = "total runs 0 points 0 fragments 0 size 0\nkeeps 0\nlast 0\n";
 
 /// `report` of a log that is torn behind its first batch, of ten bytes.
 pub const READ_SO_FAR: &str = "run 1 slot 0 points 1 fragments 0 size 10 seqs 1 1\n\
