@@ -110,7 +110,12 @@ fn answers_line(alloc: Global, answers: &[Answer]) -> Said {
     Ok(text)
 }
 
-impl<'a, 'r, N: Name + Send, R: Threads + Wait + Sync> Story<'a, 'r, N, R> {
+impl<N, W, R> Story<'_, N, W, R>
+where
+    N: Name + Send,
+    W: Wait + Drop,
+    R: Threads + Wait + Sync,
+{
     /// The answers by so many workers, in pieces of so many queries. All readers have to come back, and a refusal has to be the one
     /// that is foretold.
     fn answers_by(
@@ -119,7 +124,7 @@ impl<'a, 'r, N: Name + Send, R: Threads + Wait + Sync> Story<'a, 'r, N, R> {
         workers: usize,
         piece: usize,
     ) -> Result<Result<Vec<Answer>, AskError>, CaseError> {
-        let (rt, alloc) = (self.scene.rt, self.scene.alloc);
+        let (rt, alloc) = (self.rt, self.alloc);
         let count = self.readers.len();
         let readers = mem::replace(&mut self.readers, Vec::new(alloc));
         let (readers, answers) = answer_all(rt, alloc, readers, queries, workers, piece, &Free);
@@ -151,7 +156,7 @@ impl<'a, 'r, N: Name + Send, R: Threads + Wait + Sync> Story<'a, 'r, N, R> {
 
     /// Asks what is shown, also by each number of workers.
     pub fn ask(&mut self, step: Step<'_>) -> Said {
-        let alloc = self.scene.alloc;
+        let alloc = self.alloc;
         let queries = queries_of(alloc, &parts_of(alloc, step.words)?)?;
         let pin = self.reader(step.who)?.pin()?;
         let answers = answers_of(alloc, pin.version(), &self.writes, &queries)?;
@@ -165,7 +170,7 @@ impl<'a, 'r, N: Name + Send, R: Threads + Wait + Sync> Story<'a, 'r, N, R> {
 
     /// Asks a pin.
     pub fn ask_pin(&mut self, step: Step<'_>) -> Said {
-        let alloc = self.scene.alloc;
+        let alloc = self.alloc;
         let (name, texts) = step.words.split_once(' ').unwrap_or((step.words, ""));
         let queries = queries_of(alloc, &parts_of(alloc, texts)?)?;
         let version = named(&self.pins, name)?.version();
@@ -174,7 +179,7 @@ impl<'a, 'r, N: Name + Send, R: Threads + Wait + Sync> Story<'a, 'r, N, R> {
 
     /// Asks by so many workers, in pieces of so many queries.
     pub fn ask_by(&mut self, step: Step<'_>) -> Said {
-        let alloc = self.scene.alloc;
+        let alloc = self.alloc;
         let (workers, rest) = step.words.split_once(' ').unwrap_or((step.words, ""));
         let (piece, texts) = rest.split_once(' ').unwrap_or((rest, ""));
         let queries = queries_of(alloc, &parts_of(alloc, texts)?)?;

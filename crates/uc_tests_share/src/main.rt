@@ -11,7 +11,7 @@
 //!
 //! A case is a story of one store. `stories.rt` plays it, `opened.rt` opens the store, and `step.rt` reads a line. `story.rt` has
 //! what compactors and feeders do there, and `asked.rt` what is asked, which is answered by each way that there is, and by the
-//! plain program. The store's seats know by their type which store they are of (`scene.rt`, `place.rt`).
+//! plain program. The store's seats know by their type which store they are of (`named_seat.rt`, `place.rt`).
 //!
 //! The tests are of threads: `soak.rt` has feeders, compactors, one who keeps and two who ask (`actors.rt`), all at once, over drawn
 //! stores. `threads.rt` has two compactors who race, and workers who are held up at a gate (`gates.rt`), and `pieces.rt` two threads
@@ -29,11 +29,13 @@ mod done;
 mod drawn;
 #[cfg(test)]
 mod gates;
+mod named_seat;
 mod opened;
 #[cfg(test)]
 mod pieces;
 mod place;
 mod printed;
+#[cfg(test)]
 mod scene;
 #[cfg(test)]
 mod soak;

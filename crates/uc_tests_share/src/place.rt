@@ -2,7 +2,7 @@
 ghost use Rattle.std.specs.Prelude.{◌≡◌, IfOk, IfSome};
 ghost use Rattle.std.proofs.Props.{props};
 
-use crate::scene::NamedSeat;
+use crate::named_seat::NamedSeat;
 use testkit_data::CaseError;
 use uc_oper::Append;
 use uc_share::{Held, Name, Seat};

@@ -2,10 +2,10 @@
 ghost use Rattle.std.specs.Prelude.{◌≡◌, false};
 ghost use Rattle.uc_share.specs.Stores.{IsNamed};
 
+use crate::named_seat::named_seats;
 use crate::opened::{Opened, open};
 use crate::place::Commas;
 use crate::printed::version_line;
-use crate::scene::{Scene, named_seats};
 use crate::step::Step;
 use crate::story::{Said, Story, places_of};
 use std::alloc::Global;
@@ -24,11 +24,16 @@ const THEN: &str = "then";
 pub struct Stories;
 
 /// Takes steps. Each is printed with what came of it.
-fn push_steps<'a, N: Name + Send, R: Threads + Wait + Sync>(
+fn push_steps<'a, N, W, R>(
     text: &mut String,
-    story: &mut Story<'a, '_, N, R>,
+    story: &mut Story<'a, N, W, R>,
     lines: &[&'a str],
-) -> Result<(), CaseError> {
+) -> Result<(), CaseError>
+where
+    N: Name + Send,
+    W: Wait + Drop,
+    R: Threads + Wait + Sync,
+{
     for line in lines {
         let came = story.take_step(Step::read(line)?)?;
         text.push_str(line)?;
@@ -57,13 +62,8 @@ fn play_named<N: Name + Send, R: Threads + Wait + Sync>(
     };
     let (reader_count, seat_count) = (readers.len(), seats.len());
     let mut text = format!(in alloc; "{shown}\n{reader_count} readers, {seat_count} seats\n")?;
-    let scene = Scene {
-        rt,
-        alloc,
-        store: &store,
-    };
     let places = places_of(alloc, named_seats(alloc, seats)?)?;
-    let mut story = Story::new(scene, readers, places, writes);
+    let mut story = Story::new(rt, alloc, &store, readers, places, writes);
     push_steps(&mut text, &mut story, lines)?;
     Ok(text)
 }

@@ -1,7 +1,9 @@
 //! [`Story`]: a store, and who works there by the lines of a file.
+ghost use Rattle.std.specs.Prelude.{◌≡◌, false};
+
+use crate::named_seat::NamedSeat;
 use crate::place::{Commas, Place};
 use crate::printed::{pin_line, push_numbers};
-use crate::scene::{NamedSeat, Scene};
 use crate::step::{Step, copy_of, count_of, number_of, numbers_of, parts_of, writes_of};
 use std::alloc::{AllocError, Global};
 use std::fmt::Debug;
@@ -14,27 +16,33 @@ use uc_bytes::Write;
 use uc_claims::MOST_SLOTS;
 use uc_compact::{Compacted, compact, inputs_stand};
 use uc_run::Run;
-use uc_share::{Name, Pin, Reader, Stretch, Version};
+use uc_share::{Name, Pin, Reader, Store, Stretch, Version};
 
 /// What a step comes to.
 pub type Said = Result<String, CaseError>;
 
 /// A store, and who works there. Pins and compactions have names, of which the last one counts.
-pub struct Story<'a, 'r, N: Name, R: Wait> {
-    pub scene: Scene<'a, Commas, N, &'r R, R>,
+pub struct Story<'a, N: Name, W: Wait + Drop, R> {
+    pub rt: &'a R,
+    pub alloc: Global,
+    pub store: &'a Store<Commas, N, W>,
     pub readers: Vec<Reader<Commas, N>>,
     pub places: Vec<Place<N>>,
     pub pins: Vec<(&'a str, Pin<Commas, N>)>,
     pub made: Vec<(&'a str, Compacted<Commas>)>,
     /// All writes that the store was given.
     pub writes: Vec<Write>,
+    ghost table: { store.now.table ≡ N.table },
+    ghost keeps: { N.keeps_stay ≡ false },
 }
 
 // A destructor of its own: where a value is dropped, the proof of a caller has one call, and not one for each field.
-impl<'a, 'r, N: Name, R: Wait> Drop for Story<'a, 'r, N, R> {
+impl<N: Name, W: Wait + Drop, R> Drop for Story<'_, N, W, R> {
     fn drop(self) {
         let Story {
-            scene: _,
+            rt: _,
+            alloc: _,
+            store: _,
             readers: _,
             places: _,
             pins: _,
@@ -116,17 +124,28 @@ fn runs_of(
     Ok(runs)
 }
 
-impl<'a, 'r, N: Name + Send, R: Threads + Wait + Sync> Story<'a, 'r, N, R> {
+impl<'a, N, W, R> Story<'a, N, W, R>
+where
+    N: Name + Send,
+    W: Wait + Drop,
+    R: Threads + Wait + Sync,
+{
     /// A store that was opened with these writes, and who begins there.
     pub fn new(
-        scene: Scene<'a, Commas, N, &'r R, R>,
+        rt: &'a R,
+        alloc: Global,
+        store: &'a Store<Commas, N, W>,
         readers: Vec<Reader<Commas, N>>,
         places: Vec<Place<N>>,
         writes: Vec<Write>,
-    ) -> Story<'a, 'r, N, R> {
-        let alloc = scene.alloc;
+    ) -> Story<'a, N, W, R>
+        requires table { store.now.table ≡ N.table }
+        requires keeps { N.keeps_stay ≡ false }
+    {
         Story {
-            scene,
+            rt,
+            alloc,
+            store,
             readers,
             places,
             pins: Vec::new(alloc),
@@ -154,7 +173,7 @@ impl<'a, 'r, N: Name + Send, R: Threads + Wait + Sync> Story<'a, 'r, N, R> {
     /// Pins what is shown. The pin gets a name, or is dropped if none is given.
     fn pin(&mut self, step: Step<'a>) -> Said {
         let pin = self.reader(step.who)?.pin()?;
-        let line = pin_line(self.scene.alloc, &pin)?;
+        let line = pin_line(self.alloc, &pin)?;
         if !step.words.is_empty() {
             self.pins.push((step.word(0), pin))?;
         }
@@ -165,17 +184,17 @@ impl<'a, 'r, N: Name + Send, R: Threads + Wait + Sync> Story<'a, 'r, N, R> {
     fn pick(&mut self, step: Step<'a>) -> Said {
         let mut seat = self.place(step.who)?.take_seat()?;
         let pin = named(&self.pins, step.word(0))?;
-        let picked = self.scene.store.pick(pin, &mut seat);
+        let picked = self.store.pick(pin, &mut seat);
         self.place(step.who)?.put_seat(seat);
         match picked {
-            Some(Stretch { first, count }) => Ok(format!(in self.scene.alloc; "{first} {count}")?),
-            None => said(self.scene.alloc, "nothing"),
+            Some(Stretch { first, count }) => Ok(format!(in self.alloc; "{first} {count}")?),
+            None => said(self.alloc, "nothing"),
         }
     }
 
     /// Which slots one finds taken, whose seat is free.
     fn busy(&mut self, step: Step<'a>) -> Said {
-        let (alloc, store) = (self.scene.alloc, self.scene.store);
+        let (alloc, store) = (self.alloc, self.store);
         let mut seat = self.place(step.who)?.take_seat()?;
         let mut slots = Vec::new(alloc);
         for slot in 0..MOST_SLOTS {
@@ -191,7 +210,7 @@ impl<'a, 'r, N: Name + Send, R: Threads + Wait + Sync> Story<'a, 'r, N, R> {
 
     /// Claims a stretch of a pin.
     fn claim(&mut self, step: Step<'a>) -> Said {
-        let (alloc, store) = (self.scene.alloc, self.scene.store);
+        let (alloc, store) = (self.alloc, self.store);
         let first = count_of(step.word(1))?;
         let count = count_of(step.word(2))?;
         let seat = self.place(step.who)?.take_seat()?;
@@ -211,7 +230,7 @@ impl<'a, 'r, N: Name + Send, R: Threads + Wait + Sync> Story<'a, 'r, N, R> {
 
     /// Compacts what one has claimed, by a name.
     fn compact_claim(&mut self, step: Step<'a>) -> Said {
-        let (rt, alloc) = (self.scene.rt, self.scene.alloc);
+        let (rt, alloc) = (self.rt, self.alloc);
         let made = self.place(step.who)?.claim()?.compact(rt, alloc)?;
         let line = made_line(alloc, &made)?;
         self.made.push((step.word(0), made))?;
@@ -220,7 +239,7 @@ impl<'a, 'r, N: Name + Send, R: Threads + Wait + Sync> Story<'a, 'r, N, R> {
 
     /// Compacts runs that nobody claims: a name, a pin, a stretch, keeps, and whether it is for the oldest run.
     fn make(&mut self, step: Step<'a>) -> Said {
-        let (rt, alloc) = (self.scene.rt, self.scene.alloc);
+        let (rt, alloc) = (self.rt, self.alloc);
         let stretch = (count_of(step.word(2))?, count_of(step.word(3))?);
         let keeps = numbers_of(alloc, step.word(4))?;
         let inputs = runs_of(alloc, named(&self.pins, step.word(1))?.version(), stretch)?;
@@ -235,7 +254,7 @@ impl<'a, 'r, N: Name + Send, R: Threads + Wait + Sync> Story<'a, 'r, N, R> {
 
     /// Installs what was made for what one has claimed.
     fn install(&mut self, step: Step<'a>) -> Said {
-        let (rt, alloc, store) = (self.scene.rt, self.scene.alloc, self.scene.store);
+        let (rt, alloc, store) = (self.rt, self.alloc, self.store);
         let made = take_named(&mut self.made, step.word(0))?;
         let held = self.place(step.who)?.take_claim()?;
         match store.install(rt, alloc, held, made, self.reader(step.who)?) {
@@ -254,21 +273,21 @@ impl<'a, 'r, N: Name + Send, R: Threads + Wait + Sync> Story<'a, 'r, N, R> {
     /// Gives a claim back. Its pin gets a name.
     fn abandon(&mut self, step: Step<'a>) -> Said {
         let held = self.place(step.who)?.take_claim()?;
-        let (seat, pin) = self.scene.store.abandon(held);
+        let (seat, pin) = self.store.abandon(held);
         self.place(step.who)?.put_seat(seat);
         self.pins.push((step.word(0), pin))?;
-        said(self.scene.alloc, "abandoned")
+        said(self.alloc, "abandoned")
     }
 
     /// Drops a claim, and its seat with it.
     fn drop_claim(&mut self, step: Step<'a>) -> Said {
         drop(self.place(step.who)?.take_claim()?);
-        said(self.scene.alloc, "dropped")
+        said(self.alloc, "dropped")
     }
 
     /// Takes a compactor's turn.
     fn turn(&mut self, step: Step<'a>) -> Said {
-        let (rt, alloc, store) = (self.scene.rt, self.scene.alloc, self.scene.store);
+        let (rt, alloc, store) = (self.rt, self.alloc, self.store);
         let seat = self.place(step.who)?.take_seat()?;
         let (seat, came) = store.compact_once(rt, alloc, seat, self.reader(step.who)?);
         self.place(step.who)?.put_seat(seat);
@@ -280,7 +299,7 @@ impl<'a, 'r, N: Name + Send, R: Threads + Wait + Sync> Story<'a, 'r, N, R> {
 
     /// Feeds writes. It says how many runs there are more.
     fn feed(&mut self, step: Step<'a>) -> Said {
-        let (rt, alloc, store) = (self.scene.rt, self.scene.alloc, self.scene.store);
+        let (rt, alloc, store) = (self.rt, self.alloc, self.store);
         let mut list = writes_of(alloc, &parts_of(alloc, step.words)?)?;
         let copy = copy_of(alloc, &list)?;
         let writes = Writes::of(copy).ok_or(CaseError::Said("the sequences don't rise"))?;
@@ -295,14 +314,14 @@ impl<'a, 'r, N: Name + Send, R: Threads + Wait + Sync> Story<'a, 'r, N, R> {
 
     /// Keeps the last sequence.
     fn keep(&mut self, step: Step<'a>) -> Said {
-        let (rt, alloc, store) = (self.scene.rt, self.scene.alloc, self.scene.store);
+        let (rt, alloc, store) = (self.rt, self.alloc, self.store);
         let seq = store.keep(rt, alloc, self.reader(step.who)?)?;
         Ok(format!(in alloc; "{seq}")?)
     }
 
     /// Releases a sequence.
     fn release(&mut self, step: Step<'a>) -> Said {
-        let (rt, alloc, store) = (self.scene.rt, self.scene.alloc, self.scene.store);
+        let (rt, alloc, store) = (self.rt, self.alloc, self.store);
         let seq = number_of(step.word(0))?;
         match store.release(rt, alloc, seq, self.reader(step.who)?) {
             Ok(()) => said(alloc, "released"),
@@ -316,7 +335,7 @@ impl<'a, 'r, N: Name + Send, R: Threads + Wait + Sync> Story<'a, 'r, N, R> {
             "pin" => self.pin(step),
             "look" => {
                 let pin = named(&self.pins, step.word(0))?;
-                Ok(pin_line(self.scene.alloc, pin)?)
+                Ok(pin_line(self.alloc, pin)?)
             }
             "pick" => self.pick(step),
             "busy" => self.busy(step),

@@ -1,7 +1,8 @@
 //! [`Worker`]: a compactor of a test, and what it does.
 ghost use Rattle.std.specs.Prelude.{◌≡◌, All};
 
-use crate::scene::{NamedSeat, Scene, named_seats};
+use crate::named_seat::{NamedSeat, named_seats};
+use crate::scene::Scene;
 use std::alloc::Global;
 use std::marker::Sync;
 use std::sync::Wait;

@@ -4,7 +4,7 @@ use crate::replies::push_version;
 use crate::said_words::Words;
 use crate::said_writes::said_writes;
 use crate::words::{numbers_of, push_numbers};
-use std::alloc::{AllocError, Global};
+use std::alloc::Global;
 use std::fmt::Write;
 use std::marker::Sync;
 use std::sync::Arc;
@@ -16,27 +16,45 @@ use uc_run::Run;
 use uc_version::{Install, MOST_SLOTS, Options, Owned, OwnedClaim, Stretch, Version, open_plain};
 
 /// Makes what a claim's runs become: for the store's keeps, or `for KEEPS`, with the oldest run or without.
-fn make<O: Operator + Sync, R: Threads + Sync>(
+fn push_made<O: Operator + Sync, R: Threads + Sync>(
+    text: &mut String,
     rt: &R,
     alloc: Global,
     owner: &mut Owner<O>,
     words: &mut Words<'_>,
 ) -> Result<(), CaseError> {
     let name = words.name()?;
-    if words.next() != "for" {
-        return owner.make(rt, alloc, name, None);
+    if words.next() == "for" {
+        let keeps = numbers_of(alloc, words.next())?;
+        let oldest = words.next() == "oldest";
+        owner.make(rt, alloc, name, Some((&keeps, oldest)))?;
+    } else {
+        owner.make(rt, alloc, name, None)?;
     }
-    let keeps = numbers_of(alloc, words.next())?;
-    let oldest = words.next() == "oldest";
-    owner.make(rt, alloc, name, Some((&keeps, oldest)))
+    Ok(text.push_str("made")?)
 }
 
-/// Whether the run with a slot is claimed.
-fn busy_word<O: Operator>(store: &Owned<O>, slot: usize) -> Result<&'static str, CaseError> {
+/// Appends whether the run with a slot is claimed.
+fn push_busy<O: Operator>(
+    text: &mut String,
+    store: &Owned<O>,
+    slot: usize,
+) -> Result<(), CaseError> {
     if slot >= MOST_SLOTS {
         return Err(CaseError::Said("no such slot"));
     }
-    Ok(if store.busy(slot) { "busy" } else { "free" })
+    let word = if store.busy(slot) { "busy" } else { "free" };
+    Ok(text.push_str(word)?)
+}
+
+/// Appends the number of a claim.
+fn push_number<O: Operator + Sync>(
+    text: &mut String,
+    owner: &Owner<O>,
+    name: u8,
+) -> Result<(), CaseError> {
+    let number = owner.claim_of(name)?.number();
+    Ok(write!(text, "number {number}")?)
 }
 
 /// A store of three merges, the first run of which has the id 100.
@@ -53,12 +71,13 @@ fn other_store<O: Operator>(alloc: Global) -> Result<Owned<O>, CaseError> {
     }
 }
 
-/// The numbers of a claim and of one of another store, and which store holds which.
-fn apart_words<O: Operator>(
+/// Appends the numbers of a claim and of one of another store, and which store holds which.
+fn push_apart<O: Operator>(
+    text: &mut String,
     alloc: Global,
     here: &Owned<O>,
     claim: &OwnedClaim,
-) -> Result<String, CaseError> {
+) -> Result<(), CaseError> {
     let mut there = other_store::<O>(alloc)?;
     let Ok(other) = there.claim(Stretch { first: 0, count: 2 }) else {
         return Err(CaseError::Said("the other store has no claim"));
@@ -66,7 +85,10 @@ fn apart_words<O: Operator>(
     let numbers = (claim.number(), other.number());
     let own = (here.holds(claim), there.holds(&other));
     let foreign = (here.holds(&other), there.holds(claim));
-    Ok(format!(in alloc; "numbers {numbers:?}, own {own:?}, foreign {foreign:?}")?)
+    Ok(write!(
+        text,
+        "numbers {numbers:?}, own {own:?}, foreign {foreign:?}"
+    )?)
 }
 
 /// The run at a place.
@@ -98,12 +120,39 @@ fn push_refusal(
 }
 
 /// Appends where ids stand as neighbours.
-fn push_place(text: &mut String, version: &Version, ids: &[u64]) -> Result<(), AllocError> {
-    push_numbers(text, ids)?;
-    match version.place_of(ids) {
-        Some(place) => write!(text, " at {place}"),
-        None => text.push_str(" nowhere"),
+fn push_place(
+    text: &mut String,
+    alloc: Global,
+    version: &Version,
+    ids: &str,
+) -> Result<(), CaseError> {
+    let ids = numbers_of(alloc, ids)?;
+    push_numbers(text, &ids)?;
+    match version.place_of(&ids) {
+        Some(place) => Ok(write!(text, " at {place}")?),
+        None => Ok(text.push_str(" nowhere")?),
     }
+}
+
+/// Does what a verb says, if it is none of a call, and appends what comes of it. Returns whether it is none.
+fn push_look<O: Operator + Sync, R: Threads + Sync>(
+    text: &mut String,
+    rt: &R,
+    alloc: Global,
+    owner: &mut Owner<O>,
+    (verb, words): (&str, &mut Words<'_>),
+) -> Result<bool, CaseError> {
+    match verb {
+        "make" => push_made(text, rt, alloc, owner, words)?,
+        "busy" => push_busy(text, &owner.store, words.place()?)?,
+        "number" => push_number(text, owner, words.name()?)?,
+        "apart" => push_apart(text, alloc, &owner.store, owner.claim_of(words.name()?)?)?,
+        "place" => push_place(text, alloc, owner.store.version(), words.next())?,
+        "replace" => push_refusal(text, alloc, owner.store.version(), words)?,
+        "version" => push_version(text, owner.store.version())?,
+        _ => return Ok(false),
+    }
+    Ok(true)
 }
 
 /// Does what a text says, if it is no call, and appends what comes of it. Returns whether it is none.
@@ -115,27 +164,6 @@ pub fn look<O: Operator + Sync, R: Threads + Sync>(
     said: &str,
 ) -> Result<bool, CaseError> {
     let mut words = Words::of(said);
-    match words.next() {
-        "make" => {
-            make(rt, alloc, owner, &mut words)?;
-            text.push_str("made")?;
-        }
-        "busy" => text.push_str(busy_word(&owner.store, words.place()?)?)?,
-        "number" => {
-            let number = owner.claim_of(words.name()?)?.number();
-            write!(text, "number {number}")?;
-        }
-        "apart" => {
-            let claim = owner.claim_of(words.name()?)?;
-            text.push_str(apart_words(alloc, &owner.store, claim)?.as_str())?;
-        }
-        "place" => {
-            let ids = numbers_of(alloc, words.next())?;
-            push_place(text, owner.store.version(), &ids)?;
-        }
-        "replace" => push_refusal(text, alloc, owner.store.version(), &mut words)?,
-        "version" => push_version(text, owner.store.version())?,
-        _ => return Ok(false),
-    }
-    Ok(true)
+    let verb = words.next();
+    push_look(text, rt, alloc, owner, (verb, &mut words))
 }

@@ -1,5 +1,5 @@
 use Rattle.std.proofs.Common.{false}
-use Rattle.uc_tests_share.proofs.stories.play_story.Given as goal
+use Rattle.uc_tests_share.proofs.stories.play.Given as goal
 
 -- the book, the claim words and the version of what was opened
 abbrev pub ghosts-play_named : goal.ghosts-play_named
