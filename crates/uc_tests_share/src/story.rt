@@ -16,7 +16,7 @@ use uc_bytes::Write;
 use uc_claims::MOST_SLOTS;
 use uc_compact::{Compacted, compact, inputs_stand};
 use uc_run::Run;
-use uc_share::{Name, Pin, Reader, Store, Stretch, Version};
+use uc_share::{Name, Pin, Reader, Seat, Store, Stretch, Version};
 
 /// What a step comes to.
 pub type Said = Result<String, CaseError>;
@@ -111,6 +111,24 @@ fn made_line(alloc: Global, made: &Compacted<Commas>) -> Said {
     Ok(text)
 }
 
+/// The slots that a seat finds taken.
+fn busy_slots<N: Name, W: Wait + Drop>(
+    alloc: Global,
+    store: &Store<Commas, N, W>,
+    seat: &mut Seat,
+) -> Result<Vec<u64>, AllocError>
+    requires { seat.old.table ≡ store.now.table }
+    ensures { seat.new.table ≡ store.now.table }
+{
+    let mut slots = Vec::new(alloc);
+    for slot in 0..MOST_SLOTS {
+        if store.busy(seat, slot) {
+            slots.push(slot as u64)?;
+        }
+    }
+    Ok(slots)
+}
+
 /// The runs of a stretch of a version.
 fn runs_of(
     alloc: Global,
@@ -196,12 +214,7 @@ where
     fn busy(&mut self, step: Step<'a>) -> Said {
         let (alloc, store) = (self.alloc, self.store);
         let mut seat = self.place(step.who)?.take_seat()?;
-        let mut slots = Vec::new(alloc);
-        for slot in 0..MOST_SLOTS {
-            if store.busy(&mut seat, slot) {
-                slots.push(slot as u64)?;
-            }
-        }
+        let slots = busy_slots(alloc, store, &mut seat)?;
         self.place(step.who)?.put_seat(seat);
         let mut text = String::new(alloc);
         push_numbers(&mut text, "slots", &slots)?;
