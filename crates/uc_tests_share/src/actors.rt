@@ -45,7 +45,7 @@ pub enum Actor<O: Operator, N: Name> {
 /// A store, and what all know who do something to it.
 #[derive(Drop)]
 pub struct Soak<'a, O: Operator, N: Name, W: Wait + Drop, R> {
-    pub scene: Scene<'a, O, N, W, R>,
+    pub scene: Scene<'a, N, O, W, R>,
     /// What is done to it.
     pub plan: Plan,
     /// All writes that may be fed, behind those that it opened with, and how many these are.

@@ -7,7 +7,7 @@ use uc_oper::Operator;
 use uc_share::{Name, Store};
 
 /// A store, and what it is called with.
-pub struct Scene<'a, O: Operator, N: Name, W: Wait + Drop, R> {
+pub struct Scene<'a, N: Name, O: Operator, W: Wait + Drop, R> {
     pub rt: &'a R,
     pub alloc: Global,
     pub store: &'a Store<O, N, W>,
@@ -15,7 +15,7 @@ pub struct Scene<'a, O: Operator, N: Name, W: Wait + Drop, R> {
     ghost keeps: { N.keeps_stay ≡ false },
 }
 
-impl<O: Operator, N: Name, W: Wait + Drop, R> Drop for Scene<'_, O, N, W, R> {
+impl<N: Name, O: Operator, W: Wait + Drop, R> Drop for Scene<'_, N, O, W, R> {
     fn drop(self) {
         let Scene {
             rt: _,

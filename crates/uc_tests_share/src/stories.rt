@@ -81,12 +81,17 @@ fn play<R: Threads + Wait + Sync>(rt: &R, alloc: Global, case: &Case<'_>) -> Sai
     }
 }
 
-impl<R: Threads + Wait + Sync> Player<R> for Stories {
+impl Player<HostRuntime> for Stories {
     fn new(_alloc: Global) -> Stories {
         Stories
     }
 
-    fn run(&mut self, rt: &R, alloc: Global, case: &Case<'_>) -> Result<String, CaseError> {
+    fn run(
+        &mut self,
+        rt: &HostRuntime,
+        alloc: Global,
+        case: &Case<'_>,
+    ) -> Result<String, CaseError> {
         if case.command == "story" {
             play(rt, alloc, case)
         } else {

@@ -93,7 +93,7 @@ fn has_both(version: &Version) -> bool {
     ids && newest && oldest
 }
 
-impl<N, W, R> Scene<'_, Commas, N, W, R>
+impl<N, W, R> Scene<'_, N, Commas, W, R>
 where
     N: Name + Send + Sync,
     W: Wait + Drop + Send,

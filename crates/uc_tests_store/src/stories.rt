@@ -52,7 +52,7 @@ fn play_alone<R: Threads + Sync>(
     }
 }
 
-impl<R: Threads + Sync> Player<R> for Stories {
+impl Player<HostRuntime> for Stories {
     fn new(alloc: Global) -> Stories {
         recall_laws();
         Stories {
@@ -60,7 +60,12 @@ impl<R: Threads + Sync> Player<R> for Stories {
         }
     }
 
-    fn run(&mut self, rt: &R, alloc: Global, case: &Case<'_>) -> Result<String, CaseError> {
+    fn run(
+        &mut self,
+        rt: &HostRuntime,
+        alloc: Global,
+        case: &Case<'_>,
+    ) -> Result<String, CaseError> {
         case.arguments.allow(keys_of(case.command))?;
         match case.command {
             "open" => self.stores.open(rt, alloc, &Setup::read(alloc, case)?),
