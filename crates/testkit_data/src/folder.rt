@@ -54,11 +54,13 @@ fn paths_in<R: Files + AllocGlobal + Clone + Drop>(rt: &R, folder: &str) -> Resu
 }
 
 /// Plays a file, or writes it as it would be right. What is returned says where it is wrong.
-fn play_file<P: Player<R> + Drop, R: Files + AllocGlobal>(
+fn play_file<P: Player<Runtime = R> + Drop, R: Files + AllocGlobal>(
     rt: &R,
     path: &str,
     rewrites: bool,
-) -> Result<String> {
+) -> Result<String>
+    requires { P.can_play }
+{
     let alloc: Global = rt.alloc();
     let text = fs::read_to_string(rt, path).context(format_args!("{path}"))?;
     if rewrites {
@@ -76,14 +78,16 @@ pub fn play_folder<I: Interpreter + Drop, R: Files + Env + Print + AllocGlobal +
     rt: &R,
     words: &[String],
 ) -> Result<()> {
-    play_folder_by::<Lone<I>, R>(rt, words)
+    play_folder_by::<Lone<I, R>, R>(rt, words)
 }
 
 /// The same by a player, which has the program's runtime.
-pub fn play_folder_by<P: Player<R> + Drop, R: Files + Env + Print + AllocGlobal + Clone + Drop>(
-    rt: &R,
-    words: &[String],
-) -> Result<()> {
+pub fn play_folder_by<P, R>(rt: &R, words: &[String]) -> Result<()>
+where
+    P: Player<Runtime = R> + Drop,
+    R: Files + Env + Print + AllocGlobal + Clone + Drop,
+    requires { P.can_play }
+{
     let asked = asked_by(words);
     let paths = paths_in(rt, asked.folder)?;
     ensure!(!paths.is_empty(), "no file *.txt");

@@ -1,10 +1,13 @@
 //! [`Interpreter`] and [`Player`], and how they play a file.
+ghost use Rattle.std.specs.Prelude.{⊤};
+
 use crate::case::Case;
 use crate::case_error::CaseError;
 use crate::case_file::read_cases;
 use crate::difference::{difference, push_lines};
 use crate::file_error::FileError;
 use std::alloc::{AllocError, Global};
+use std::marker::PhantomData;
 
 /// What plays the cases of a file, one after the other.
 pub trait Interpreter {
@@ -16,21 +19,37 @@ pub trait Interpreter {
 }
 
 /// As an [`Interpreter`], with the runtime of the program: it may start threads.
-pub trait Player<R> {
+pub trait Player {
+    /// The runtime.
+    type Runtime;
+
+    /// What is asked of the runtime. Threads share it.
+    ghost can_play: { Type 0 };
+
     /// A player before the first case of a file.
     fn new(alloc: Global) -> Self;
 
     /// What a case prints: lines, none of which is empty.
-    fn run(&mut self, rt: &R, alloc: Global, case: &Case<'_>) -> Result<String, CaseError>;
+    fn run(
+        &mut self,
+        rt: &Self::Runtime,
+        alloc: Global,
+        case: &Case<'_>,
+    ) -> Result<String, CaseError>
+        requires { can_play };
 }
 
 /// An interpreter as a player, which needs no runtime.
 #[derive(Drop)]
-pub(crate) struct Lone<I: Interpreter>(I);
+pub(crate) struct Lone<I: Interpreter, R>(I, PhantomData<R>);
 
-impl<I: Interpreter, R> Player<R> for Lone<I> {
-    fn new(alloc: Global) -> Lone<I> {
-        Lone(I::new(alloc))
+impl<I: Interpreter, R> Player for Lone<I, R> {
+    type Runtime = R;
+
+    ghost can_play = { ⊤ };
+
+    fn new(alloc: Global) -> Lone<I, R> {
+        Lone(I::new(alloc), PhantomData)
     }
 
     fn run(&mut self, _rt: &R, alloc: Global, case: &Case<'_>) -> Result<String, CaseError> {
@@ -39,12 +58,14 @@ impl<I: Interpreter, R> Player<R> for Lone<I> {
 }
 
 /// What a case prints, or its error.
-fn output_of<P: Player<R>, R>(
+fn output_of<P: Player<Runtime = R>, R>(
     rt: &R,
     alloc: Global,
     case: &Case<'_>,
     player: &mut P,
-) -> Result<String, AllocError> {
+) -> Result<String, AllocError>
+    requires { P.can_play }
+{
     match player.run(rt, alloc, case) {
         Ok(output) => Ok(output),
         Err(CaseError::Memory(error)) => Err(error),
@@ -80,12 +101,14 @@ fn push_failure(
 }
 
 /// Plays a file by a player, as [`play`] does.
-pub(crate) fn play_by<P: Player<R> + Drop, R>(
+pub(crate) fn play_by<P: Player<Runtime = R> + Drop, R>(
     rt: &R,
     alloc: Global,
     name: &str,
     text: &str,
-) -> Result<String, FileError> {
+) -> Result<String, FileError>
+    requires { P.can_play }
+{
     let mut player = P::new(alloc);
     let mut failures = String::new(alloc);
     for case in &read_cases(alloc, text)? {
@@ -96,11 +119,13 @@ pub(crate) fn play_by<P: Player<R> + Drop, R>(
 }
 
 /// Plays a file by a player, and returns it as [`rewritten`] does.
-pub(crate) fn rewritten_by<P: Player<R> + Drop, R>(
+pub(crate) fn rewritten_by<P: Player<Runtime = R> + Drop, R>(
     rt: &R,
     alloc: Global,
     text: &str,
-) -> Result<String, FileError> {
+) -> Result<String, FileError>
+    requires { P.can_play }
+{
     let mut player = P::new(alloc);
     let lines: Vec<&str> = text.lines().collect(alloc)?;
     let mut rewritten = String::new(alloc);
@@ -122,10 +147,10 @@ pub fn play<I: Interpreter + Drop>(
     name: &str,
     text: &str,
 ) -> Result<String, FileError> {
-    play_by::<Lone<I>, ()>(&(), alloc, name, text)
+    play_by::<Lone<I, ()>, ()>(&(), alloc, name, text)
 }
 
 /// Plays a file, and returns it with what its cases printed in the place of what they were to print.
 pub fn rewritten<I: Interpreter + Drop>(alloc: Global, text: &str) -> Result<String, FileError> {
-    rewritten_by::<Lone<I>, ()>(&(), alloc, text)
+    rewritten_by::<Lone<I, ()>, ()>(&(), alloc, text)
 }

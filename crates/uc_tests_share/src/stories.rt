@@ -1,5 +1,6 @@
 //! [`Stories`]: what plays the files, each case of which is a story of a store of its own.
 ghost use Rattle.std.specs.Prelude.{◌≡◌, false};
+ghost use Rattle.std.specs.Thread.{IsSync};
 ghost use Rattle.uc_share.specs.Stores.{IsNamed};
 
 use crate::named_seat::named_seats;
@@ -9,7 +10,7 @@ use crate::printed::version_line;
 use crate::step::Step;
 use crate::story::{Said, Story, places_of};
 use std::alloc::Global;
-use std::marker::{Brand, Send, Sync};
+use std::marker::{Brand, PhantomData, Send, Sync};
 use std::sync::Wait;
 use std::thread::Threads;
 use testkit_data::{Case, CaseError, Player};
@@ -21,7 +22,7 @@ const THEN: &str = "then";
 
 /// What plays the files: `data/README.md` has the command and the steps.
 #[derive(Drop)]
-pub struct Stories;
+pub struct Stories<R>(PhantomData<R>);
 
 /// Takes steps. Each is printed with what came of it.
 fn push_steps<'a, N, W, R>(
@@ -81,17 +82,16 @@ fn play<R: Threads + Wait + Sync>(rt: &R, alloc: Global, case: &Case<'_>) -> Sai
     }
 }
 
-impl Player<HostRuntime> for Stories {
-    fn new(_alloc: Global) -> Stories {
-        Stories
+impl<R: Threads + Wait + Sync> Player for Stories<R> {
+    type Runtime = R;
+
+    ghost can_play = { IsSync R.row };
+
+    fn new(_alloc: Global) -> Stories<R> {
+        Stories(PhantomData)
     }
 
-    fn run(
-        &mut self,
-        rt: &HostRuntime,
-        alloc: Global,
-        case: &Case<'_>,
-    ) -> Result<String, CaseError> {
+    fn run(&mut self, rt: &R, alloc: Global, case: &Case<'_>) -> Result<String, CaseError> {
         if case.command == "story" {
             play(rt, alloc, case)
         } else {

@@ -50,5 +50,5 @@ use testkit_data::play_folder_by;
 
 fn main(rt: HostRuntime) -> Result<()> {
     let words: Vec<String> = env::args(&rt)?.collect(rt.alloc())?;
-    play_folder_by::<Stories, HostRuntime>(&rt, &words)
+    play_folder_by::<Stories<HostRuntime>, HostRuntime>(&rt, &words)
 }

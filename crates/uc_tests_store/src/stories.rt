@@ -1,4 +1,6 @@
 //! [`Stories`]: the commands of the files, over the store that an earlier case opened.
+ghost use Rattle.std.specs.Thread.{IsSync};
+
 use crate::courses::play_course;
 use crate::drawn_picks::draw_picks;
 use crate::drawn_steps::draw_steps;
@@ -9,7 +11,7 @@ use crate::replies::error_texts;
 use crate::setup::{KEYS, Setup};
 use crate::stores::Stores;
 use std::alloc::Global;
-use std::marker::Sync;
+use std::marker::{PhantomData, Sync};
 use std::thread::Threads;
 use testkit_data::{Case, CaseError, Player};
 use uc_oper::Append;
@@ -19,8 +21,9 @@ type Commas = Append<44>;
 
 /// What plays the files: `data/README.md` has its commands.
 #[derive(Drop)]
-pub struct Stories {
+pub struct Stories<R> {
     stores: Stores<Commas>,
+    of: PhantomData<R>,
 }
 
 /// The keys of a command's arguments.
@@ -52,20 +55,20 @@ fn play_alone<R: Threads + Sync>(
     }
 }
 
-impl Player<HostRuntime> for Stories {
-    fn new(alloc: Global) -> Stories {
+impl<R: Threads + Sync> Player for Stories<R> {
+    type Runtime = R;
+
+    ghost can_play = { IsSync R.row };
+
+    fn new(alloc: Global) -> Stories<R> {
         recall_laws();
         Stories {
             stores: Stores::none(alloc),
+            of: PhantomData,
         }
     }
 
-    fn run(
-        &mut self,
-        rt: &HostRuntime,
-        alloc: Global,
-        case: &Case<'_>,
-    ) -> Result<String, CaseError> {
+    fn run(&mut self, rt: &R, alloc: Global, case: &Case<'_>) -> Result<String, CaseError> {
         case.arguments.allow(keys_of(case.command))?;
         match case.command {
             "open" => self.stores.open(rt, alloc, &Setup::read(alloc, case)?),
