@@ -45,7 +45,7 @@ pub enum Actor<O: Operator, N: Name> {
 /// A store, and what all know who do something to it.
 #[derive(Drop)]
 pub struct Soak<'a, O: Operator, N: Name, W: Wait + Drop, R> {
-    pub scene: Scene<'a, N, O, W, R>,
+    pub scene: Scene<'a, O, N, W, R>,
     /// What is done to it.
     pub plan: Plan,
     /// All writes that may be fed, behind those that it opened with, and how many these are.
@@ -75,10 +75,9 @@ where
 {
     /// Feeds so many writes behind the last sequence that is shown, unless another is faster, or too many runs wait for compactors.
     fn feed(&self, reader: &mut Reader<O, N>, count: u64) -> Option<Done> {
-        let (rt, alloc, store) = (self.scene.rt, self.scene.alloc, self.scene.store);
         let last = reader.pin().ok()?.version().last();
-        let writes = writes_behind(alloc, last, count)?;
-        match store.feed(rt, alloc, &writes, reader) {
+        let writes = writes_behind(self.scene.alloc, last, count)?;
+        match self.scene.feed(&writes, reader) {
             Ok(runs) => Some(Done::fed(count, runs)),
             Err(FeedError::Back(now)) if now > last => Some(Done::events(0)),
             Err(FeedError::TooManyRuns) => Some(Done::events(0)),
@@ -146,13 +145,12 @@ where
     /// Keeps the last sequence, lets the others ask at it, and releases what was kept before, at which nobody asks then. What the
     /// store was opened with stays.
     fn keep_and_release(&self, reader: &mut Reader<O, N>) -> Option<Done> {
-        let (rt, alloc, store) = (self.scene.rt, self.scene.alloc, self.scene.store);
-        let seq = store.keep(rt, alloc, reader).ok()?;
-        let before = replaced(rt, &self.kept, seq);
+        let seq = self.scene.keep(reader).ok()?;
+        let before = replaced(self.scene.rt, &self.kept, seq);
         if before == self.opened || before == seq {
             return Some(Done::events(1));
         }
-        store.release(rt, alloc, before, reader).ok()?;
+        self.scene.release(before, reader).ok()?;
         Some(Done::events(2))
     }
 

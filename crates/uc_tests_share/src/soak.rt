@@ -166,8 +166,7 @@ where
 
     /// Whether the store shows all that was done, with an event for each, and answers at the last sequence, which is kept here.
     fn shows_all(&self, reader: &mut Reader<O, N>, first_id: u64, done: Done) -> Option<bool> {
-        let (rt, alloc, store) = (self.scene.rt, self.scene.alloc, self.scene.store);
-        let last = store.keep(rt, alloc, reader).ok()?;
+        let last = self.scene.keep(reader).ok()?;
         let alike = self.pin_is_alike(reader, &mut Dice::new(last), last, LAST_QUERIES)?;
         let pin = reader.pin().ok()?;
         let all = pin.front().len() == done.events.saturating_add(1);
@@ -206,11 +205,7 @@ where
     )?;
     let mut late = readers.pop()?;
     push_readers(&mut jobs, readers, plan.feeds > 0, seed)?;
-    let scene = Scene {
-        rt,
-        alloc,
-        store: &store,
-    };
+    let scene = Scene::new(rt, alloc, &store);
     let soak = Soak {
         scene,
         plan,

@@ -93,7 +93,7 @@ fn has_both(version: &Version) -> bool {
     ids && newest && oldest
 }
 
-impl<N, W, R> Scene<'_, N, Commas, W, R>
+impl<N, W, R> Scene<'_, Commas, N, W, R>
 where
     N: Name + Send + Sync,
     W: Wait + Drop + Send,
@@ -208,11 +208,7 @@ where
     let mut workers = workers_of(alloc, &mut readers, seats)?;
     let one = workers.pop()?;
     let other = workers.pop()?;
-    let scene = Scene {
-        rt,
-        alloc,
-        store: &store,
-    };
+    let scene = Scene::new(rt, alloc, &store);
     match tried {
         Tried::Race => scene.have_raced(one, other),
         Tried::SecondFirst | Tried::LastBehind(_) => {

@@ -54,7 +54,7 @@ pub fn workers_of<O: Operator, N: Name>(
 /// A compactor that comes back, and how many installs it made. None comes back if an install was refused.
 pub type Worked<O, N> = Option<(Worker<O, N>, u64)>;
 
-impl<N, O, W, R> Scene<'_, N, O, W, R>
+impl<O, N, W, R> Scene<'_, O, N, W, R>
 where
     O: Operator + Sync,
     N: Name,
