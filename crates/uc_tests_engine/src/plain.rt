@@ -1,28 +1,18 @@
 //! [`Plain`]: the plain program beside an engine, a list of writes and a set of keeps.
 use std::alloc::{AllocError, Global};
-use testkit_data::CaseError;
+use std::test::Fail;
 use uc_batch::Writes;
 use uc_bytes::{Op, Write};
-use uc_engine::{Answer, OperatorKind, Query};
+use uc_engine::{Answer, OperatorKind};
 use uc_oper::{Append, Counter, Maximum, Tail};
-use uc_query_read::answer_writes;
+use uc_query_read::{Query, answer_writes};
 
 /// What an engine was given, and the sequence of each snapshot, in any order.
-pub struct Plain {
+#[derive(Drop)]
+pub(crate) struct Plain {
     kind: OperatorKind,
     writes: Writes,
-    pub keeps: Vec<u64>,
-}
-
-// A destructor of its own: where a value is dropped, the proof of a caller has one call, and not one for each field.
-impl Drop for Plain {
-    fn drop(self) {
-        let Plain {
-            kind: _,
-            writes: _,
-            keeps: _,
-        } = self;
-    }
+    pub(crate) keeps: Vec<u64>,
 }
 
 /// Copies of writes.
@@ -34,23 +24,18 @@ fn copies(alloc: Global, writes: &Writes) -> Result<Vec<Write>, AllocError> {
     Ok(all)
 }
 
-/// Writes that rise.
-fn rising(list: Vec<Write>) -> Result<Writes, CaseError> {
-    Writes::of(list).ok_or(CaseError::Said("sequences don't rise"))
-}
-
 /// Copies of writes, and one more behind them.
-fn with_write(alloc: Global, writes: &Writes, seq: u64, op: Op) -> Result<Writes, CaseError> {
+fn with_write(alloc: Global, writes: &Writes, seq: u64, op: Op) -> Result<Writes, Fail> {
     let mut all = copies(alloc, writes)?;
     all.push(Write { seq, op })?;
-    rising(all)
+    Ok(Writes::of(all).ok_or("sequences don't rise")?)
 }
 
 impl Plain {
     /// A program without writes and snapshots.
-    pub fn new(alloc: Global, kind: OperatorKind) -> Result<Plain, CaseError> {
+    pub(crate) fn new(alloc: Global, kind: OperatorKind) -> Result<Plain, Fail> {
         let keeps = Vec::new(alloc);
-        let writes = rising(Vec::new(alloc))?;
+        let writes = Writes::of(Vec::new(alloc)).ok_or("no writes rise")?;
         Ok(Plain {
             kind,
             writes,
@@ -59,8 +44,8 @@ impl Plain {
     }
 
     /// A copy.
-    pub fn copy(&self, alloc: Global) -> Result<Plain, CaseError> {
-        let writes = rising(copies(alloc, &self.writes)?)?;
+    pub(crate) fn copy(&self, alloc: Global) -> Result<Plain, Fail> {
+        let writes = Writes::of(copies(alloc, &self.writes)?).ok_or("sequences don't rise")?;
         Ok(Plain {
             kind: self.kind,
             writes,
@@ -69,41 +54,41 @@ impl Plain {
     }
 
     /// The last sequence.
-    pub fn last(&self) -> u64 {
+    pub(crate) fn last(&self) -> u64 {
         self.writes.last()
     }
 
     /// Whether a sequence is kept.
-    pub fn is_kept(&self, seq: u64) -> bool {
+    pub(crate) fn is_kept(&self, seq: u64) -> bool {
         self.keeps.contains(&seq)
     }
 
     /// Writes an operation at a sequence.
-    pub fn write(&mut self, alloc: Global, seq: u64, op: Op) -> Result<(), CaseError> {
+    pub(crate) fn write(&mut self, alloc: Global, seq: u64, op: Op) -> Result<(), Fail> {
         self.writes = with_write(alloc, &self.writes, seq, op)?;
         Ok(())
     }
 
     /// The sequence behind the last one.
-    pub fn next(&self) -> u64 {
+    pub(crate) fn next(&self) -> u64 {
         self.last().saturating_add(1)
     }
 
     /// Keeps a sequence once more.
-    pub fn keep(&mut self, seq: u64) -> Result<(), AllocError> {
+    pub(crate) fn keep(&mut self, seq: u64) -> Result<(), AllocError> {
         self.keeps.push(seq)?;
         Ok(())
     }
 
     /// Keeps a sequence once less.
-    pub fn release(&mut self, seq: u64) {
+    pub(crate) fn release(&mut self, seq: u64) {
         if let Some(place) = self.keeps.iter().position(|keep| *keep == seq) {
             self.keeps.swap_remove(place);
         }
     }
 
     /// The answer to a query under these keeps.
-    pub fn answer(
+    pub(crate) fn answer(
         &self,
         alloc: Global,
         keeps: &[u64],
