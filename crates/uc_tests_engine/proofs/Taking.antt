@@ -1,5 +1,5 @@
 -- Jobs that an engine takes back, whatever happens to it.
-use Rattle.std.proofs.Common.{◌≡◌, ◌≢◌, Bool, true, List, [], Option, Some, None, Result, Ok, Err, IfOk, IfErr, OnOk, OnErr, refl, sym, ap, ◌∙◌, subst}
+use Rattle.std.proofs.Common.{◌≡◌, ◌≢◌, Bool, true, [], Option, Some, None, Result, Ok, Err, IfOk, IfErr, OnOk, OnErr, refl, sym, ap, ◌∙◌, subst}
 use Rattle.std.specs.Prelude.{IfSome, option_map}
 use Rattle.std.specs.declared.alloc.AllocError.{AllocError}
 use Rattle.uc_oper.specs.Operation.{Operation}
@@ -14,7 +14,7 @@ use Rattle.uc_version.specs.Owners.{Owner, IsOwner}
 use Rattle.uc_version.specs.Claiming.{Claim, is_held, claim_refusal, claim_of, with_claim, without_claim}
 use Rattle.uc_version.specs.Installing.{claimed_runs, after_install}
 use Rattle.uc_version.specs.Jobs.{Task, IsOwn, IsStarted, HasEnded, run_stage, task_of}
-use Rattle.uc_live.specs.Lives.{Live, owner_in}
+use Rattle.uc_live.specs.Lives.{owner_in}
 use Rattle.uc_live.specs.Going.{GoesOn, HoldsOn}
 use Rattle.uc_live.specs.Compacting.{next_stretch, HasNoRoom}
 use Rattle.uc_live.specs.declared.room_error.RoomError.{RoomError}

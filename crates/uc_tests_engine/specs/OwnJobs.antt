@@ -1,5 +1,5 @@
 -- Jobs that are out of an engine.
-use Rattle.std.specs.Prelude.{◌≡◌, ◌≢◌, true, ⊤, Option, Some, None, IfSome}
+use Rattle.std.specs.Prelude.{◌≡◌, ◌≢◌, true, ⊤, Option, Some, IfSome}
 use Rattle.uc_version.specs.declared.job_stage.JobStage.TheVariants.{Ended}
 use Rattle.uc_version.specs.Claiming.{is_held}
 use Rattle.uc_version.specs.Jobs.{IsOwn}

@@ -4,8 +4,7 @@ use crate::readable::Readable;
 use std::alloc::{AllocError, Global};
 use testkit_draws::dice::{Dice, KEYS};
 use uc_bytes::Bytes;
-use uc_engine::Answer;
-use uc_query_read::Query;
+use uc_engine::{Answer, Query};
 
 /// The plain program's answer to a lookup under these keeps.
 fn plain_value(
@@ -113,7 +112,7 @@ fn scans_last<R: Readable>(
 }
 
 /// Whether a store reads as the plain program does, at a drawn sequence and at the last one.
-pub(crate) fn reads_alike<R: Readable>(
+pub fn reads_alike<R: Readable>(
     alloc: Global,
     dice: &mut Dice,
     store: &R,

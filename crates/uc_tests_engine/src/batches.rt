@@ -1,108 +1,93 @@
-//! Batches that are written as bytes, in one step.
-use crate::given::{batch, empty, has, write_batch};
-use crate::worked::{MERGED, Merged};
+//! Changes and batches as the files say them.
+use crate::words::{Words, number_of};
 use std::alloc::{AllocError, Global};
-use std::test::Fail;
-use uc_bytes::MAX_SEQUENCE;
-use uc_engine::{BatchError, Engine, LiveOptions, WriteError};
+use testkit_data::CaseError;
+use uc_batch::{fits_batch, write_batch};
+use uc_bytes::{Bytes, Op};
 
-/// Writes a batch of two operations, and looks at it and at the last sequence.
-fn is_merged(
+/// The second text of a change; none is a text without bytes.
+fn second_of(alloc: Global, words: &mut Words<'_>) -> Result<Bytes, CaseError> {
+    if words.rest().is_empty() {
+        return Ok(Bytes::from(Vec::new(alloc)));
+    }
+    Ok(Bytes::from(words.bytes(alloc)?))
+}
+
+/// The change that a text says: `put KEY VALUE`, `merge KEY OPERAND`, `delete KEY` or `range BEGIN END`.
+pub fn op_of(alloc: Global, text: &str) -> Result<Op, CaseError> {
+    let mut words = Words::of(text);
+    let verb = words.next();
+    let first = Bytes::from(words.bytes(alloc)?);
+    let second = second_of(alloc, &mut words)?;
+    match verb {
+        "put" => Ok(Op::Put(first, second)),
+        "merge" => Ok(Op::Merge(first, second)),
+        "delete" => Ok(Op::Delete(first)),
+        "range" => Ok(Op::DeleteRange(first, second)),
+        _ => Err(CaseError::Said("a change isn't put, merge, delete or range")),
+    }
+}
+
+/// Changes with `+` between them.
+fn ops_of(alloc: Global, text: &str) -> Result<Vec<Op>, CaseError> {
+    let mut ops = Vec::new(alloc);
+    for part in text.split('+').filter(|part| !part.trim_ascii().is_empty()) {
+        ops.push(op_of(alloc, part)?)?;
+    }
+    Ok(ops)
+}
+
+/// The bytes of a batch of these changes.
+pub fn bytes_of_batch(alloc: Global, sequence: u64, ops: &[Op]) -> Result<Vec<u8>, CaseError> {
+    if !fits_batch(sequence, ops) {
+        return Err(CaseError::Said("changes don't fit a batch"));
+    }
+    Ok(write_batch(alloc, sequence, ops)?)
+}
+
+/// A batch, with another sequence in place of its own.
+pub fn with_sequence(alloc: Global, sequence: u64, batch: &[u8]) -> Result<Vec<u8>, AllocError> {
+    let mut bytes = Vec::from_slice(alloc, &sequence.to_le_bytes())?;
+    bytes.extend_from_slice(batch.get(8..).unwrap_or(&[]))?;
+    Ok(bytes)
+}
+
+/// A batch of these records, with a sequence and a count.
+fn batch_of_records(
     alloc: Global,
-    engine: &mut Engine,
-    merged: &Merged,
     sequence: u64,
-    last: u64,
-) -> Result<bool, AllocError> {
-    Ok(
-        write_batch(alloc, engine, sequence, 2, merged.records)?
-            && engine.last() == last
-            && has(alloc, engine, b"k", merged.value)?,
-    )
+    count: u32,
+    records: &[u8],
+) -> Result<Vec<u8>, AllocError> {
+    let mut bytes = Vec::from_slice(alloc, &sequence.to_le_bytes())?;
+    bytes.extend_from_slice(&count.to_le_bytes())?;
+    bytes.extend_from_slice(records)?;
+    Ok(bytes)
 }
 
-/// Whether an operator merges what is written, and is told by the engine.
-fn merges(alloc: Global, merged: &Merged, sequence: u64, last: u64) -> Result<bool, Fail> {
-    let mut engine = empty(alloc, merged.kind, LiveOptions::usual())?;
-    let is_merged = is_merged(alloc, &mut engine, merged, sequence, last)?;
-    Ok(is_merged && engine.kind() == merged.kind)
+/// A batch whose records are given as bytes.
+fn raw_batch(alloc: Global, words: &mut Words<'_>) -> Result<Vec<u8>, CaseError> {
+    let sequence = words.number()?;
+    let Ok(count) = u32::try_from(words.number()?) else {
+        return Err(CaseError::Said("a count doesn't fit a batch"));
+    };
+    let records = words.bytes(alloc)?;
+    Ok(batch_of_records(alloc, sequence, count, &records)?)
 }
 
-/// Whether each operator does.
-fn each_merges(alloc: Global, sequence: u64, last: u64) -> Result<bool, Fail> {
-    for merged in &MERGED {
-        if !merges(alloc, merged, sequence, last)? {
-            return Ok(false);
-        }
+/// A batch of changes, from a sequence on, or without one of its own if that is 0.
+fn batch_of_ops(alloc: Global, sequence: u64, text: &str) -> Result<Vec<u8>, CaseError> {
+    let ops = ops_of(alloc, text)?;
+    let bytes = bytes_of_batch(alloc, sequence.max(1), &ops)?;
+    Ok(with_sequence(alloc, sequence, &bytes)?)
+}
+
+/// The bytes that a text says: `bytes BYTES`, `raw SEQUENCE COUNT RECORDS`, or `SEQUENCE CHANGE + CHANGE`.
+pub fn batch_of(alloc: Global, text: &str) -> Result<Vec<u8>, CaseError> {
+    let mut words = Words::of(text);
+    match words.next() {
+        "bytes" => words.bytes(alloc),
+        "raw" => raw_batch(alloc, &mut words),
+        number => batch_of_ops(alloc, number_of(number)?, words.rest()),
     }
-    Ok(true)
-}
-
-#[test]
-fn batches_are_merged_by_each_operator(rt: HostRuntime) -> Result<(), Fail> {
-    assert!(rt; each_merges(rt.alloc(), 0, 2)?, "behind the last sequence");
-    assert!(rt; each_merges(rt.alloc(), 1, 2)?, "at 1");
-    assert!(rt; each_merges(rt.alloc(), 77, 78)?, "at 77");
-    Ok(())
-}
-
-/// Writes a batch twice, whose sequence isn't above the last one then.
-pub(crate) fn goes_back(alloc: Global, engine: &mut Engine) -> Result<bool, AllocError> {
-    let bytes = batch(alloc, 2, 2, b"\x02\x01k\x01a\x02\x01k\x01b")?;
-    let done = engine.write_batch(alloc, &bytes) == Ok(());
-    let back = Err(WriteError::Faulty(BatchError::SequenceBack(3)));
-    Ok(done && engine.write_batch(alloc, &bytes) == back && engine.last() == 3)
-}
-
-/// Writes a batch without a sequence twice: the second goes on behind the first.
-pub(crate) fn goes_on(alloc: Global, engine: &mut Engine) -> Result<bool, AllocError> {
-    let records = b"\x02\x01k\x01a\x02\x01k\x01b";
-    Ok(
-        write_batch(alloc, engine, 0, 2, records)?
-            && write_batch(alloc, engine, 0, 2, records)?
-            && engine.last() == 4
-            && has(alloc, engine, b"k", b"a,b,a,b")?,
-    )
-}
-
-/// Bytes that aren't a batch, and why.
-static FAULTY: [(&[u8], BatchError); 6] = [
-    (b"", BatchError::TooShort),
-    (b"\x01\0\0\0\0\0\0\0\0\0\0", BatchError::TooShort),
-    (
-        b"\x01\0\0\0\0\0\0\0\x01\0\0\0\x55",
-        BatchError::BadTag(0x55, 12),
-    ),
-    (
-        b"\x01\0\0\0\0\0\0\0\x01\0\0\0\x02\x01k\x02a",
-        BatchError::Cut(12),
-    ),
-    (
-        b"\x01\0\0\0\0\0\0\0\x02\0\0\0\0\x01k",
-        BatchError::WrongCount,
-    ),
-    (
-        b"\x01\0\0\0\0\0\0\0\x01\0\0\0\x04\x09\x01k",
-        BatchError::OtherFamily(9),
-    ),
-];
-
-/// Whether each faulty batch is refused with its fault, and changes nothing.
-pub(crate) fn refuses_faulty(alloc: Global, engine: &mut Engine) -> bool {
-    for (bytes, fault) in &FAULTY {
-        if engine.write_batch(alloc, bytes) != Err(WriteError::Faulty(*fault))
-            || engine.last() != 0
-        {
-            return false;
-        }
-    }
-    true
-}
-
-/// Writes a batch without operations, and one for which no sequence is left.
-pub(crate) fn spends(alloc: Global, engine: &mut Engine) -> Result<bool, AllocError> {
-    let fits = write_batch(alloc, engine, 0, 0, b"")?;
-    let one = batch(alloc, 0, 1, b"\x02\x01k\x01b")?;
-    let is_spent = engine.write_batch(alloc, &one) == Err(WriteError::SequencesSpent);
-    Ok(fits && is_spent && engine.last() == MAX_SEQUENCE)
 }

@@ -68,12 +68,35 @@ impl Busy {
         &self.engine
     }
 
+    /// The first job.
+    pub fn job(&self) -> Option<&EngineJob> {
+        match &self.first {
+            Some(job) => Some(job),
+            None => None,
+        }
+    }
+
     /// Whether the engine says that the first job is out.
     pub fn has_out(&self) -> bool {
         match &self.first {
             Some(job) => self.engine.has_out(job),
             None => false,
         }
+    }
+
+    /// Whether no job is out.
+    pub fn is_idle(&self) -> bool {
+        self.first.is_none() && self.second.is_none()
+    }
+
+    /// The engine and the first job. No job goes back any more.
+    pub fn into_parts(self) -> (Engine, Option<EngineJob>) {
+        let Busy {
+            engine,
+            first,
+            second: _,
+        } = self;
+        (engine, first)
     }
 
     /// Writes an operation.

@@ -1,50 +1,17 @@
 //! Jobs beside drawn calls, and the answers of the plain program all along.
 use crate::alike::reads_alike;
 use crate::busy::Busy;
-use crate::drawn::{CALLS, KINDS, gathering};
-use crate::given::{empty, expect, small};
+use crate::drawn::{Draw, demand_alike, empty, release_drawn, take, tidy, write_drawn};
 use crate::jobs::{run, start};
 use crate::plain::Plain;
+use crate::work::Work;
 use std::alloc::Global;
-use std::test::Fail;
+use testkit_data::CaseError;
 use testkit_draws::dice::Dice;
-use uc_engine::{JobEnd, LiveOptions, OpRef, OperatorKind};
+use uc_engine::{JobEnd, OperatorKind};
 
-/// Writes a drawn operation.
-fn write_drawn(
-    alloc: Global,
-    dice: &mut Dice,
-    busy: &mut Busy,
-    plain: &mut Plain,
-) -> Result<(), Fail> {
-    let op = dice.op(alloc)?;
-    let is_written = busy.write(alloc, OpRef::of(&op)) == Ok(());
-    plain.write(alloc, plain.next(), op)?;
-    expect(is_written, "the write is refused")
-}
-
-/// Takes a snapshot.
-fn take(alloc: Global, busy: &mut Busy, plain: &mut Plain) -> Result<(), Fail> {
-    plain.keep(plain.last())?;
-    expect(
-        busy.snapshot(alloc) == Ok(plain.last()),
-        "another sequence is kept",
-    )
-}
-
-/// Releases a drawn snapshot, if the drawn sequence is one.
-fn release_drawn(dice: &mut Dice, busy: &mut Busy, plain: &mut Plain) -> Result<(), Fail> {
-    let seq = dice.roll(plain.last().saturating_add(2));
-    let is_kept = plain.is_kept(seq);
-    plain.release(seq);
-    expect(
-        busy.release(seq).is_ok() == is_kept,
-        "only a snapshot is released",
-    )
-}
-
-/// Starts, runs or ends the first job, or exchanges the two.
-fn work_drawn(alloc: Global, dice: &mut Dice, busy: &mut Busy) -> Result<(), Fail> {
+/// Starts, runs or ends the first job, or exchanges the two. Tells whether a run was installed.
+fn work_drawn(alloc: Global, dice: &mut Dice, busy: &mut Busy) -> Result<bool, CaseError> {
     let kind = dice.roll(4);
     if kind == 0 {
         start(alloc, busy)?;
@@ -52,71 +19,72 @@ fn work_drawn(alloc: Global, dice: &mut Dice, busy: &mut Busy) -> Result<(), Fai
         run(alloc, busy)?;
     } else if kind == 2 {
         busy.swap();
-    } else if let Some(JobEnd::Refused(_)) = busy.end() {
-        return Err("a job is refused")?;
-    }
-    Ok(())
-}
-
-/// Flushes or compacts.
-fn tidy(alloc: Global, dice: &mut Dice, busy: &mut Busy) -> Result<(), Fail> {
-    let is_done = if dice.roll(2) == 0 {
-        busy.flush(alloc).is_ok()
     } else {
-        busy.compact_once(alloc).is_ok()
-    };
-    expect(is_done, "nothing is flushed or compacted")
-}
-
-/// Makes a drawn call.
-fn call(alloc: Global, dice: &mut Dice, busy: &mut Busy, plain: &mut Plain) -> Result<(), Fail> {
-    let kind = dice.roll(10);
-    if kind < 4 {
-        write_drawn(alloc, dice, busy, plain)
-    } else if kind < 8 {
-        work_drawn(alloc, dice, busy)
-    } else if kind == 9 {
-        tidy(alloc, dice, busy)
-    } else if dice.roll(2) == 0 {
-        take(alloc, busy, plain)
-    } else {
-        release_drawn(dice, busy, plain)
+        return match busy.end() {
+            Some(JobEnd::Refused(_)) => Err(CaseError::Said("a job is refused")),
+            Some(JobEnd::Installed(_)) => Ok(true),
+            _ => Ok(false),
+        };
     }
+    Ok(false)
 }
 
-/// Makes drawn calls, and reads behind each.
-fn plays(
+/// Makes a drawn call. Tells whether a job's run was installed.
+fn call(
     alloc: Global,
     dice: &mut Dice,
-    kind: OperatorKind,
-    options: LiveOptions,
-) -> Result<bool, Fail> {
-    let mut busy = Busy::new(empty(alloc, kind, options)?);
+    work: &mut Work,
+    plain: &mut Plain,
+) -> Result<bool, CaseError> {
+    let kind = dice.roll(10);
+    if kind < 4 {
+        write_drawn(alloc, dice, work, plain)?;
+    } else if kind < 8 {
+        return work_drawn(alloc, dice, work.busy()?);
+    } else if kind == 9 {
+        tidy(alloc, dice, work)?;
+    } else if dice.roll(2) == 0 {
+        take(alloc, work, plain)?;
+    } else {
+        release_drawn(dice, work, plain)?;
+    }
+    Ok(false)
+}
+
+/// Makes drawn calls, and reads behind each. Returns how many jobs' runs were installed.
+fn play(
+    alloc: Global,
+    dice: &mut Dice,
+    work: &mut Work,
+    plain: &mut Plain,
+    calls: u64,
+) -> Result<u64, CaseError> {
+    let mut installed = 0_u64;
+    for _ in 0..calls {
+        let is_installed = call(alloc, dice, work, plain)?;
+        installed = installed.saturating_add(u64::from(is_installed));
+        demand_alike(reads_alike(alloc, dice, work.engine()?, plain)?)?;
+    }
+    demand_alike(work.engine()?.last() == plain.last())?;
+    Ok(installed)
+}
+
+/// Makes drawn calls under an operator.
+fn play_under(alloc: Global, draw: &Draw, kind: OperatorKind, seed: u64) -> Result<u64, CaseError> {
+    let mut dice = Dice::new(seed);
+    let mut work = Work::of(empty(alloc, kind, draw.options)?);
     let mut plain = Plain::new(alloc, kind)?;
-    for _ in 0..CALLS {
-        call(alloc, dice, &mut busy, &mut plain)?;
-        if !reads_alike(alloc, dice, busy.engine(), &plain)? {
-            return Ok(false);
-        }
-    }
-    Ok(busy.engine().last() == plain.last())
+    play(alloc, &mut dice, &mut work, &mut plain, draw.calls)
 }
 
-/// Whether each operator plays as the plain program does, under these options.
-fn each_plays(alloc: Global, options: LiveOptions) -> Result<bool, Fail> {
-    for (seed, kind) in KINDS.iter().enumerate() {
-        let mut dice = Dice::new(seed as u64 + 200);
-        if !plays(alloc, &mut dice, *kind, options)? {
-            return Ok(false);
-        }
+/// Makes drawn calls under each operator.
+pub fn draw_jobs(alloc: Global, draw: &Draw) -> Result<String, CaseError> {
+    let mut seed = draw.seed;
+    let mut installed = 0_u64;
+    for kind in draw.kinds {
+        installed = installed.saturating_add(play_under(alloc, draw, *kind, seed)?);
+        seed = seed.saturating_add(1);
     }
-    Ok(true)
-}
-
-#[test]
-fn jobs_beside_drawn_calls_read_as_plain_writes(rt: HostRuntime) -> Result<(), Fail> {
-    let alloc = rt.alloc();
-    assert!(rt; each_plays(alloc, small())?);
-    assert!(rt; each_plays(alloc, gathering())?);
-    Ok(())
+    let calls = draw.calls;
+    Ok(format!(in alloc; "{calls} calls alike, {installed} jobs installed\n")?)
 }

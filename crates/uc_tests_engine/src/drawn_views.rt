@@ -1,13 +1,13 @@
 //! Views at moments of drawn calls, beside copies of the plain program.
 use crate::alike::reads_alike;
-use crate::drawn::{CALLS, KINDS, call, gathering};
-use crate::given::{empty, small};
+use crate::drawn::{Draw, call, demand_alike, empty};
 use crate::plain::Plain;
 use crate::views::view_of;
+use crate::work::Work;
 use std::alloc::{AllocError, Global};
-use std::test::Fail;
+use testkit_data::CaseError;
 use testkit_draws::dice::Dice;
-use uc_engine::{Engine, EngineView, LiveOptions, OperatorKind};
+use uc_engine::{EngineView, OperatorKind};
 
 /// A view, and the plain program as it was then.
 #[derive(Drop)]
@@ -17,8 +17,8 @@ struct Moment {
 }
 
 /// A moment of both.
-fn moment_of(alloc: Global, engine: &mut Engine, plain: &Plain) -> Result<Moment, Fail> {
-    let view = view_of(alloc, engine)?;
+fn moment_of(alloc: Global, work: &mut Work, plain: &Plain) -> Result<Moment, CaseError> {
+    let view = view_of(alloc, work.free()?)?;
     Ok(Moment {
         view,
         plain: plain.copy(alloc)?,
@@ -33,68 +33,83 @@ fn looks_back(alloc: Global, dice: &mut Dice, moments: &[Moment]) -> Result<bool
     }
 }
 
-/// Whether each moment reads as it did, also through another view of it.
-fn all_read_alike(alloc: Global, dice: &mut Dice, moments: &[Moment]) -> Result<bool, Fail> {
-    for moment in moments {
-        let again = moment.view.again()?;
-        if !reads_alike(alloc, dice, &again, &moment.plain)? {
-            return Ok(false);
-        }
-    }
-    Ok(true)
+/// Whether a moment reads as it did, through another view of it.
+fn reads_again(alloc: Global, dice: &mut Dice, moment: &Moment) -> Result<bool, AllocError> {
+    let again = moment.view.again()?;
+    reads_alike(alloc, dice, &again, &moment.plain)
 }
 
-/// Makes drawn calls, with a moment behind one of four, and looks back behind each.
+/// Demands it of each.
+fn demand_again(alloc: Global, dice: &mut Dice, moments: &[Moment]) -> Result<(), CaseError> {
+    for moment in moments {
+        demand_alike(reads_again(alloc, dice, moment)?)?;
+    }
+    Ok(())
+}
+
+/// Makes a drawn call, with a moment behind one of four, and looks back.
+fn view_call(
+    alloc: Global,
+    dice: &mut Dice,
+    work: &mut Work,
+    plain: &mut Plain,
+    moments: &mut Vec<Moment>,
+) -> Result<(), CaseError> {
+    call(alloc, dice, work, plain)?;
+    if dice.roll(4) == 0 {
+        moments.push(moment_of(alloc, work, plain)?)?;
+    }
+    demand_alike(looks_back(alloc, dice, moments)?)
+}
+
+/// Makes drawn calls so.
 fn view_all_along(
     alloc: Global,
     dice: &mut Dice,
-    engine: &mut Engine,
-    plain: &mut Plain,
-    moments: &mut Vec<Moment>,
-) -> Result<bool, Fail> {
-    for _ in 0..CALLS {
-        call(alloc, dice, engine, plain)?;
-        if dice.roll(4) == 0 {
-            moments.push(moment_of(alloc, engine, plain)?)?;
-        }
-        if !looks_back(alloc, dice, moments)? {
-            return Ok(false);
-        }
+    work: &mut Work,
+    (plain, moments): (&mut Plain, &mut Vec<Moment>),
+    calls: u64,
+) -> Result<(), CaseError> {
+    for _ in 0..calls {
+        view_call(alloc, dice, work, plain, moments)?;
     }
-    Ok(reads_alike(alloc, dice, engine, plain)?)
+    demand_alike(reads_alike(alloc, dice, work.engine()?, plain)?)
 }
 
-/// Whether views stay as they were while drawn calls are made, and when the engine is gone.
-fn stay(
+/// Takes views while drawn calls are made, of an engine that is gone then.
+fn moments_of(
     alloc: Global,
     dice: &mut Dice,
+    draw: &Draw,
     kind: OperatorKind,
-    options: LiveOptions,
-) -> Result<bool, Fail> {
-    let mut engine = empty(alloc, kind, options)?;
+) -> Result<Vec<Moment>, CaseError> {
+    let mut work = Work::of(empty(alloc, kind, draw.options)?);
     let mut plain = Plain::new(alloc, kind)?;
     let mut moments = Vec::new(alloc);
-    let stay = view_all_along(alloc, dice, &mut engine, &mut plain, &mut moments)?;
-    drop(engine);
-    Ok(stay && all_read_alike(alloc, dice, &moments)?)
+    view_all_along(
+        alloc,
+        dice,
+        &mut work,
+        (&mut plain, &mut moments),
+        draw.calls,
+    )?;
+    Ok(moments)
 }
 
-/// Whether they stay under each operator, with these options.
-fn each_stays(alloc: Global, options: LiveOptions) -> Result<bool, Fail> {
-    for (seed, kind) in KINDS.iter().enumerate() {
-        let mut dice = Dice::new(seed as u64 + 100);
-        if !stay(alloc, &mut dice, *kind, options)? {
-            return Ok(false);
-        }
+/// Demands that views stay as they were while drawn calls are made, and when the engine is gone.
+fn demand_stay(alloc: Global, draw: &Draw, kind: OperatorKind, seed: u64) -> Result<(), CaseError> {
+    let mut dice = Dice::new(seed);
+    let moments = moments_of(alloc, &mut dice, draw, kind)?;
+    demand_again(alloc, &mut dice, &moments)
+}
+
+/// Demands it under each operator.
+pub fn draw_views(alloc: Global, draw: &Draw) -> Result<String, CaseError> {
+    let mut seed = draw.seed;
+    for kind in draw.kinds {
+        demand_stay(alloc, draw, *kind, seed)?;
+        seed = seed.saturating_add(1);
     }
-    Ok(true)
-}
-
-#[test]
-fn views_of_drawn_calls_stay(rt: HostRuntime) -> Result<(), Fail> {
-    let alloc = rt.alloc();
-    assert!(rt; each_stays(alloc, small())?);
-    assert!(rt; each_stays(alloc, gathering())?);
-    assert!(rt; each_stays(alloc, LiveOptions::usual())?);
-    Ok(())
+    let calls = draw.calls;
+    Ok(format!(in alloc; "{calls} calls alike\n")?)
 }

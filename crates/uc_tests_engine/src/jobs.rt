@@ -1,330 +1,186 @@
-//! Jobs, by hand.
+//! Steps with jobs, of which up to two are out: 1 and 2.
 use crate::busy::Busy;
-use crate::given::{empty, expect, has, put, small};
+use crate::printed::push_either;
+use crate::setup::{kind_word, kinds_named};
+use crate::story::Story;
+use crate::words::Words;
+use crate::work::Work;
 use std::alloc::{AllocError, Global};
-use std::process::Abort;
-use std::test::Fail;
-use std::thread::{Threads, join};
-use uc_engine::{
-    Engine, EngineJob, InstallError, JobEnd, JobStage, LiveOptions, OpRef, OperatorKind, Options,
-    RoomError, WriteError,
-};
-
-/// Merges a text into the key `k` so often, and returns whether it may.
-fn merges(alloc: Global, busy: &mut Busy, times: usize) -> bool {
-    for _ in 0..times {
-        if busy.write(alloc, OpRef::merge(b"k", b"a")) != Ok(()) {
-            return false;
-        }
-    }
-    true
-}
-
-/// An engine with four runs and one write behind them, each a merge of `a` into `k`.
-fn with_runs(alloc: Global, options: LiveOptions) -> Result<Busy, Fail> {
-    let mut busy = Busy::new(empty(alloc, OperatorKind::Append, options)?);
-    let are_four = merges(alloc, &mut busy, 5) && busy.engine().report().runs == 4;
-    expect(are_four, "there aren't four runs")?;
-    Ok(busy)
-}
+use std::fmt::Write;
+use testkit_data::CaseError;
+use uc_engine::{Bytes, Engine, EngineJob, JobEnd, LiveOptions, OpRef, OperatorKind};
 
 /// Starts the first job. If that is refused once, nothing is out, and it is asked for again.
-pub(crate) fn start(alloc: Global, busy: &mut Busy) -> Result<bool, Fail> {
+pub fn start(alloc: Global, busy: &mut Busy) -> Result<bool, CaseError> {
     match busy.start(alloc) {
         Ok(is_started) => Ok(is_started),
-        Err(_) if busy.has_out() => Err("a refused job is out")?,
+        Err(_) if busy.has_out() => Err(CaseError::Said("a refused job is out")),
         Err(_) => Ok(busy.start(alloc)?),
     }
 }
 
 /// Runs the first job. If that is refused once, it stays out, and is run again.
-pub(crate) fn run(alloc: Global, busy: &mut Busy) -> Result<bool, Fail> {
+pub fn run(alloc: Global, busy: &mut Busy) -> Result<bool, CaseError> {
     match busy.run(alloc) {
         Ok(is_done) => Ok(is_done),
-        Err(_) if !busy.has_out() => Err("a refused job isn't out")?,
+        Err(_) if !busy.has_out() => Err(CaseError::Said("a refused job isn't out")),
         Err(_) => Ok(busy.run(alloc)?),
     }
 }
 
-/// Whether the key has so many merges, and there are so many runs.
-fn stands(alloc: Global, busy: &Busy, value: &[u8], runs: u64) -> Result<bool, AllocError> {
-    Ok(has(alloc, busy.engine(), b"k", value)? && busy.engine().report().runs == runs)
-}
-
-/// A job of four runs, beside which writes are flushed and a snapshot comes. Its run gets the next id.
-fn goes_in(alloc: Global, busy: &mut Busy) -> Result<bool, Fail> {
-    let is_started = start(alloc, busy)? && busy.has_out();
-    let none_more = busy.compact_once(alloc) == Ok(false);
-    let is_flushed = merges(alloc, busy, 1) && busy.snapshot(alloc) == Ok(6);
-    let is_run = run(alloc, busy)? && stands(alloc, busy, b"a,a,a,a,a,a", 6)?;
-    let is_in = busy.end() == Some(JobEnd::Installed(7)) && !busy.has_out();
-    let is_there = stands(alloc, busy, b"a,a,a,a,a,a", 3)?;
-    Ok(is_started && none_more && is_flushed && is_run && is_in && is_there)
-}
-
-/// A job that isn't run leaves its runs, which are picked again.
-fn comes_back(alloc: Global, busy: &mut Busy) -> Result<bool, Fail> {
-    let is_started = start(alloc, busy)?;
-    let is_back = busy.end() == Some(JobEnd::NotRun) && stands(alloc, busy, b"a,a,a,a,a", 4)?;
-    let again = busy.compact_once(alloc) == Ok(true) && stands(alloc, busy, b"a,a,a,a,a", 1)?;
-    Ok(is_started && is_back && again && !start(alloc, busy)?)
-}
-
-/// A job of four runs, and one of four that came behind it.
-fn start_two(alloc: Global, busy: &mut Busy) -> Result<bool, Fail> {
-    let is_first = start(alloc, busy)? && merges(alloc, busy, 4);
-    busy.swap();
-    let is_second = start(alloc, busy)? && run(alloc, busy)?;
-    busy.swap();
-    Ok(is_first && is_second && run(alloc, busy)? && stands(alloc, busy, b"a,a,a,a,a,a,a,a,a", 8)?)
-}
-
-/// Ends both, the first one of the two first.
-fn end_two(alloc: Global, busy: &mut Busy) -> Result<bool, Fail> {
-    let is_one = busy.end() == Some(JobEnd::Installed(9))
-        && stands(alloc, busy, b"a,a,a,a,a,a,a,a,a", 5)?;
-    busy.swap();
-    let is_other = busy.end() == Some(JobEnd::Installed(10));
-    Ok(is_one && is_other && stands(alloc, busy, b"a,a,a,a,a,a,a,a,a", 2)?)
-}
-
-/// Two jobs that are ended in the order in which they came.
-fn go_in_in_order(alloc: Global, busy: &mut Busy) -> Result<bool, Fail> {
-    Ok(start_two(alloc, busy)? && end_two(alloc, busy)?)
-}
-
-/// Two jobs that are ended in the other order.
-fn go_in_swapped(alloc: Global, busy: &mut Busy) -> Result<bool, Fail> {
-    let are_started = start_two(alloc, busy)?;
-    busy.swap();
-    Ok(are_started && end_two(alloc, busy)?)
-}
-
-/// Options that stop writes at four runs, of which all are picked then.
-fn narrow() -> LiveOptions {
-    LiveOptions {
-        stop_trigger: 4,
-        ..small()
+/// Appends how a job ended, if there was one.
+fn push_end(text: &mut String, end: Option<JobEnd>) -> Result<(), AllocError> {
+    match end {
+        Some(end) => write!(text, "{end:?}"),
+        None => text.push_str("no job"),
     }
 }
 
-/// While a job has the four runs, writes go on over the number from which they stop.
-fn writes_on(alloc: Global, busy: &mut Busy) -> Result<bool, Fail> {
-    let is_started = start(alloc, busy)?;
-    let is_written = merges(alloc, busy, 2) && busy.engine().report().runs == 6;
-    let is_in = run(alloc, busy)? && busy.end() == Some(JobEnd::Installed(7));
-    Ok(is_started && is_written && is_in && stands(alloc, busy, b"a,a,a,a,a,a,a", 3)?)
-}
-
-/// Options with the greatest trigger, under which all runs are picked from 255 on.
-fn wide() -> LiveOptions {
-    LiveOptions {
-        store: Options {
-            memtable: 1,
-            trigger: 255,
-            least: 300,
-            ..Options::usual()
-        },
-        stop_trigger: 255,
-        max_write_buffer_number: 1,
-        compacts_itself: false,
-    }
-}
-
-/// Whether no write is taken, no flush and no snapshot.
-fn is_full(alloc: Global, busy: &mut Busy) -> bool {
-    let claimed = Err(WriteError::NoRoom(RoomError::RunsClaimed));
-    busy.write(alloc, OpRef::put(b"k", b"z")) == claimed
-        && busy.flush(alloc) == Err(RoomError::RunsClaimed)
-        && busy.snapshot(alloc) == Err(RoomError::RunsClaimed)
-        && busy.engine().last() == 257
-        && busy.engine().report().runs == 256
-}
-
-/// Runs the job and ends it, and writes again.
-fn makes_room(alloc: Global, busy: &mut Busy) -> Result<bool, Fail> {
-    let is_in = run(alloc, busy)? && busy.end() == Some(JobEnd::Installed(257));
-    let goes_on = busy.write(alloc, OpRef::put(b"k", b"z")) == Ok(());
-    Ok(is_in && goes_on && stands(alloc, busy, b"z", 3)?)
-}
-
-/// A job has 255 runs, and one more fills the last slot. No write is taken then before the job is ended.
-fn fills_up(alloc: Global, busy: &mut Busy) -> Result<bool, Fail> {
-    let is_started = merges(alloc, busy, 256) && start(alloc, busy)? && merges(alloc, busy, 1);
-    Ok(is_started && is_full(alloc, busy) && makes_room(alloc, busy)?)
-}
-
-/// Options under which 256 ids are left.
-fn late() -> LiveOptions {
-    let small = small();
-    LiveOptions {
-        store: Options {
-            first_id: u64::MAX - 256,
-            ..small.store
-        },
-        ..small
-    }
-}
-
-/// Writes until no id is left. Returns whether that comes.
-fn spends(alloc: Global, busy: &mut Busy) -> bool {
-    for _ in 0..300 {
-        match busy.write(alloc, OpRef::merge(b"k", b"a")) {
-            Ok(()) => {}
-            Err(error) => return error == WriteError::NoRoom(RoomError::IdsSpent),
+/// Appends what a job says, if there is one.
+fn push_job(text: &mut String, job: Option<&EngineJob>) -> Result<(), AllocError> {
+    match job {
+        Some(job) => {
+            let (kind, stage, size) = (kind_word(job.kind()), job.stage(), job.input_size());
+            write!(text, "{kind} {stage:?} of {size} bytes")
         }
-    }
-    false
-}
-
-/// Whether the job is refused, and its runs stay.
-fn is_refused(busy: &mut Busy) -> bool {
-    let runs = busy.engine().report().runs;
-    let is_refused = busy.end() == Some(JobEnd::Refused(InstallError::IdsSpent));
-    is_refused && !busy.has_out() && busy.engine().report().runs == runs
-}
-
-/// A job that is ended when no id is left is refused, and reads stay as they were.
-fn comes_late(alloc: Global, busy: &mut Busy) -> Result<bool, Fail> {
-    let is_run = start(alloc, busy)? && run(alloc, busy)?;
-    let is_late = is_run && spends(alloc, busy);
-    let value = busy.engine().get(alloc, b"k")?;
-    Ok(is_late && is_refused(busy) && busy.engine().get(alloc, b"k")? == value)
-}
-
-/// What is tried of jobs of four runs.
-#[derive(Clone, Copy, Debug)]
-enum Case {
-    GoesIn,
-    ComesBack,
-    InOrder,
-    Swapped,
-    WritesOn,
-    ComesLate,
-}
-
-/// Each of them.
-static CASES: [Case; 6] = [
-    Case::GoesIn,
-    Case::ComesBack,
-    Case::InOrder,
-    Case::Swapped,
-    Case::WritesOn,
-    Case::ComesLate,
-];
-
-/// The options of a case.
-fn options(case: Case) -> LiveOptions {
-    match case {
-        Case::WritesOn => narrow(),
-        Case::ComesLate => late(),
-        _ => small(),
+        None => text.push_str("no job"),
     }
 }
 
-/// Whether a case goes as it should.
-fn holds(alloc: Global, case: Case) -> Result<bool, Fail> {
-    let mut busy = with_runs(alloc, options(case))?;
-    match case {
-        Case::GoesIn => goes_in(alloc, &mut busy),
-        Case::ComesBack => comes_back(alloc, &mut busy),
-        Case::InOrder => go_in_in_order(alloc, &mut busy),
-        Case::Swapped => go_in_swapped(alloc, &mut busy),
-        Case::WritesOn => writes_on(alloc, &mut busy),
-        Case::ComesLate => comes_late(alloc, &mut busy),
-    }
+/// The value of a key, and how many runs there are.
+fn look(alloc: Global, engine: &Engine, key: &[u8]) -> Result<(Option<Bytes>, u64), AllocError> {
+    Ok((engine.get(alloc, key)?, engine.report().runs))
 }
 
-#[test]
-fn jobs_of_four_runs(rt: HostRuntime) -> Result<(), Fail> {
-    for case in &CASES {
-        assert!(rt; holds(rt.alloc(), *case)?, "{case:?}");
-    }
-    Ok(())
-}
-
-/// A job of all runs that there may be.
-fn fills_up_wide(alloc: Global) -> Result<bool, Fail> {
-    let mut busy = Busy::new(empty(alloc, OperatorKind::Append, wide())?);
-    fills_up(alloc, &mut busy)
-}
-
-#[test]
-fn no_slot_is_free_beside_a_job_of_all_runs(rt: HostRuntime) -> Result<(), Fail> {
-    assert!(rt; fills_up_wide(rt.alloc())?);
-    Ok(())
-}
-
-/// Puts a key so often. Returns whether it may.
-fn puts(alloc: Global, engine: &mut Engine, times: u8) -> bool {
-    for number in 0..times {
-        if !put(alloc, engine, b"k", &[number]) {
-            return false;
-        }
-    }
-    true
-}
-
-/// An engine with four runs, and the job of them.
-fn with_job(alloc: Global, kind: OperatorKind) -> Result<(Engine, EngineJob), Fail> {
-    let mut engine = empty(alloc, kind, small())?;
-    expect(puts(alloc, &mut engine, 5), "the put is refused")?;
-    match engine.start_job(alloc)? {
-        Some(job) => Ok((engine, job)),
-        None => Err("no job is started")?,
-    }
-}
-
-/// Whether a job is taken, and out of its engine alone, and not of another one.
-fn is_out(engine: &Engine, job: &EngineJob, other: &Engine) -> bool {
-    job.stage() == JobStage::Taken && engine.has_out(job) && !other.has_out(job)
-}
-
-/// Whether a job says what it is, and is out of its engine alone, and not of one of another operator that has a job of
-/// the same ids.
-fn is_foreign(alloc: Global) -> Result<bool, Fail> {
-    let (engine, job) = with_job(alloc, OperatorKind::Counter)?;
-    let (other, others) = with_job(alloc, OperatorKind::Maximum)?;
-    let are_out = is_out(&engine, &job, &other) && is_out(&other, &others, &engine);
-    Ok(are_out && job.kind() == OperatorKind::Counter)
-}
-
-#[test]
-fn a_job_of_another_operator_is_not_out(rt: HostRuntime) -> Result<(), Fail> {
-    assert!(rt; is_foreign(rt.alloc())?);
-    Ok(())
-}
-
-/// Puts a key often. Returns whether it may.
-fn write_much(alloc: Global, mut engine: Engine) -> bool {
-    puts(alloc, &mut engine, 200)
-}
-
-/// Runs a job. Returns whether it is done.
-fn finish(alloc: Global, mut job: EngineJob) -> bool {
-    job.run(alloc) == Ok(()) && job.stage() == JobStage::Run
-}
-
-/// Whether a thread runs a job while another one writes.
-fn run_while_written<R: Threads + Sync>(
-    rt: &R,
+/// Ends the first job. Tells how, and whether the value of a key and the number of runs stay.
+fn end_beside(
     alloc: Global,
-    engine: Engine,
-    job: EngineJob,
-) -> bool {
-    let (is_written, is_done) = join(
-        rt,
-        move || write_much(alloc, engine),
-        move || finish(alloc, job),
-    );
-    is_written && is_done
+    busy: &mut Busy,
+    key: &[u8],
+) -> Result<(Option<JobEnd>, bool), AllocError> {
+    let before = look(alloc, busy.engine(), key)?;
+    let end = busy.end();
+    let stays = look(alloc, busy.engine(), key)? == before;
+    Ok((end, stays))
 }
 
-#[test]
-fn another_thread_runs_a_job(rt: HostRuntime) -> Result<(), Fail> {
-    let alloc = rt.alloc();
-    let (engine, job) = with_job(alloc, OperatorKind::Tail)?;
-    let is_run = run_while_written(&rt, alloc, engine, job);
-    assert!(rt; is_run);
+/// Ends the first job, and appends how. Behind `beside KEY` it says whether the key's value and the number of runs stay.
+fn end(
+    text: &mut String,
+    alloc: Global,
+    busy: &mut Busy,
+    words: &mut Words<'_>,
+) -> Result<(), CaseError> {
+    if words.next() != "beside" {
+        return Ok(push_end(text, busy.end())?);
+    }
+    let key = words.bytes(alloc)?;
+    let (end, stays) = end_beside(alloc, busy, &key)?;
+    push_end(text, end)?;
+    Ok(push_either(text, stays, ", all stays", ", not all stays")?)
+}
+
+/// Takes a step with the first job. Returns whether it is one.
+fn first_job_step(
+    text: &mut String,
+    alloc: Global,
+    busy: &mut Busy,
+    verb: &str,
+    words: &mut Words<'_>,
+) -> Result<(), CaseError> {
+    match verb {
+        "start" => push_either(text, start(alloc, busy)?, "started", "nothing is picked")?,
+        "run" => push_either(text, run(alloc, busy)?, "run", "not run")?,
+        "out" => push_either(text, busy.has_out(), "out", "not out")?,
+        "job" => push_job(text, busy.job())?,
+        _ => end(text, alloc, busy, words)?,
+    }
     Ok(())
+}
+
+/// Takes a step with the job that has a number.
+fn numbered_step(
+    text: &mut String,
+    alloc: Global,
+    busy: &mut Busy,
+    verb: &str,
+    words: &mut Words<'_>,
+) -> Result<(), CaseError> {
+    let number = words.number()?;
+    if number != 1 && number != 2 {
+        return Err(CaseError::Said("jobs are 1 and 2"));
+    }
+    if number == 1 {
+        return first_job_step(text, alloc, busy, verb, words);
+    }
+    busy.swap();
+    first_job_step(text, alloc, busy, verb, words)?;
+    busy.swap();
+    Ok(())
+}
+
+/// An engine that has a job of four runs, each a put of one key.
+fn with_job(alloc: Global, kind: OperatorKind, options: LiveOptions) -> Result<Busy, CaseError> {
+    let Ok(engine) = Engine::create(alloc, kind, options) else {
+        return Err(CaseError::Said("the other engine doesn't open"));
+    };
+    let mut busy = Busy::new(engine);
+    for _ in 0..5 {
+        if busy.write(alloc, OpRef::put(b"k", b"v")).is_err() {
+            return Err(CaseError::Said("the other engine takes no write"));
+        }
+    }
+    if !start(alloc, &mut busy)? {
+        return Err(CaseError::Said("the other engine has no job"));
+    }
+    Ok(busy)
+}
+
+/// Whether an engine says that the first job of another is out.
+fn says_out(here: &Busy, there: &Busy) -> bool {
+    match there.job() {
+        Some(job) => here.engine().has_out(job),
+        None => false,
+    }
+}
+
+/// Appends which engine says that which job is out, of one and of another.
+fn push_apart(text: &mut String, here: &Busy, there: &Busy) -> Result<(), AllocError> {
+    push_job(text, there.job())?;
+    let own = (says_out(here, here), says_out(there, there));
+    let foreign = (says_out(here, there), says_out(there, here));
+    write!(text, ", own {own:?}, foreign {foreign:?}")
+}
+
+/// Makes another engine that has a job of the same ids, under an operator.
+fn compare(
+    text: &mut String,
+    alloc: Global,
+    (work, options): (&mut Work, LiveOptions),
+    word: &str,
+) -> Result<(), CaseError> {
+    let Some(kind) = kinds_named(word)?.first() else {
+        return Err(CaseError::Said("there is no such operator"));
+    };
+    let there = with_job(alloc, *kind, options)?;
+    Ok(push_apart(text, work.busy()?, &there)?)
+}
+
+/// Takes a step with jobs. Returns whether it is one.
+pub fn job_step(
+    text: &mut String,
+    alloc: Global,
+    story: &mut Story<'_>,
+    said: &str,
+) -> Result<bool, CaseError> {
+    let mut words = Words::of(said);
+    match words.next() {
+        verb @ ("start" | "run" | "out" | "job" | "end") => {
+            numbered_step(text, alloc, story.work.busy()?, verb, &mut words)?;
+        }
+        "apart" => compare(text, alloc, (&mut story.work, story.options), words.next())?,
+        _ => return Ok(false),
+    }
+    story.work.rest();
+    Ok(true)
 }

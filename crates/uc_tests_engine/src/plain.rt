@@ -1,18 +1,28 @@
 //! [`Plain`]: the plain program beside an engine, a list of writes and a set of keeps.
 use std::alloc::{AllocError, Global};
-use std::test::Fail;
+use testkit_data::CaseError;
 use uc_batch::Writes;
 use uc_bytes::{Op, Write};
-use uc_engine::{Answer, OperatorKind};
+use uc_engine::{Answer, OperatorKind, Query};
 use uc_oper::{Append, Counter, Maximum, Tail};
-use uc_query_read::{Query, answer_writes};
+use uc_query_read::answer_writes;
 
 /// What an engine was given, and the sequence of each snapshot, in any order.
-#[derive(Drop)]
-pub(crate) struct Plain {
+pub struct Plain {
     kind: OperatorKind,
     writes: Writes,
-    pub(crate) keeps: Vec<u64>,
+    pub keeps: Vec<u64>,
+}
+
+// A destructor of its own: where a value is dropped, the proof of a caller has one call, and not one for each field.
+impl Drop for Plain {
+    fn drop(self) {
+        let Plain {
+            kind: _,
+            writes: _,
+            keeps: _,
+        } = self;
+    }
 }
 
 /// Copies of writes.
@@ -24,18 +34,23 @@ fn copies(alloc: Global, writes: &Writes) -> Result<Vec<Write>, AllocError> {
     Ok(all)
 }
 
+/// Writes that rise.
+fn rising(list: Vec<Write>) -> Result<Writes, CaseError> {
+    Writes::of(list).ok_or(CaseError::Said("sequences don't rise"))
+}
+
 /// Copies of writes, and one more behind them.
-fn with_write(alloc: Global, writes: &Writes, seq: u64, op: Op) -> Result<Writes, Fail> {
+fn with_write(alloc: Global, writes: &Writes, seq: u64, op: Op) -> Result<Writes, CaseError> {
     let mut all = copies(alloc, writes)?;
     all.push(Write { seq, op })?;
-    Ok(Writes::of(all).ok_or("sequences don't rise")?)
+    rising(all)
 }
 
 impl Plain {
     /// A program without writes and snapshots.
-    pub(crate) fn new(alloc: Global, kind: OperatorKind) -> Result<Plain, Fail> {
+    pub fn new(alloc: Global, kind: OperatorKind) -> Result<Plain, CaseError> {
         let keeps = Vec::new(alloc);
-        let writes = Writes::of(Vec::new(alloc)).ok_or("no writes rise")?;
+        let writes = rising(Vec::new(alloc))?;
         Ok(Plain {
             kind,
             writes,
@@ -44,8 +59,8 @@ impl Plain {
     }
 
     /// A copy.
-    pub(crate) fn copy(&self, alloc: Global) -> Result<Plain, Fail> {
-        let writes = Writes::of(copies(alloc, &self.writes)?).ok_or("sequences don't rise")?;
+    pub fn copy(&self, alloc: Global) -> Result<Plain, CaseError> {
+        let writes = rising(copies(alloc, &self.writes)?)?;
         Ok(Plain {
             kind: self.kind,
             writes,
@@ -54,41 +69,41 @@ impl Plain {
     }
 
     /// The last sequence.
-    pub(crate) fn last(&self) -> u64 {
+    pub fn last(&self) -> u64 {
         self.writes.last()
     }
 
     /// Whether a sequence is kept.
-    pub(crate) fn is_kept(&self, seq: u64) -> bool {
+    pub fn is_kept(&self, seq: u64) -> bool {
         self.keeps.contains(&seq)
     }
 
     /// Writes an operation at a sequence.
-    pub(crate) fn write(&mut self, alloc: Global, seq: u64, op: Op) -> Result<(), Fail> {
+    pub fn write(&mut self, alloc: Global, seq: u64, op: Op) -> Result<(), CaseError> {
         self.writes = with_write(alloc, &self.writes, seq, op)?;
         Ok(())
     }
 
     /// The sequence behind the last one.
-    pub(crate) fn next(&self) -> u64 {
+    pub fn next(&self) -> u64 {
         self.last().saturating_add(1)
     }
 
     /// Keeps a sequence once more.
-    pub(crate) fn keep(&mut self, seq: u64) -> Result<(), AllocError> {
+    pub fn keep(&mut self, seq: u64) -> Result<(), AllocError> {
         self.keeps.push(seq)?;
         Ok(())
     }
 
     /// Keeps a sequence once less.
-    pub(crate) fn release(&mut self, seq: u64) {
+    pub fn release(&mut self, seq: u64) {
         if let Some(place) = self.keeps.iter().position(|keep| *keep == seq) {
             self.keeps.swap_remove(place);
         }
     }
 
     /// The answer to a query under these keeps.
-    pub(crate) fn answer(
+    pub fn answer(
         &self,
         alloc: Global,
         keeps: &[u64],

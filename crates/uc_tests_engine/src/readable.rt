@@ -1,11 +1,12 @@
 //! [`Readable`]: what is read in the same way.
 use std::alloc::{AllocError, Global};
 use uc_bytes::Bytes;
-use uc_engine::{Answer, Engine, EngineView, Rows};
-use uc_query_read::Query;
+use uc_engine::{
+    Answer, Engine, EngineReport, EngineView, LookupSource, OperatorKind, Query, Rows,
+};
 
 /// An engine, or a view of one.
-pub(crate) trait Readable {
+pub trait Readable {
     /// The value of a key at the last sequence.
     fn get(&self, alloc: Global, key: &[u8]) -> Result<Option<Bytes>, AllocError>;
 
@@ -23,6 +24,24 @@ pub(crate) trait Readable {
 
     /// The answer to a query.
     fn answer(&self, alloc: Global, query: &Query) -> Result<Answer, AllocError>;
+
+    /// Where a lookup is answered.
+    fn source(&self, alloc: Global, key: &[u8]) -> Result<LookupSource, AllocError>;
+
+    /// Its operator.
+    fn kind(&self) -> OperatorKind;
+
+    /// The last sequence.
+    fn last(&self) -> u64;
+
+    /// How many writes are gathered.
+    fn gathered(&self) -> usize;
+
+    /// The sequences that snapshots protect.
+    fn keeps(&self) -> &[u64];
+
+    /// What it holds, in numbers.
+    fn report(&self) -> EngineReport;
 }
 
 impl Readable for Engine {
@@ -47,6 +66,30 @@ impl Readable for Engine {
     fn answer(&self, alloc: Global, query: &Query) -> Result<Answer, AllocError> {
         Engine::answer(self, alloc, query)
     }
+
+    fn source(&self, alloc: Global, key: &[u8]) -> Result<LookupSource, AllocError> {
+        Engine::source(self, alloc, key)
+    }
+
+    fn kind(&self) -> OperatorKind {
+        Engine::kind(self)
+    }
+
+    fn last(&self) -> u64 {
+        Engine::last(self)
+    }
+
+    fn gathered(&self) -> usize {
+        Engine::gathered(self)
+    }
+
+    fn keeps(&self) -> &[u64] {
+        Engine::keeps(self)
+    }
+
+    fn report(&self) -> EngineReport {
+        Engine::report(self)
+    }
 }
 
 impl Readable for EngineView {
@@ -70,5 +113,29 @@ impl Readable for EngineView {
 
     fn answer(&self, alloc: Global, query: &Query) -> Result<Answer, AllocError> {
         EngineView::answer(self, alloc, query)
+    }
+
+    fn source(&self, alloc: Global, key: &[u8]) -> Result<LookupSource, AllocError> {
+        EngineView::source(self, alloc, key)
+    }
+
+    fn kind(&self) -> OperatorKind {
+        EngineView::kind(self)
+    }
+
+    fn last(&self) -> u64 {
+        EngineView::last(self)
+    }
+
+    fn gathered(&self) -> usize {
+        EngineView::gathered(self)
+    }
+
+    fn keeps(&self) -> &[u64] {
+        EngineView::keeps(self)
+    }
+
+    fn report(&self) -> EngineReport {
+        EngineView::report(self)
     }
 }

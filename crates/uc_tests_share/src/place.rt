@@ -1,8 +1,8 @@
 //! [`Place`]: a seat, and what is claimed by it.
-ghost use Rattle.std.specs.Prelude.{◌≡◌, IfOk, IfSome};
+ghost use Rattle.std.specs.Prelude.{◌≡◌, All, IfOk, IfSome};
 ghost use Rattle.std.proofs.Props.{props};
 
-use crate::named_seat::NamedSeat;
+use std::alloc::{AllocError, Global};
 use testkit_data::CaseError;
 use uc_oper::Append;
 use uc_share::{Held, Name, Seat};
@@ -12,9 +12,10 @@ pub type Commas = Append<0x2C>;
 
 /// A seat of the store that a name says: it is free, or there is a claim, or the claim was dropped.
 pub struct Place<N: Name> {
-    seat: Option<NamedSeat<N>>,
+    seat: Option<Seat>,
     held: Option<Held<Commas, N>>,
-    ghost table: { IfSome held (λ held. held.seat.table ≡ N.table) } by { Prim.hlevel props },
+    ghost free: { IfSome seat (λ seat. seat.table ≡ N.table) } by { Prim.hlevel props },
+    ghost claimed: { IfSome held (λ held. held.seat.table ≡ N.table) } by { Prim.hlevel props },
 }
 
 impl<N: Name> Drop for Place<N> {
@@ -25,7 +26,9 @@ impl<N: Name> Drop for Place<N> {
 
 impl<N: Name> Place<N> {
     /// A free seat.
-    pub fn of(seat: NamedSeat<N>) -> Place<N> {
+    fn of(seat: Seat) -> Place<N>
+        requires { seat.table ≡ N.table }
+    {
         Place {
             seat: Some(seat),
             held: None,
@@ -37,7 +40,7 @@ impl<N: Name> Place<N> {
         ensures { IfOk result (λ seat. seat.table ≡ N.table) }
     {
         match self.seat.take() {
-            Some(seat) => Ok(seat.into_seat()),
+            Some(seat) => Ok(seat),
             None => Err(CaseError::Said("the seat isn't free")),
         }
     }
@@ -46,7 +49,7 @@ impl<N: Name> Place<N> {
     pub fn put_seat(&mut self, seat: Seat)
         requires { seat.table ≡ N.table }
     {
-        self.seat = Some(NamedSeat::of(seat));
+        self.seat = Some(seat);
     }
 
     /// What is claimed.
@@ -73,4 +76,15 @@ impl<N: Name> Place<N> {
     {
         self.held = Some(held);
     }
+}
+
+/// Places whose seats are free.
+pub fn places_of<N: Name>(alloc: Global, seats: Vec<Seat>) -> Result<Vec<Place<N>>, AllocError>
+    requires { All (λ seat. seat.table ≡ N.table) seats.items }
+{
+    let mut places = Vec::with_capacity(alloc, seats.len())?;
+    for seat in seats {
+        places.push(Place::of(seat))?;
+    }
+    Ok(places)
 }

@@ -3,12 +3,11 @@ ghost use Rattle.std.specs.Prelude.{◌≡◌, false};
 ghost use Rattle.std.specs.Thread.{IsSync};
 ghost use Rattle.uc_share.specs.Stores.{IsNamed};
 
-use crate::named_seat::named_seats;
 use crate::opened::{Opened, open};
-use crate::place::Commas;
+use crate::place::{Commas, places_of};
 use crate::printed::version_line;
 use crate::step::Step;
-use crate::story::{Said, Story, places_of};
+use crate::story::{Said, Story};
 use std::alloc::Global;
 use std::marker::{Brand, PhantomData, Send, Sync};
 use std::sync::Wait;
@@ -63,7 +62,7 @@ fn play_named<N: Name + Send, R: Threads + Wait + Sync>(
     };
     let (reader_count, seat_count) = (readers.len(), seats.len());
     let mut text = format!(in alloc; "{shown}\n{reader_count} readers, {seat_count} seats\n")?;
-    let places = places_of(alloc, named_seats(alloc, seats)?)?;
+    let places = places_of(alloc, seats)?;
     let mut story = Story::new(rt, alloc, &store, readers, places, writes);
     push_steps(&mut text, &mut story, lines)?;
     Ok(text)

@@ -1,7 +1,6 @@
 //! [`Story`]: a store, and who works there by the lines of a file.
 ghost use Rattle.std.specs.Prelude.{◌≡◌, false};
 
-use crate::named_seat::NamedSeat;
 use crate::place::{Commas, Place};
 use crate::printed::{pin_line, push_numbers};
 use crate::step::{Step, copy_of, count_of, number_of, numbers_of, parts_of, writes_of};
@@ -50,18 +49,6 @@ impl<N: Name, W: Wait + Drop, R> Drop for Story<'_, N, W, R> {
             writes: _,
         } = self;
     }
-}
-
-/// Places whose seats are free.
-pub fn places_of<N: Name>(
-    alloc: Global,
-    seats: Vec<NamedSeat<N>>,
-) -> Result<Vec<Place<N>>, AllocError> {
-    let mut places = Vec::with_capacity(alloc, seats.len())?;
-    for seat in seats {
-        places.push(Place::of(seat))?;
-    }
-    Ok(places)
 }
 
 /// The last value with a name.

@@ -1,5 +1,4 @@
-use Rattle.std.proofs.Common.{◌≡◌, Option, Some, None, sym, ◌∙◌, subst}
-use Rattle.uc_oper.specs.Operation.{Operation}
+use Rattle.std.proofs.Common.{◌≡◌, Option, Some, sym, ◌∙◌, subst}
 use Rattle.uc_engine.specs.EngineJobs.{EngineTask}
 use Rattle.uc_tests_engine.specs.OwnJobs.{TakesAnyBack, AreApart}
 use Rattle.uc_tests_engine.proofs.Taking.{of_kind, none_apart, past_takes}

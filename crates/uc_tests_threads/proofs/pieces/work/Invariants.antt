@@ -1,6 +1,6 @@
 use Rattle.std.proofs.Common.{◌≡◌, ◌<◌}
 use Rattle.uc_query_workers.specs.Draws.{past}
-use Rattle.uc_tests_share.proofs.pieces.work.Given as goal
+use Rattle.uc_tests_threads.proofs.pieces.work.Given as goal
 
 abbrev pub invariant-loop : goal.invariant-loop
 invariant-loop l = record {

@@ -2,44 +2,24 @@
 ghost use Rattle.std.specs.Prelude.{◌≡◌, false};
 ghost use Rattle.uc_share.specs.Stores.{IsNamed};
 
-use crate::asked::queries_of;
 use crate::batch::Batch;
 use crate::drawn::small_runs;
 use crate::gates::Holding;
-use crate::place::Commas;
+use crate::given::{QUERIES, five_writes, four_writes, queries};
 use crate::scene::Scene;
-use crate::step::writes_of;
 use crate::worker::{Worker, workers_of};
-use std::alloc::Global;
+use std::alloc::{AllocError, Global};
 use std::marker::{Brand, Send, Sync};
 use std::sync::Wait;
 use std::thread::{Threads, join};
 use uc_batch::Writes;
+use uc_bytes::Write;
+use uc_oper::Append;
 use uc_query_shared::answer_all;
 use uc_share::{Name, Opening, Pin, Reader, Stretch, Turn, Version};
 
-/// A put and three merges.
-static FOUR: [&str; 4] = ["1 put k a", "2 merge k b", "3 merge k b", "4 merge k b"];
-
-/// A put and a merge of `k`, a put of `l`, a range deletion from `k` to below `l`, and a merge of `k`.
-static FIVE: [&str; 5] = [
-    "1 put k a",
-    "2 merge k b",
-    "3 put l x",
-    "4 range k l",
-    "5 merge k c",
-];
-
-/// What is asked of these. A snapshot keeps the second write.
-static QUERIES: [&str; 7] = [
-    "get k 5",
-    "get k 2",
-    "get l 5",
-    "get k 3",
-    "scan - - 10 5",
-    "scan - - 0 5",
-    "scan k l 10 2",
-];
+/// The operator: texts joined by a comma.
+type Commas = Append<0x2C>;
 
 /// What is tried with a store and two compactors.
 #[derive(Clone, Copy)]
@@ -52,24 +32,19 @@ enum Tried {
     LastBehind(usize),
 }
 
-/// The lines of its writes.
-fn lines_of(tried: Tried) -> &'static [&'static str] {
+/// Its writes.
+fn writes_of(alloc: Global, tried: Tried) -> Result<Vec<Write>, AllocError> {
     match tried {
-        Tried::Race => &FOUR,
-        Tried::SecondFirst | Tried::LastBehind(_) => &FIVE,
+        Tried::Race => four_writes(alloc),
+        Tried::SecondFirst | Tried::LastBehind(_) => five_writes(alloc),
     }
-}
-
-/// The lines of all queries.
-fn query_lines() -> &'static [&'static str] {
-    &QUERIES
 }
 
 /// Its gate, how many workers there are, who see as many installs, and how many queries.
 fn gate_of(tried: Tried) -> (Holding, usize, usize) {
     match tried {
         Tried::LastBehind(last) => (Holding::new(last, last), 1, last.saturating_add(1)),
-        Tried::Race | Tried::SecondFirst => (Holding::new(1, 0), 2, QUERIES.len()),
+        Tried::Race | Tried::SecondFirst => (Holding::new(1, 0), 2, QUERIES),
     }
 }
 
@@ -219,9 +194,9 @@ where
 
 /// Whether what is tried comes right.
 fn comes_right<R: Threads + Wait + Sync>(rt: &R, alloc: Global, tried: Tried) -> Option<bool> {
-    let writes = Writes::of(writes_of(alloc, lines_of(tried)).ok()?)?;
+    let writes = Writes::of(writes_of(alloc, tried).ok()?)?;
     let opening = Opening::open(alloc, &writes, &[2], small_runs(), 4, 2).ok()?;
-    let queries = queries_of(alloc, query_lines()).ok()?;
+    let queries = queries(alloc).ok()?;
     let batch = Batch::of::<Commas>(alloc, &writes, opening.version().keeps(), queries).ok()?;
     comes_right_named::<Brand, &R, R>(rt, rt, alloc, opening, tried, &batch)
 }

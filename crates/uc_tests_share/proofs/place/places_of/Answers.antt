@@ -1,5 +1,5 @@
 use Rattle.std.proofs.Common.{rules, ◌≡◌, suc, ◌+◌, List, ◌∷◌, All, arith}
-use Rattle.uc_tests_share.proofs.named_seat.named_seats.Goals as goal
+use Rattle.uc_tests_share.proofs.place.places_of.Goals as goal
 
 first_of : {X : Type 0} (P : X → Type 0) (x : X) (xs : List X) → All P (x ∷ xs) → P x
 first_of P x xs all = all 0 x (omega arith)

@@ -1,5 +1,5 @@
 use Rattle.std.proofs.Common.{false}
-use Rattle.uc_tests_share.proofs.threads.comes_right.Given as goal
+use Rattle.uc_tests_threads.proofs.races.comes_right.Given as goal
 
 -- the book, the claim words and the version of what was opened
 abbrev pub ghosts-comes_right_named : goal.ghosts-comes_right_named

@@ -1,5 +1,5 @@
 use Rattle.std.proofs.Common.{false}
-use Rattle.uc_tests_share.proofs.soak.soak.Given as goal
+use Rattle.uc_tests_threads.proofs.soak.soak.Given as goal
 
 -- the book, the claim words and the version of what was opened
 abbrev pub ghosts-soak_named : goal.ghosts-soak_named
