@@ -134,7 +134,7 @@ try_pages() {
 
 try_c() {
     local name
-    for name in first logged test play million; do
+    for name in first logged worked test play million; do
         compile_c "$name"
         compile_cpp "$name"
     done
@@ -142,6 +142,8 @@ try_c() {
     expect 'first.c, as C++' "$first" "$("$work/first_cpp")"
     run_logged
     run_long_logged
+    "$work/worked"
+    "$work/worked_cpp"
     "$work/play" "$here"/cases/*.txt
     "$work/play_cpp" "$here"/cases/*.txt
     "$work/million"
@@ -152,17 +154,20 @@ try_c() {
 
 try_sanitizers() {
     local name
-    for name in test play; do
+    for name in worked test play; do
         "${cc[@]}" -std=c99 "${strict[@]}" "${sanitizers[@]}" "$here/c/$name.c" "${static[@]}" -o "$work/${name}_san"
     done
+    "$work/worked_san"
     "$work/test_san" "$operations" $((seed + 2))
     "$work/play_san" "$here"/cases/*.txt
 }
 
 try_valgrind() {
     local checked=(valgrind --quiet --leak-check=full --errors-for-leak-kinds=all --error-exitcode=9)
+    compile_c worked
     compile_c test
     compile_c play
+    "${checked[@]}" "$work/worked"
     "${checked[@]}" "$work/test" $((operations / 50)) "$seed"
     "${checked[@]}" "$work/play" "$here"/cases/{merges,partial,prepared,reopening,snapshots,unchecked}.txt
 }

@@ -27,24 +27,18 @@
 //! `sources.rt`, `checkpoints.rt`, `compacting.rt`, `jobs.rt`, `job_laws.rt`, `c_report.rt` and, with `specs/LogWalk.antt`, `logs.rt`
 //! and `replaying.rt`.
 //!
-//! Tests: its own.
+//! Tests: `bindings/c/worked.c`, `bindings/c/test.c`.
 #![tactic(auto)]
 
-#[cfg(test)]
-mod batch_tests;
 mod batches;
 mod c_ended;
 mod c_log_place;
 mod c_options;
 mod c_report;
-#[cfg(test)]
-mod checkpoint_tests;
 mod checkpoints;
 mod compacting;
 mod fault_codes;
 mod job_laws;
-#[cfg(test)]
-mod job_tests;
 mod jobs;
 mod log_step;
 mod logs;
@@ -56,17 +50,9 @@ mod replaying;
 mod room;
 mod scanning;
 mod snapshots;
-#[cfg(test)]
-mod source_tests;
 mod sources;
 mod status;
-#[cfg(test)]
-mod tests;
 mod version;
 mod view_reading;
-#[cfg(test)]
-mod view_tests;
 mod views;
-#[cfg(test)]
-mod walk_tests;
 mod writing;

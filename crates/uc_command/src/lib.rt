@@ -3,11 +3,11 @@
 //! [`ucstore`] makes the command line, which `clap` matches with the words. [`options`], [`operator_name`] and [`numbers_of`] read
 //! what the words set. What the words then run stands in the program. This crate knows options and names alone, and no store.
 //!
-//! Read `command.rt`, then `ask_numbers.rt`. `tests.rt` has what lines set, and which are refused.
+//! Read `command.rt`, then `ask_numbers.rt`.
 //!
 //! An `Err(AllocError)` comes only if an allocation fails.
 //!
-//! Tests: its own.
+//! Tests: `uc_tests_program`.
 #![tactic(auto)]
 
 mod ask_numbers;
@@ -15,6 +15,3 @@ mod command;
 
 pub use ask_numbers::{AskNumbers, numbers_of};
 pub use command::{Shown, operator_name, options, ucstore};
-
-#[cfg(test)]
-mod tests;

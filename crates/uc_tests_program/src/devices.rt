@@ -9,7 +9,7 @@ use std::sync::Wait;
 use std::thread::Threads;
 use testkit_draws::options::small;
 use uc_oper::Counter;
-use uc_tool::{Done, ask, dump, is_plan, play, report_log};
+use uc_tool::{Done, Outcome, ask, dump, is_plan, play, report_log, through_buffer};
 
 /// What is run.
 #[derive(Clone, Copy)]
@@ -307,5 +307,31 @@ fn both_fail(rt: HostRuntime) {
         let told = (text.as_slice(), Done::Device, 1);
         writes(&rt, rt.alloc(), program, (&mut reader, &mut writer), told);
         gave_no_more(&rt, &reader);
+    }
+}
+
+/// Dumps a log without records through a buffer.
+fn dump_through_buffer(alloc: Global, sink: &mut Sink) -> Option<Done> {
+    let mut log = b"".as_slice();
+    let outcome = through_buffer(alloc, sink, |writer| {
+        Outcome::without_reason(dump(alloc, &mut log, writer))
+    });
+    Some(outcome.ok()?.done)
+}
+
+/// What goes out is a front of the text, and the buffer isn't written again behind the write that failed.
+#[test]
+fn a_buffer_is_not_written_again(rt: HostRuntime) {
+    let dumped = b"clean\n";
+    for good in 0..=dumped.len() {
+        let mut sink = failing(rt.alloc(), good, Failure::Error);
+        let done = dump_through_buffer(rt.alloc(), &mut sink);
+        let (wanted, flushes) = if good < dumped.len() {
+            (Done::Device, 0)
+        } else {
+            (Done::Fine, 1)
+        };
+        assert!(rt; done == Some(wanted));
+        took(&rt, &sink, &dumped[..good], flushes);
     }
 }

@@ -6,7 +6,7 @@ use std::test::Fail;
 use std::thread::Threads;
 use testkit_draws::options::small;
 use uc_oper::Counter;
-use uc_tool::{Options, Reason, ask, is_plan, play, report_log};
+use uc_tool::{Options, Reason, Refusal, ask, is_plan, play, report_log};
 
 /// A program that tells why it refuses what it reads.
 #[derive(Clone, Copy)]
@@ -235,5 +235,15 @@ fn reasons_of_refused_runs(rt: HostRuntime) -> Result<(), Fail> {
     assert!(rt; all_told(&rt, alloc, &SCRIPTS)?);
     assert!(rt; all_told(&rt, alloc, &HEADS)?);
     assert!(rt; all_told(&rt, alloc, &LOGS)?);
+    Ok(())
+}
+
+#[test]
+fn why_there_is_no_command_line(rt: HostRuntime) -> Result<(), Fail> {
+    assert_eq!(rt;
+        Refusal::NotText.to_string(rt.alloc())?.as_str(),
+        "error: a word of the command line is not UTF-8"
+    );
+    assert_eq!(rt; Refusal::NotText.done().status(), 2);
     Ok(())
 }

@@ -6,7 +6,7 @@ use uc_query_read::Query;
 /// Appends a change, with the sequence behind those that are there.
 fn push_write(writes: &mut Vec<Write>, alloc: Global, change: OpRef<'_>) -> Result<(), AllocError> {
     let seq = (writes.len() as u64).saturating_add(1);
-    writes.push(WriteRef::new(seq, change).to_write(alloc)?)
+    Ok(writes.push(WriteRef::new(seq, change).to_write(alloc)?)?)
 }
 
 /// A put and three merges.
@@ -37,13 +37,13 @@ fn get(alloc: Global, key: &[u8], at: u64) -> Result<Query, AllocError> {
 }
 
 /// A scan of all keys.
-fn scan_all(alloc: Global, limit: u64, at: u64) -> Query {
-    Query::Scan {
-        low: Bytes::new(alloc),
+fn scan_all(alloc: Global, limit: u64, at: u64) -> Result<Query, AllocError> {
+    Ok(Query::Scan {
+        low: Bytes::from_slice(alloc, b"")?,
         high: None,
         at,
         limit,
-    }
+    })
 }
 
 /// A scan from `k` to below `l`.
@@ -65,8 +65,8 @@ pub fn queries(alloc: Global) -> Result<Vec<Query>, AllocError> {
     for (key, at) in [(b"k", 5), (b"k", 2), (b"l", 5), (b"k", 3)] {
         queries.push(get(alloc, key, at)?)?;
     }
-    queries.push(scan_all(alloc, 10, 5))?;
-    queries.push(scan_all(alloc, 0, 5))?;
+    queries.push(scan_all(alloc, 10, 5)?)?;
+    queries.push(scan_all(alloc, 0, 5)?)?;
     queries.push(scan_between(alloc, 10, 2)?)?;
     Ok(queries)
 }

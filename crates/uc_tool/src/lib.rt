@@ -18,12 +18,15 @@
 //! picked, or no id is left. Read `specs/Report.antt` first, then `report_run.rt` and, for the loop of compactions,
 //! `compaction_steps.rt` with `specs/Compacting.antt`.
 //!
+//! `through_buffer` runs either, or one of the other two, through a buffer in front of a writer.
+//!
 //! Opening, refusing and the lines of replies and reports stand in `uc_tool_opening`. An `Err(AllocError)` or `Memory` comes
 //! only if an allocation fails.
 //!
 //! Tests: `uc_tests_tool`, `uc_tests_program`, `uc_examples`.
 #![tactic(auto)]
 
+mod buffered;
 mod compaction_steps;
 mod laws;
 mod replies;
@@ -31,6 +34,7 @@ mod report_laws;
 mod report_run;
 mod script_run;
 
+pub use buffered::through_buffer;
 pub use laws::{reads_are_answered_from_plain_writes, scripts_name_as_many_claims_as_are_held};
 pub use report_laws::compactions_end_where_nothing_is_picked;
 pub use report_run::report_log;

@@ -9,7 +9,7 @@ use clap::{ArgMatches, Error};
 use std::alloc::Global;
 use std::convert::AsStr;
 use std::env;
-use std::io::{self, BufWriter, Read, Write};
+use std::io::{self, Read, Write};
 use std::marker::Sync;
 use std::process::ExitCode;
 use std::rt::Env;
@@ -17,7 +17,9 @@ use std::sync::Wait;
 use std::thread::Threads;
 use uc_command::{AskNumbers, Shown};
 use uc_oper::{Append, Counter, Maximum, Tail};
-use uc_tool::{Done, OperatorName, Outcome, Refusal, ask, dump, is_plan, play, report_log};
+use uc_tool::{
+    Done, OperatorName, Outcome, Refusal, ask, dump, is_plan, play, report_log, through_buffer,
+};
 
 /// The delimiter of `--operator append`.
 const COMMA: u8 = b',';
@@ -136,37 +138,15 @@ fn run_subcommand<R: Read, W: Write>(
     }
 }
 
-/// Lets a writer go. Nothing is written behind a failed write: what the buffer holds then is given up, since its drop would
-/// try to write it again.
-fn let_go<W: Write + Drop>(writer: BufWriter<W>, done: Done) {
-    if done == Done::Device {
-        let (_inner, _unwritten) = writer.into_parts();
-    }
-}
-
-/// Runs it through a buffer in front of a writer.
-fn run_buffered<R: Read, W: Write + Drop>(
-    rt: &(impl Eprint + Threads + Wait + Sync),
-    alloc: Global,
-    matches: &ArgMatches<'_>,
-    reader: &mut R,
-    inner: W,
-) -> Result<Outcome, Refusal> {
-    let Ok(mut writer) = BufWriter::new(alloc, inner) else {
-        return Err(Refusal::Memory);
-    };
-    let outcome = run_subcommand(rt, alloc, matches, reader, &mut writer);
-    let_go(writer, outcome.done);
-    Ok(outcome)
-}
-
 /// Runs it from standard input to standard output, and says on standard error why it is refused.
 fn run_matches<R: Eprint + Print + Input + AllocGlobal + Threads + Wait + Sync>(
     rt: &R,
     matches: &ArgMatches<'_>,
 ) -> Result<Done, Refusal> {
-    let (mut reader, writer) = (rt.reader(), io::writer(rt));
-    let Outcome { done, reason } = run_buffered(rt, rt.alloc(), matches, &mut reader, writer)?;
+    let (alloc, mut reader) = (rt.alloc(), rt.reader());
+    let Outcome { done, reason } = through_buffer(alloc, io::writer(rt), |writer| {
+        run_subcommand(rt, alloc, matches, &mut reader, writer)
+    })?;
     if let Some(reason) = reason {
         let _ = eprintln!(rt; "error: {reason}");
     }
@@ -203,6 +183,3 @@ fn main(rt: HostRuntime) -> ExitCode {
     });
     ExitCode::from(done.status())
 }
-
-#[cfg(test)]
-mod tests;

@@ -1,10 +1,9 @@
 //! Command lines: what their words set, and which are refused.
-use crate::ask_numbers::numbers_of;
-use crate::command::{Shown, operator_name, options, ucstore};
 use clap::error::ErrorKind;
 use std::alloc::{AllocError, Global};
 use std::process::Abort;
 use std::test::Fail;
+use uc_command::{Shown, numbers_of, operator_name, options, ucstore};
 use uc_tool_io::OperatorName;
 use uc_version_state::Options;
 
