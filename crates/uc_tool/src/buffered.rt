@@ -19,7 +19,9 @@ pub fn through_buffer<W: Write + Drop, F: FnOnce(&mut BufWriter<W>) -> Outcome>(
     alloc: Global,
     inner: W,
     run: F,
-) -> Result<Outcome, Refusal> {
+) -> Result<Outcome, Refusal>
+    requires { F.IsAlwaysCallable run }
+{
     let Ok(mut writer) = BufWriter::new(alloc, inner) else {
         return Err(Refusal::Memory);
     };
