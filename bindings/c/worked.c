@@ -1,4 +1,4 @@
-/* Each function once where it does what it is asked, and once where it is refused, with values worked out by hand. */
+/* Each function of handles and logs once where it does what it is asked, and once where it is refused, with values worked out by hand. */
 #include <stdio.h>
 #include <stdlib.h>
 #include <string.h>
