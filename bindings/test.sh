@@ -10,7 +10,7 @@
 #
 # Each language runs its examples, the cases of bindings/cases, a million puts in a row, and drawn calls beside a plain
 # dictionary: OPERATIONS (50000) for each of the four operators in C. `refused` refuses each allocation of CALLS (1000) drawn
-# calls. SEED (1) is the seed of what C draws.
+# calls, and tries what promises.c counts. SEED (1) is the seed of what C draws.
 set -euo pipefail
 here=$(cd "$(dirname "${BASH_SOURCE[0]}")" && pwd)
 work=$(mktemp -d)
@@ -173,6 +173,10 @@ try_valgrind() {
 }
 
 try_refused() {
+    compile_cpp promises "$wrapped"
+    "$work/promises_cpp"
+    "${cc[@]}" -std=c99 "${strict[@]}" "${sanitizers[@]}" "$here/c/promises.c" "${static[@]}" "$wrapped" -o "$work/promises_san"
+    "$work/promises_san"
     compile_cpp refused "$wrapped"
     "$work/refused_cpp" "$calls" "$seed"
     "${cc[@]}" -std=c99 "${strict[@]}" "${sanitizers[@]}" "$here/c/refused.c" "${static[@]}" "$wrapped" -o "$work/refused_san"

@@ -144,7 +144,7 @@ try_sanitizers() {
     compile play gcc "${checked[@]}" -fsanitize=address,undefined -- "${static[@]}"
     run_cases "${played[@]}" "$work/drawn.txt"
     compile db_threads clang "${checked[@]}" -fsanitize=thread -- "${flags[@]}"
-    echo 'called_from_lib:libucstore_db.so.1' > "$work/passed_over"
+    echo 'called_from_lib:libucstore_db.so.2' > "$work/passed_over"
     for number in 1 2; do
         TSAN_OPTIONS="suppressions=$work/passed_over" setarch -R "$work/db_threads" "$work/shared_$number"
     done
@@ -164,7 +164,7 @@ use_python() {
     rm -rf "$work/site"
     mkdir "$work/site"
     cp -r "$here/python/ucstore" "$work/site"
-    export PYTHONPATH=$work/site PYTHONDONTWRITEBYTECODE=1 UCSTORE_DB_LIBRARY=$work/usr/lib/libucstore_db.so.1
+    export PYTHONPATH=$work/site PYTHONDONTWRITEBYTECODE=1 UCSTORE_DB_LIBRARY=$work/usr/lib/libucstore_db.so.2
 }
 
 try_python() {

@@ -41,7 +41,7 @@ run() {
 python=$(find_python)
 if [ -z "${UCSTORE_LIBRARY:-}" ] || [ -z "${UCSTORE_DB_LIBRARY:-}" ]; then
     PREFIX="$work/usr" "$here/../install" > "$work/installed"
-    export UCSTORE_LIBRARY=$work/usr/lib/libucstore.so.2 UCSTORE_DB_LIBRARY=$work/usr/lib/libucstore_db.so.1
+    export UCSTORE_LIBRARY=$work/usr/lib/libucstore.so.2 UCSTORE_DB_LIBRARY=$work/usr/lib/libucstore_db.so.2
     [ -e "$UCSTORE_DB_LIBRARY" ] || fail "the database isn't installed: it needs cargo"
 fi
 export PYTHONPATH=$here/python PYTHONDONTWRITEBYTECODE=1 TMPDIR=$work

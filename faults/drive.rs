@@ -6,19 +6,16 @@
 //!     drive threads LIBRARY NAME INPUT PROGRAM [WORD..]
 //!     drive writes LIBRARY NAME INPUT PROGRAM [WORD..]
 //!     drive reads LIBRARY NAME INPUT PROGRAM [WORD..]
-//!     drive call LIBRARY NAME PROBE
 //!
 //! A run of a program is right where it answers as the run that is refused nothing, or where its text is some first replies of
 //! that one, each whole, and then `out of memory`, with status 4; or where it has no text and says so in one line on standard
 //! error, as it does while it reads its words. With `threads` requests for threads are refused in place of those for memory, and
-//! judged alike. A run of a probe makes one call, whose requests alone are counted, and judges
-//! it; it is right where it says `NAME right` or `NAME out of memory`. A run that ends by a signal, hangs for ten seconds or says
-//! anything else is wrong.
+//! judged alike. A run that ends by a signal, hangs for ten seconds or says anything else is wrong.
 //!
 //! With `writes` its writes to standard output are refused, and with `reads` its reads of standard input, each once, once with
-//! all later ones, and once behind one that moved a half of its bytes. Such a run is right where the refused call is the last
-//! one of its kind, with status 5 and one line on standard error at the most: behind a write the text is a front of the right
-//! one, behind a read it is `read fault`.
+//! all later ones, and once after one that moved a half of its bytes. Such a run is right where the refused call is the last
+//! one of its kind, with status 5 and one line on standard error at the most: after a write the text is a front of the right
+//! one, after a read it is `read fault`.
 //!
 //! It prints a line: the name, the most requests that a run made, the runs that were refused one, those of them that said
 //! that memory was wanting or a device failed, and the wrong ones. Its status is 1 where one is wrong.
@@ -40,14 +37,13 @@ const NO_DEVICE: (&str, i32) = ("read fault\n", 5);
 /// How long a run may take.
 const LONGEST: Duration = Duration::from_secs(10);
 
-/// What is run, a program or a single call, and what is refused to it: memory, threads, or what it asks of a device.
+/// What is refused to a program: memory, threads, or what it asks of a device.
 #[derive(Clone, Copy, PartialEq)]
 enum Kind {
     Program,
     Threads,
     Writes,
     Reads,
-    Call,
 }
 
 /// What is run: the program with its words, its input, and the library that refuses.
@@ -104,7 +100,6 @@ impl Kind {
             "threads" => Some(Kind::Threads),
             "writes" => Some(Kind::Writes),
             "reads" => Some(Kind::Reads),
-            "call" => Some(Kind::Call),
             _ => None,
         }
     }
@@ -116,7 +111,6 @@ impl Kind {
             Kind::Threads => Some("REFUSE_THREADS"),
             Kind::Writes => Some("REFUSE_WRITES"),
             Kind::Reads => Some("REFUSE_READS"),
-            Kind::Call => Some("REFUSE_MARKED"),
         }
     }
 
@@ -124,7 +118,7 @@ impl Kind {
     fn ways(self) -> &'static [fn(u64) -> Refuse] {
         match self {
             Kind::Writes | Kind::Reads => &[Refuse::One, Refuse::From, Refuse::Behind],
-            Kind::Program | Kind::Threads | Kind::Call => &[Refuse::One, Refuse::From],
+            Kind::Program | Kind::Threads => &[Refuse::One, Refuse::From],
         }
     }
 }
@@ -155,12 +149,8 @@ impl Case {
     /// What the words of the command line ask for.
     fn named(words: &[String]) -> Option<Case> {
         let kind = Kind::named(words.get(1)?)?;
-        let (name, library, input, program, rest) = match words {
-            [_, _, library, name, program] if kind == Kind::Call => (name, library, "/dev/null", program, &words[3..4]),
-            [_, _, library, name, input, program, rest @ ..] if kind != Kind::Call => {
-                (name, library, input.as_str(), program, rest)
-            }
-            _ => return None,
+        let [_, _, library, name, input, program, rest @ ..] = words else {
+            return None;
         };
         Some(Case {
             kind,
@@ -228,7 +218,7 @@ fn wait(child: &mut Child) -> io::Result<Option<i32>> {
     }
 }
 
-/// Where replies end in a text: behind each line, but for those inside of rows and of a report.
+/// Where replies end in a text: after each line, but for those inside of rows and of a report.
 fn ends_of_replies(text: &str) -> Vec<usize> {
     let mut ends = vec![0];
     let mut end = 0;
@@ -259,12 +249,9 @@ fn ends_of_replies(text: &str) -> Vec<usize> {
     ends
 }
 
-/// Whether a run is out of memory as it may be: a program's text is some first replies of the right text and then says so, or
-/// it says so at once; a probe found all else as it was.
-fn ends_for_memory(case: &Case, run: &Run, right: &str, ends: &[usize]) -> bool {
-    if case.kind == Kind::Call {
-        return run.status == Some(0) && run.text == format!("{} out of memory\n", case.name);
-    }
+/// Whether a run is out of memory as it may be: its text is some first replies of the right text and then says so, or it says so at
+/// once.
+fn ends_for_memory(run: &Run, right: &str, ends: &[usize]) -> bool {
     let begins = |first: &str| right.starts_with(first) && ends.contains(&first.len());
     let says_so = run.text.is_empty() && run.said.ends_with(NO_MEMORY.0) && run.said.lines().count() == 1;
     run.status == Some(NO_MEMORY.1) && (says_so || run.text.strip_suffix(NO_MEMORY.0).is_some_and(begins))
@@ -285,7 +272,7 @@ fn judge(case: &Case, run: &Run, right: &Run, ends: &[usize], refused: Option<u6
     match (case.kind, refused) {
         (Kind::Writes | Kind::Reads, Some(number)) if ends_for_device(case, run, &right.text, number) => Judgement::Wanting,
         (Kind::Writes | Kind::Reads, Some(_)) => Judgement::Wrong,
-        (_, Some(_)) if ends_for_memory(case, run, &right.text, ends) => Judgement::Wanting,
+        (_, Some(_)) if ends_for_memory(run, &right.text, ends) => Judgement::Wanting,
         _ if is_answered => Judgement::Answered,
         _ => Judgement::Wrong,
     }
@@ -334,9 +321,6 @@ fn draw(case: &Case, count: &Path, right: &Run, tally: &Mutex<Tally>, refuse: fn
 /// Refuses each request once, by several threads that each have a file to count in.
 fn drive(case: &Case, folder: &Path) -> io::Result<bool> {
     let right = case.run(&folder.join("right"), Refuse::Nothing)?;
-    if case.kind == Kind::Call && right.text != format!("{} right\n", case.name) {
-        return Err(io::Error::other(format!("it says {:?}, {:?}", right.text, right.said)));
-    }
     let threads = thread::available_parallelism()?.get();
     let mut tally = Tally { next: 1, most: right.requests, refused: 0, wanting: 0, wrong: 0 };
     for &refuse in case.kind.ways() {
@@ -359,7 +343,7 @@ fn drive(case: &Case, folder: &Path) -> io::Result<bool> {
 fn main() -> ExitCode {
     let words: Vec<String> = std::env::args().collect();
     let Some(case) = Case::named(&words) else {
-        eprintln!("drive program|threads|writes|reads LIBRARY NAME INPUT PROGRAM [WORD..]\ndrive call LIBRARY NAME PROBE");
+        eprintln!("drive program|threads|writes|reads LIBRARY NAME INPUT PROGRAM [WORD..]");
         return ExitCode::from(2);
     };
     let folder = std::env::temp_dir().join(format!("refuse-{}", std::process::id()));

@@ -8,8 +8,12 @@
  * REFUSE_THREADS=1  threads are counted and refused, and memory isn't
  * REFUSE_WRITES=1   writes to standard output are counted and refused, and memory isn't
  * REFUSE_READS=1    reads of standard input are counted and refused, and memory isn't
- * REFUSE_MARKED=1   only what is asked for between two marks counts, each a request of a size that nothing else asks for
- * REFUSE_COUNT=PATH a file of 8 bytes, which holds the number of requests so far, also where the program is killed
+ * REFUSE_STEP=N     a write or read that is counted moves N bytes at the most
+ * REFUSE_EMPTY=1    a write that is refused says that it took no byte, which is no error
+ * REFUSE_TOLD=1     only what is asked for between two marks counts, each a request of a size that nothing else asks for; the
+ *                   mark that begins says by its size which request is refused
+ * REFUSE_COUNT=PATH a file of 8 bytes, which holds the number of requests so far, also where the program is killed; with
+ *                   REFUSE_TOLD the number of pairs of marks so far, and behind it, as far as the file goes, the requests in each
  */
 #define _GNU_SOURCE
 #include <dlfcn.h>
@@ -20,12 +24,13 @@
 #include <stdint.h>
 #include <stdlib.h>
 #include <sys/mman.h>
+#include <sys/stat.h>
 #include <sys/syscall.h>
 #include <sys/uio.h>
 #include <unistd.h>
 
-/* The marks, in bytes: where counting begins, and where it ends. */
-enum { MARK_BEGIN = 1000003, MARK_END = 1000033 };
+/* The marks, in bytes: this size ends, and begins with the number of the request that is refused added to it. */
+static const size_t MARK_TOLD = (size_t)1 << 46, MOST_TOLD = 1 << 20;
 
 /* glibc's own names of what is replaced here. */
 extern void *__libc_malloc(size_t size);
@@ -37,9 +42,14 @@ static _Atomic uint64_t *count;
 static uint64_t first;
 static int later;
 static int halved;
+static size_t step;
+static int empty;
 static enum { MEMORY, THREADS, WRITES, READS } refusing;
-static int marked;
+static int told;
 static atomic_int counting;
+static _Atomic uint64_t counted;
+static uint64_t pairs;
+static uint64_t most_pairs;
 
 __attribute__((constructor)) static void begin(void) {
     const char *at = getenv("REFUSE_AT");
@@ -47,36 +57,53 @@ __attribute__((constructor)) static void begin(void) {
     if (path == NULL) return;
     int file = open(path, O_RDWR | O_CLOEXEC);
     if (file < 0) return;
-    void *page = mmap(NULL, sizeof *count, PROT_READ | PROT_WRITE, MAP_SHARED, file, 0);
+    struct stat stat;
+    if (fstat(file, &stat) != 0 || stat.st_size < (off_t)sizeof *count) {
+        close(file);
+        return;
+    }
+    void *page = mmap(NULL, stat.st_size, PROT_READ | PROT_WRITE, MAP_SHARED, file, 0);
     close(file);
     if (page == MAP_FAILED) return;
+    most_pairs = stat.st_size / sizeof *count - 1;
     first = at == NULL ? 0 : strtoull(at, NULL, 10);
     later = getenv("REFUSE_ON") != NULL;
     halved = getenv("REFUSE_SHORT") != NULL;
+    empty = getenv("REFUSE_EMPTY") != NULL;
+    step = getenv("REFUSE_STEP") == NULL ? 0 : strtoull(getenv("REFUSE_STEP"), NULL, 10);
     if (getenv("REFUSE_THREADS") != NULL) refusing = THREADS;
     if (getenv("REFUSE_WRITES") != NULL) refusing = WRITES;
     if (getenv("REFUSE_READS") != NULL) refusing = READS;
-    marked = getenv("REFUSE_MARKED") != NULL;
-    counting = !marked;
+    told = getenv("REFUSE_TOLD") != NULL;
+    counting = !told;
     count = page;
 }
 
-/* Whether a request is a mark, which is never refused. */
-static int marks(size_t size) {
-    if (!marked || (size != MARK_BEGIN && size != MARK_END)) return 0;
-    counting = size == MARK_BEGIN;
+/* Whether a request is a mark. It is always refused. */
+static int tells(size_t size) {
+    if (!told || size < MARK_TOLD || size > MARK_TOLD + MOST_TOLD) return 0;
+    if (size == MARK_TOLD) {
+        counting = 0;
+        if (pairs < most_pairs) count[++pairs] = counted;
+        *count = pairs;
+    } else {
+        first = size - MARK_TOLD;
+        counted = 0;
+        counting = 1;
+    }
     return 1;
 }
 
 /* Counts a request, and says whether it is to be refused. */
 static int is_next_refused(void) {
-    uint64_t number = atomic_fetch_add(count, 1) + 1;
+    uint64_t number = atomic_fetch_add(told ? &counted : count, 1) + 1;
     return first != 0 && (number == first || (number > first && later));
 }
 
 /* Whether this request for memory is refused. */
 static int refused(size_t size) {
-    if (count == NULL || refusing != MEMORY || marks(size) || !counting || !is_next_refused()) return 0;
+    if (count == NULL || refusing != MEMORY) return 0;
+    if (!tells(size) && (!counting || !is_next_refused())) return 0;
     errno = ENOMEM;
     return 1;
 }
@@ -104,11 +131,12 @@ int pthread_create(pthread_t *thread, const pthread_attr_t *attributes, void *(*
     return create(thread, attributes, work, given);
 }
 
-/* How many of the bytes the next write or read of a device moves: all, a half of them, or none, since it is refused. */
+/* How many of the bytes the next write or read of a device moves: all, a step, a half of them, or none, since it is refused. */
 static ssize_t moved(size_t size) {
     uint64_t number = atomic_fetch_add(count, 1) + 1;
     if (halved && number == first) return (size + 1) / 2;
-    if (first == 0 || !(number == first + halved || (number > first && later))) return size;
+    if (first == 0 || !(number == first + halved || (number > first && later))) return step != 0 && step < size ? step : size;
+    if (empty) return 0;
     errno = number % 2 == 0 ? EIO : ENOSPC;
     return -1;
 }

@@ -5,8 +5,7 @@
 #     faults/run.sh [planted] [memory] [asks] [threads] [calls] [damage] [devices] [writes] [reads]
 #
 # Without words it tries all of these. The last line says how many rows were wrong, and the status is 1 where one was. Needs cc,
-# rustc, glibc, crates/ucstore/out/ucstore, which ./build makes, or another program, named by OURS, and for `calls`
-# crates/probe_memory/out/probe_memory, which `rt run` makes in its crate's folder, or another one, named by PROBE.
+# rustc, glibc, crates/ucstore/out/ucstore, which ./build makes, or another program, named by OURS, and for `calls` what tests/run needs.
 set -eu
 here=$(cd "$(dirname "${BASH_SOURCE[0]}")" && pwd)
 top=$here/..
@@ -171,16 +170,9 @@ refuse_threads() { # NAME WORKERS COMPACTORS WORDS..
         --trigger 2 --percent 25 --workers "$2" --compactors "$3" "${@:4}" || wrong=$((wrong + 1))
 }
 
-# Single calls of the library, each request refused between two marks. The probe judges what comes of it.
+# Single calls of the libraries, each request refused, as stories in tests/ make them.
 calls() {
-    local name probe
-    probe=$(realpath -e "${PROBE:-$top/crates/probe_memory/out/probe_memory}")
-    build_drive
-    "$probe" list > "$work/calls"
-    printf '%-34s %9s %9s %9s %7s\n' 'refused memory' requests refused wanting wrong
-    while IFS= read -r name; do
-        "$work/drive" call "$work/refuse.so" "$name" "$probe" || wrong=$((wrong + 1))
-    done < "$work/calls"
+    "$top/tests/run" || wrong=$((wrong + 1))
 }
 
 # Each byte of a log is changed and each cut is made; a decoder in plain Rust has to say the same.

@@ -8,8 +8,7 @@
 # It measures crates/uc_c/out/libuc_c.a (or OURS), which `rt lib` in crates/uc_c builds; `none` leaves it out. All programs are
 # workload.c and one of ucstore.c, rocksdb.c and leveldb.c, built by `cc -std=c99 -O2` in a temporary folder. RocksDB is that
 # without assertions (../rocksdb/build.sh makes it) and Debian's (librocksdb-dev), whose assertions are on; LevelDB is Debian's
-# (libleveldb-dev). The same work called from Rattle is crates/bench_engine/out/bench_engine (or RATTLE), which `rt run` in
-# crates/bench_engine builds. What isn't there is left out.
+# (libleveldb-dev). What isn't there is left out.
 #
 # WRITES writes (1300000) of 300,000 keys of 16 bytes are written in batches of 1,000, and by ours and RocksDB one by one too. In
 # `puts` all set numbers of 8 bytes; in `counters` half of them merge some, which LevelDB can't do. Then what is gathered is flushed,
@@ -33,7 +32,8 @@ set -u -o pipefail
 here=$(cd "$(dirname "${BASH_SOURCE[0]}")" && pwd) || exit 1
 top=$here/../..
 ours=${OURS:-$top/crates/uc_c/out/libuc_c.a}
-rattle=${RATTLE:-$top/crates/bench_engine/out/bench_engine}
+# What numbers the stores, which ./install puts into the library.
+ids=$top/bindings/c/ids.c
 turns=${TURNS:-3}
 writes=${WRITES:-1300000}
 gets=${GETS:-1000000}
@@ -63,14 +63,13 @@ build_ours() {
     kit=$(dirname "$(rt doc)") || fail "there is no kit: rt isn't found"
     compile ucstore -I "$top/bindings/c"
     # shellcheck disable=SC2086 # LDLIBS may name more libraries.
-    cc "$folder/ucstore.o" "$ours" "$kit/c/liblibc_c.a" ${LDLIBS:-} -o "$folder/ours" || fail "ucstore.c isn't linked"
+    cc -I "$top/bindings/c" "$folder/ucstore.o" "$ids" "$ours" "$kit/c/liblibc_c.a" ${LDLIBS:-} -o "$folder/ours" || fail "ucstore.c isn't linked"
 }
 
 # Builds what there is.
 build_all() {
     cc -std=c99 -O2 -Wall -Wextra -pedantic -c "$here/workload.c" -o "$folder/workload.o" || fail "workload.c doesn't build"
     if [ "$ours" != none ]; then build_ours; fi
-    if [ -x "$rattle" ]; then cp "$rattle" "$folder/rattle"; fi
     if has_released; then
         compile rocksdb -I "$rocksdb_folder/include"
     elif has_header rocksdb/c.h; then
@@ -99,7 +98,7 @@ seconds_of() { # PROGRAM
 # Opens a log of many writes.
 run_opening() {
     local turn name
-    cc -std=c99 -O2 -Wall -Wextra -pedantic -I "$top/bindings/c" "$here/opening.c" "$ours" "$(dirname "$(rt doc)")/c/liblibc_c.a" \
+    cc -std=c99 -O2 -Wall -Wextra -pedantic -I "$top/bindings/c" "$here/opening.c" "$ids" "$ours" "$(dirname "$(rt doc)")/c/liblibc_c.a" \
         -o "$folder/opening" || fail "opening.c doesn't build"
     rocksdbs=()
     build_rocksdb "$here/../report/rocksdb.cc"
@@ -123,7 +122,6 @@ declare -A programs sizes
 plan() { # NAME PROGRAM SIZE: adds a row, where the program is there
     case $2 in
         ours) if [ "$ours" = none ]; then return; fi ;;
-        rattle) if [ ! -x "$folder/rattle" ]; then return; fi ;;
         rocksdb | debian) if ! has_rocksdb "$2"; then return; fi ;;
         leveldb) if [ -z "$has_leveldb" ]; then return; fi ;;
     esac
@@ -135,8 +133,7 @@ plan() { # NAME PROGRAM SIZE: adds a row, where the program is there
 # Runs one row's program, and keeps its line.
 run_once() { # PART NAME
     rm -rf "$memory/store"
-    local words=("$1" "$writes" "${sizes[$2]}" "$gets" "$scans")
-    if [ "${programs[$2]}" != rattle ]; then words+=("$memory/store"); fi
+    local words=("$1" "$writes" "${sizes[$2]}" "$gets" "$scans" "$memory/store")
     "$folder/${programs[$2]}" "${words[@]}" >> "$folder/row.$2" || fail "$2 fails"
 }
 
@@ -150,7 +147,7 @@ measure() { # PART
         done
     done
     [ "$(cut -d ' ' -f 6 "$folder"/row.* | sort -u | wc -l)" -eq 1 ] || fail "the answers differ: $1"
-    [ "$(awk 'NF > 10 { print $11 }' "$folder"/row.* | sort -u | wc -l)" -eq 1 ] || fail "the last answers differ: $1"
+    [ "$(cut -d ' ' -f 11 "$folder"/row.* | sort -u | wc -l)" -eq 1 ] || fail "the last answers differ: $1"
 }
 
 # The median over a row's turns of what awk says of a line.
@@ -182,7 +179,7 @@ print_row() { # NAME
     printf '\n'
 }
 
-# The calls of a row that write, and its lookups of what is gathered. Rattle's program times neither.
+# The calls of a row that write, and its lookups of what is gathered.
 print_calls() { # NAME
     local beside=RocksDB
     if [ "${sizes[$1]}" -eq 1 ]; then beside='RocksDB, one by one'; fi
@@ -198,7 +195,7 @@ keep_row() { # PART NAME
     keep_ms 'writes from C' "$case" "$program" "$(median "$2" '$1 + $2')"
     keep_ms 'lookups from C' "$case" "$program" "$(median "$2" '$3')"
     keep_ms 'scans from C' "$case" "$program" "$(median "$2" '$4')"
-    if [ "$program" != Rattle ]; then keep_ms 'lookups of what is gathered' "$case" "$program" "$(median "$2" '$10')"; fi
+    keep_ms 'lookups of what is gathered' "$case" "$program" "$(median "$2" '$10')"
 }
 
 # Measures a part and prints its rows, in milliseconds. Debian's RocksDB has none.
@@ -206,7 +203,6 @@ run_part() { # PART
     local name
     plan ours ours 1000
     plan 'ours, one by one' ours 1
-    plan Rattle rattle 1000
     plan RocksDB rocksdb 1000
     plan 'RocksDB, one by one' rocksdb 1
     plan "Debian's" debian 1000
@@ -223,7 +219,7 @@ run_part() { # PART
     echo "$1: calls that write, in nanoseconds, and $((gets / 5)) lookups, half of what is gathered, in ms"
     printf '%-20s %9s %12s %12s %10s %9s %9s %9s\n' '' median 99.9% longest lookups '/ median' '/ 99.9%' '/ lookups'
     for name in "${names[@]}"; do
-        if [ "${programs[$name]}" != rattle ] && [ "$name" != "Debian's" ]; then print_calls "$name"; fi
+        if [ "$name" != "Debian's" ]; then print_calls "$name"; fi
     done
     echo
     names=()
@@ -249,9 +245,6 @@ goal 'lookups from C' 'counters, batches of 1,000' RocksDB ms 'at most' 0.5
 goal 'scans from C' 'counters, batches of 1,000' RocksDB ms 'at most' 0.5
 goal 'opening from C' "$opened writes" RocksDB ms 'at most' 0.2
 goal 'lookups of what is gathered' 'counters, one by one' RocksDB ms 'at most' 0.3
-for work in 'writes from C' 'lookups from C' 'scans from C'; do
-    goal "$work" 'counters, batches of 1,000' Rattle ms 'at most' 1.05
-done
 for part; do
     if [ "$part" = opening ]; then run_opening; else run_part "$part"; fi
 done

@@ -56,7 +56,7 @@ find_library() {
         OURS=$folder/usr/lib/libucstore.so.2
     fi
     UCSTORE_LIBRARY=$(realpath -e "$OURS") || exit 2
-    UCSTORE_DB_LIBRARY=$(realpath -e "$(dirname "$OURS")/libucstore_db.so.1") || exit 2
+    UCSTORE_DB_LIBRARY=$(realpath -e "$(dirname "$OURS")/libucstore_db.so.2") || exit 2
     export UCSTORE_LIBRARY UCSTORE_DB_LIBRARY PYTHONPATH=$here/../../bindings/python PYTHONDONTWRITEBYTECODE=1
     # As SHARDS.md advises for one machine.
     export DASK_DISTRIBUTED__COMM__COMPRESSION=None

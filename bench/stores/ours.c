@@ -19,7 +19,7 @@ static void expect_ok(int32_t status) {
 
 void open_store(const struct settings *settings) {
     struct ucstore_db_options options;
-    expect_ok(ucstore_db_options_init(&options));
+    expect_ok(ucstore_db_options_init(&options, sizeof options));
     options.merge_operator = UCSTORE_DB_COUNTER;
     options.sync = settings->is_synced ? UCSTORE_DB_SYNC_ALWAYS : UCSTORE_DB_SYNC_NEVER;
     expect_ok(settings->folder == NULL ? ucstore_db_in_memory(&options, &db) : ucstore_db_open(settings->folder, &options, &db));

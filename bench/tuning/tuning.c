@@ -2,11 +2,11 @@
  *
  *     PROGRAM KEYS WRITES LOOKUPS SCANS [OPTION VALUE]
  *
- * A database in memory gets WRITES puts of drawn keys, of KEYS, one by one. Keys have 16 bytes and values 100. Right behind the last
+ * A database in memory gets WRITES puts of drawn keys, of KEYS, one by one. Keys have 16 bytes and values 100. Right after the last
  * one LOOKUPS of these keys are looked up, and SCANS scans read ten rows each, while what is left is flushed and compacted.
  *
  * It prints a line: the nanoseconds of a put, those that all threads took of processors for it meanwhile, how many runs there were
- * behind the last put, the nanoseconds of a lookup and of a scan, and the KiB of memory that the process had at most. */
+ * after the last put, the nanoseconds of a lookup and of a scan, and the KiB of memory that the process had at most. */
 #define _POSIX_C_SOURCE 200809L
 
 #include <ucstore_db.h>
@@ -121,7 +121,7 @@ int main(int count, char **words) {
     keys = strtoull(words[1], NULL, 10);
     writes = strtoull(words[2], NULL, 10);
     uint64_t lookups = strtoull(words[3], NULL, 10), scans = strtoull(words[4], NULL, 10);
-    expect_ok(ucstore_db_options_init(&options));
+    expect_ok(ucstore_db_options_init(&options, sizeof options));
     if (count == 7) {
         set_option(&options, words[5], strtoull(words[6], NULL, 10));
     }

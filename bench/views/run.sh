@@ -31,6 +31,8 @@ set -u -o pipefail
 here=$(cd "$(dirname "${BASH_SOURCE[0]}")" && pwd) || exit 1
 top=$here/../..
 ours=${OURS:-$top/crates/uc_c/out/libuc_c.a}
+# What numbers the stores, which ./install puts into the library.
+ids=$top/bindings/c/ids.c
 turns=${TURNS:-3}
 jobs=${JOBS:-9}
 span=${SPAN:-5}
@@ -51,7 +53,7 @@ compile() { # NAME OPTIONS
 
 link_ours() { # PROGRAM OPTIONS
     # shellcheck disable=SC2086 # LDLIBS may name more libraries.
-    cc "${@:2}" "$ours" "$kit/c/liblibc_c.a" ${LDLIBS:-} -o "$folder/$1" || fail "$1 isn't linked"
+    cc -I "$top/bindings/c" "${@:2}" "$ids" "$ours" "$kit/c/liblibc_c.a" ${LDLIBS:-} -o "$folder/$1" || fail "$1 isn't linked"
 }
 
 build_ours() {

@@ -64,7 +64,7 @@ int main(int argc, char **argv) {
     unsigned numbers[THREADS];
     pthread_t threads[THREADS];
     setvbuf(stdout, NULL, _IOLBF, BUFSIZ);
-    check(ucstore_db_options_init(&options));
+    check(ucstore_db_options_init(&options, sizeof options));
     options.merge_operator = UCSTORE_DB_COUNTER;
     options.write_buffer_size = 2000;
     options.checkpoint_least = 20000;

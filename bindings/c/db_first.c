@@ -14,7 +14,7 @@ int main(void) {
     uint8_t now[8] = {0}, then[8] = {0}, two[8] = {2}, three[8] = {3};
     size_t size = 0;
 
-    ucstore_db_options_init(&options);
+    ucstore_db_options_init(&options, sizeof options);
     options.merge_operator = UCSTORE_DB_COUNTER;
     if (ucstore_db_open("visits", &options, &db) != UCSTORE_DB_OK) return failed();
     ucstore_db_merge(db, "visits", 6, two, sizeof two);

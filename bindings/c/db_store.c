@@ -44,7 +44,7 @@ static int32_t answered(int32_t status) {
 }
 
 int32_t ucstore_options_init(struct ucstore_options *options) {
-    ucstore_db_options_init(&kept);
+    ucstore_db_options_init(&kept, sizeof kept);
     options->write_buffer_size = kept.write_buffer_size;
     options->compaction_trigger = kept.compaction_trigger;
     options->stop_trigger = kept.stop_trigger;
@@ -213,7 +213,7 @@ int32_t ucstore_snapshot(struct ucstore *store, uint64_t *seq) {
     return UCSTORE_OK;
 }
 
-/* The place of a snapshot at a sequence, or behind the last one. */
+/* The place of a snapshot at a sequence, or after the last one. */
 static size_t place_of(uint64_t seq) {
     size_t place = 0;
     while (place < snapshot_count && snapshots[place].sequence != seq) {

@@ -38,7 +38,7 @@ static const char *below(const char *name) {
 
 static struct ucstore_db_options counters(void) {
     struct ucstore_db_options options;
-    OK(ucstore_db_options_init(&options));
+    OK(ucstore_db_options_init(&options, sizeof options));
     options.merge_operator = UCSTORE_DB_COUNTER;
     return options;
 }
@@ -51,7 +51,7 @@ static struct ucstore_db *open_with(const char *name, const struct ucstore_db_op
 
 static struct ucstore_db *open_texts(const char *name) {
     struct ucstore_db_options options;
-    OK(ucstore_db_options_init(&options));
+    OK(ucstore_db_options_init(&options, sizeof options));
     return open_with(name, &options);
 }
 
@@ -75,9 +75,39 @@ static bool has(struct ucstore_db *db, const char *key, const char *value) {
 static void try_versions(void) {
     struct ucstore_db_options options;
     CHECK(ucstore_db_version() == UCSTORE_DB_ABI);
-    OK(ucstore_db_options_init(&options));
+    OK(ucstore_db_options_init(&options, sizeof options));
     CHECK(options.size == sizeof options && options.sync == UCSTORE_DB_SYNC_ALWAYS && options.compactors == 2);
     CHECK(options.write_buffer_size == 4 << 20 && options.checkpoint_least == 64 << 20 && options.event == NULL);
+}
+
+/* A program of another header has a smaller or a larger struct of options. */
+static void try_sizes_of_options(void) {
+    struct {
+        struct ucstore_db_options options;
+        uint64_t later[4];
+    } program;
+    const size_t first = offsetof(struct ucstore_db_options, recover_to), larger = sizeof program.options + sizeof program.later[0];
+    struct ucstore_db *db = NULL;
+    memset(&program, 'm', sizeof program);
+    OK(ucstore_db_options_init(&program.options, first));
+    CHECK(program.options.size == first && program.options.compactors == 2);
+    CHECK(program.options.recover_to == 0x6d6d6d6d6d6d6d6d && program.options.marks_count == 0x6d6d6d6d6d6d6d6d);
+    /* What is beyond its size isn't read. */
+    OK(ucstore_db_in_memory(&program.options, &db));
+    put(db, "a", "1");
+    OK(ucstore_db_close(db));
+    OK(ucstore_db_options_init(&program.options, larger));
+    CHECK(program.options.size == larger && program.later[0] == 0 && program.later[1] == 0x6d6d6d6d6d6d6d6d);
+    OK(ucstore_db_in_memory(&program.options, &db));
+    OK(ucstore_db_close(db));
+    /* The library doesn't know the option that is set. */
+    program.later[0] = 1;
+    CHECK(is_refused(ucstore_db_in_memory(&program.options, &db), UCSTORE_DB_BAD_SIZE, "size"));
+    CHECK(is_refused(ucstore_db_options_init(&program.options, first - 1), UCSTORE_DB_BAD_SIZE, "size"));
+    CHECK(is_refused(ucstore_db_options_init(&program.options, SIZE_MAX), UCSTORE_DB_BAD_SIZE, "size"));
+    CHECK(is_refused(ucstore_db_options_init(NULL, first), UCSTORE_DB_NULL, "null"));
+    program.options.size = SIZE_MAX;
+    CHECK(is_refused(ucstore_db_in_memory(&program.options, &db), UCSTORE_DB_BAD_SIZE, "size"));
 }
 
 static void try_refused_options(void) {
@@ -86,7 +116,7 @@ static void try_refused_options(void) {
     CHECK(is_refused(ucstore_db_open(NULL, &options, &db), UCSTORE_DB_NULL, "null"));
     CHECK(is_refused(ucstore_db_open(below("none"), NULL, &db), UCSTORE_DB_NULL, "null"));
     CHECK(is_refused(ucstore_db_open(below("none"), &options, NULL), UCSTORE_DB_NULL, "null"));
-    options.size--;
+    options.size = 8;
     CHECK(is_refused(ucstore_db_in_memory(&options, &db), UCSTORE_DB_BAD_SIZE, "size"));
     options = counters();
     options.merge_operator = 4;
@@ -97,14 +127,22 @@ static void try_refused_options(void) {
     options = counters();
     options.write_buffer_size = 0;
     CHECK(is_refused(ucstore_db_in_memory(&options, &db), UCSTORE_DB_BAD_OPTION, "option"));
+    CHECK(is_refused(ucstore_db_open(below("none"), &options, &db), UCSTORE_DB_BAD_OPTION, "option"));
+    options = counters();
+    options.sync = UCSTORE_DB_SYNC_EVERY;
+    options.sync_milliseconds = 0;
+    CHECK(is_refused(ucstore_db_open(below("none"), &options, &db), UCSTORE_DB_BAD_OPTION, "option"));
     CHECK(db == NULL && access(below("none"), F_OK) != 0);
 }
 
 static void try_refused_folders(void) {
-    struct ucstore_db_options options = counters();
+    struct ucstore_db_options options = counters(), existing = options;
     struct ucstore_db *first = open_with("refused", &options), *other = NULL;
     CHECK(is_refused(ucstore_db_open(below("refused"), &options, &other), UCSTORE_DB_LOCKED, "LOCK"));
     OK(ucstore_db_close(first));
+    existing.must_exist = 1;
+    CHECK(is_refused(ucstore_db_open(below("none"), &existing, &other), UCSTORE_DB_MISSING, "none") && access(below("none"), F_OK) != 0);
+    OK(ucstore_db_close(open_with("refused", &existing)));
     options.merge_operator = UCSTORE_DB_MAXIMUM;
     CHECK(is_refused(ucstore_db_open(below("refused"), &options, &other), UCSTORE_DB_OTHER_OPERATOR, "names counter"));
     CHECK(is_refused(ucstore_db_open(below("refused/LOCK/x"), &options, &other), UCSTORE_DB_FILE, "LOCK"));
@@ -301,14 +339,14 @@ static const uint8_t *batch_at(uint8_t sequence, char key, char value) {
     return batch;
 }
 
-/* A database is recovered to a sequence, with snapshots at marks behind a base of one of them. */
+/* A database is recovered to a sequence, with snapshots at marks after a base of one of them. */
 static void try_recovery(void) {
     static const uint64_t marks[] = {20, 7};
     struct ucstore_db_options options;
     struct ucstore_db *db = open_texts("parts"), *other = NULL;
     struct ucstore_db_snapshot *snapshot = NULL, *unset = NULL;
     uint64_t sequence = 0;
-    OK(ucstore_db_options_init(&options));
+    OK(ucstore_db_options_init(&options, sizeof options));
     CHECK(options.recover_to == UINT64_MAX && options.give_up_until == UINT64_MAX && options.marks_count == 0);
     OK(ucstore_db_write_bytes(db, batch_at(7, 'a', '1'), 17, true));
     OK(ucstore_db_snapshot(db, &snapshot));
@@ -371,6 +409,22 @@ static void hear_progress(void *context, const struct ucstore_db_progress *progr
     told->whole = progress->whole;
 }
 
+/* The database's own threads call functions that call it until it is closed. */
+static void try_events_of_a_close(struct told *told, const struct ucstore_db_options *usual) {
+    struct ucstore_db_options options = *usual;
+    char key[16];
+    options.write_buffer_size = 300;
+    for (int round = 0; round < 10; round++) {
+        OK(ucstore_db_in_memory(&options, &told->db));
+        for (int number = 0; number < 200; number++) {
+            snprintf(key, sizeof key, "%d", number);
+            OK(ucstore_db_merge(told->db, key, strlen(key), one, sizeof one));
+        }
+        OK(ucstore_db_close(told->db));
+        told->db = NULL;
+    }
+}
+
 static void try_events(void) {
     static struct told told;
     struct ucstore_db_options options = counters();
@@ -392,10 +446,15 @@ static void try_events(void) {
     CHECK(strcmp(told.text, "000002-4.base") == 0 || told.events[UCSTORE_DB_COMPACTED] > 0);
     stats.size = 1;
     CHECK(ucstore_db_stats(told.db, &stats) == UCSTORE_DB_BAD_SIZE);
+    memset(&stats, 'm', sizeof stats);
+    stats.size = offsetof(struct ucstore_db_stats, lookups_by_memtable);
+    OK(ucstore_db_stats(told.db, &stats));
+    CHECK(stats.size == offsetof(struct ucstore_db_stats, lookups_by_memtable) && stats.checkpoints == 1);
+    CHECK(stats.lookups_by_memtable == 0x6d6d6d6d6d6d6d6d);
     stats.size = sizeof stats;
     OK(ucstore_db_stats(told.db, &stats));
     CHECK(stats.batches == 4 && stats.flushes == 4 && stats.checkpoints == 1 && stats.syncs >= 4 && stats.last == 4);
-    CHECK(stats.user_bytes == 4 * 24 && stats.logged_bytes == 4 * 31 && stats.base_bytes > 0);
+    CHECK(stats.user_bytes == 4 * 24 && stats.logged_bytes == 4 * 35 && stats.base_bytes > 0);
     CHECK(stats.flush_bytes > 0 && stats.compaction_read >= stats.compaction_written);
     CHECK(stats.size == sizeof stats && stats.sync_p50 <= stats.sync_p99);
     OK(ucstore_db_stats_text(told.db, room, sizeof room, &size));
@@ -405,6 +464,7 @@ static void try_events(void) {
     OK(ucstore_db_close(told.db));
     told.db = NULL;
     OK(ucstore_db_close(open_with("events", &options)));
+    try_events_of_a_close(&told, &options);
     CHECK(told.openings > 0 && told.read == told.whole && told.whole > 0);
     CHECK(pthread_mutex_destroy(&told.lock) == 0);
 }
@@ -425,28 +485,28 @@ static void try_damage(void) {
     put(db, "b", "2");
     put(db, "c", "3");
     OK(ucstore_db_close(db));
-    /* Each record has a header of 7 bytes, a batch's of 12, and a put of 5: this is in the second one. */
-    damage("damage/000001.log", 30);
+    /* Each record has a header of 7 bytes, a batch's of 12, a mark of 4, and a put of 5: this is in the second one. */
+    damage("damage/000001.log", 34);
     db = NULL;
-    OK(ucstore_db_options_init(&options));
-    CHECK(is_refused(ucstore_db_open(below("damage"), &options, &db), UCSTORE_DB_DAMAGED, "000001.log is damaged at 24"));
+    OK(ucstore_db_options_init(&options, sizeof options));
+    CHECK(is_refused(ucstore_db_open(below("damage"), &options, &db), UCSTORE_DB_DAMAGED, "000001.log is damaged at 28"));
     CHECK(db == NULL);
     options.recovers_to_fault = 1;
     db = open_with("damage", &options);
     CHECK(has(db, "a", "1") && !has(db, "b", "2"));
-    CHECK(is_refused(ucstore_db_put(db, "k", 1, "v", 1), UCSTORE_DB_READ_ONLY, "000001.log is damaged at 24"));
+    CHECK(is_refused(ucstore_db_put(db, "k", 1, "v", 1), UCSTORE_DB_READ_ONLY, "000001.log is damaged at 28"));
     CHECK(is_refused(ucstore_db_failure(db), UCSTORE_DB_READ_ONLY, "000001.log"));
-    CHECK(ucstore_db_close(db) == UCSTORE_DB_READ_ONLY);
+    OK(ucstore_db_close(db));
 }
 
-/* A log that can't be written any more refuses writes, and what was acknowledged stays. */
+/* A write that finds no space is refused, and what was acknowledged stays. One that finds some is taken. */
 static void try_full_device(void) {
     static char value[3000];
     static struct told told;
     struct ucstore_db_options options;
     struct rlimit limit, before;
     struct ucstore_db *db;
-    OK(ucstore_db_options_init(&options));
+    OK(ucstore_db_options_init(&options, sizeof options));
     options.event = hear_event;
     options.event_context = &told;
     CHECK(pthread_mutex_init(&told.lock, NULL) == 0);
@@ -457,15 +517,19 @@ static void try_full_device(void) {
     limit = before;
     limit.rlim_cur = 2000;
     CHECK(setrlimit(RLIMIT_FSIZE, &limit) == 0);
-    CHECK(is_refused(ucstore_db_put(db, "b", 1, value, sizeof value), UCSTORE_DB_READ_ONLY, "000001.log: File too large"));
-    CHECK(setrlimit(RLIMIT_FSIZE, &before) == 0);
-    CHECK(told.events[UCSTORE_DB_FAILED] == 1 && told.status == UCSTORE_DB_READ_ONLY && strstr(told.text, "000001.log") != NULL);
-    CHECK(ucstore_db_put(db, "c", 1, "3", 1) == UCSTORE_DB_READ_ONLY && ucstore_db_sync(db) == UCSTORE_DB_READ_ONLY);
-    CHECK(ucstore_db_checkpoint(db) == UCSTORE_DB_READ_ONLY && has(db, "a", "1") && !has(db, "c", "3"));
-    CHECK(is_refused(ucstore_db_close(db), UCSTORE_DB_READ_ONLY, "000001.log"));
-    db = open_texts("full");
-    CHECK(has(db, "a", "1") && !has(db, "c", "3"));
+    for (int round = 0; round < 2; round++) {
+        CHECK(is_refused(ucstore_db_put(db, "b", 1, value, sizeof value), UCSTORE_DB_FILE, "000001.log: File too large"));
+    }
+    CHECK(told.events[UCSTORE_DB_FAILED] == 1 && told.status == UCSTORE_DB_FILE && strstr(told.text, "000001.log") != NULL);
     put(db, "c", "3");
+    CHECK(setrlimit(RLIMIT_FSIZE, &before) == 0);
+    OK(ucstore_db_put(db, "b", 1, value, sizeof value));
+    OK(ucstore_db_sync(db));
+    OK(ucstore_db_checkpoint(db));
+    OK(ucstore_db_failure(db));
+    OK(ucstore_db_close(db));
+    db = open_texts("full");
+    CHECK(has(db, "a", "1") && has(db, "c", "3"));
     OK(ucstore_db_close(db));
 }
 
@@ -539,6 +603,7 @@ int main(int argc, char **argv) {
     }
     top = argv[1];
     try_versions();
+    try_sizes_of_options();
     try_refused_options();
     try_refused_folders();
     try_fork();

@@ -44,7 +44,7 @@ static bool has_heard(void) {
 static struct ucstore_db *opened(const char *folder) {
     struct ucstore_db_options options;
     struct ucstore_db *found = NULL;
-    OK(ucstore_db_options_init(&options));
+    OK(ucstore_db_options_init(&options, sizeof options));
     options.merge_operator = UCSTORE_DB_COUNTER;
     options.sync = UCSTORE_DB_SYNC_EVERY;
     options.sync_milliseconds = 5;

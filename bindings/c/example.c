@@ -23,7 +23,7 @@ static void ok(int32_t status) {
     check(status == UCSTORE_DB_OK, ucstore_db_error_text());
 }
 
-/* Counts the words of a file. The key of its name, behind a tab that no word has, tells the place from which on. */
+/* Counts the words of a file. The key of its name, after a tab that no word has, tells the place from which on. */
 static void *count(void *name) {
     static const uint8_t one[8] = {1};
     char key[4096], line[4096], *rest;
@@ -66,7 +66,7 @@ int main(int argc, char **argv) {
     pthread_t *threads = (pthread_t *)calloc((size_t)argc + 1, sizeof *threads);
     struct ucstore_db_options options;
     check(argc > 1 && threads != NULL, "usage: example FOLDER FILE..");
-    ucstore_db_options_init(&options);
+    ucstore_db_options_init(&options, sizeof options);
     options.merge_operator = UCSTORE_DB_COUNTER;
     ok(ucstore_db_open(argv[1], &options, &db));
     for (int file = 2; file < argc; file++) {

@@ -6,7 +6,7 @@
  *
  * Each function of a store takes the handle's address first, and each but `ucstore_version` answers one of the statuses
  * below. On any status but UCSTORE_OK no write is taken and no output is written, but for what `ucstore_prepare`,
- * `ucstore_prepare_bytes`, `ucstore_checkpoint_next` and `ucstore_log_next` tell.
+ * `ucstore_prepare_bytes`, `ucstore_checkpoint_next`, `ucstore_log_next` and `ucstore_replay` tell.
  *
  * Writes are gathered in a memtable, which becomes a run when it is full. Runs are compacted then, by the calling thread. Nothing else
  * has to be called for it. Jobs do both in other threads.
@@ -28,7 +28,7 @@
  *
  *     struct ucstore_checkpoint checkpoint = {0};
  *
- * So a program cuts its log: it writes the pieces to a new file, one behind the other, and then the batches that were
+ * So a program cuts its log: it writes the pieces to a new file, one after the other, and then the batches that were
  * written since the view was taken.
  *
  * A job is a flush or a compaction that is done away from its store, made of zeros too:
@@ -38,7 +38,8 @@
  * `ucstore_job` takes it out of the store, `ucstore_job_run` makes the new run, and `ucstore_job_end` puts that into the
  * store. The first and the last are short calls on the store. Between them any thread runs the job, while the store is
  * written to and read. The store doesn't compact the runs of a job that is out. Several jobs may be out, one of them a
- * flush, and end in any order. A job that has ended keeps what it had until `ucstore_job_close` frees that, in any thread.
+ * flush, and end in any order, each on the store that it was taken from: any other one refuses it. A job that has ended keeps
+ * what it had until `ucstore_job_close` frees that, in any thread.
  *
  * A store is in memory. To keep it, write each batch in this order, and open the store from the file's bytes the next time:
  * 1. `ucstore_prepare` judges the batch, takes all memory that it needs, and gives its record. If it is refused, the log stays as it is.
@@ -52,8 +53,6 @@
  *   functions. Each may lie anywhere, and move between calls. It is closed before it ends.
  * - One call at a time on a handle, reads too, on a batch, a view, a checkpoint and a job. Two of them may be used by two
  *   threads at once, and each may go from thread to thread.
- * - A job ends on the store that it was taken from, and on no other one. UCSTORE_NOT_OF_STORE tells of most mistakes, not
- *   of all.
  * - Each address leads to as much memory as its type or its length says. If a length is 0, its address is not read, and may
  *   be null. No other address is null. What a function writes overlaps nothing else that it is given.
  * - What a function writes to has a value of its type before: `bool compacted = false;`.
@@ -125,12 +124,12 @@ enum ucstore_status {
     UCSTORE_HAS_VIEW = 20,         /* The handle has a view already. */
     UCSTORE_NO_JOB = 21,           /* The handle has no job. */
     UCSTORE_HAS_JOB = 22,          /* The handle has a job already. */
-    UCSTORE_NOT_OF_STORE = 23,     /* The job isn't out of the store. */
+    UCSTORE_NOT_OF_STORE = 23,     /* The job was taken from another store. */
     UCSTORE_RUNS_CLAIMED = 24,     /* No run more may be, and jobs have those that would be compacted: end one. */
     UCSTORE_JOB_ENDED = 25,        /* The job has ended. */
     UCSTORE_NO_CHECKPOINT = 26,    /* The handle has no checkpoint. */
     UCSTORE_HAS_CHECKPOINT = 27,   /* The handle has a checkpoint already. */
-    UCSTORE_SEQUENCE_GAP = 28      /* The batch of the log begins later than right behind the last sequence. */
+    UCSTORE_SEQUENCE_GAP = 28      /* The batch of the log begins later than right after the last sequence. */
 };
 
 /* Which operator merges a key's operands into its value. */
@@ -174,7 +173,7 @@ static inline const char *ucstore_status_text(int32_t status) {
         "the handle has a view already",
         "the handle has no job",
         "the handle has a job already",
-        "the job isn't out of the store",
+        "the job was taken from another store",
         "jobs have the runs that would be compacted",
         "the job has ended",
         "the handle has no checkpoint",
@@ -185,17 +184,18 @@ static inline const char *ucstore_status_text(int32_t status) {
 }
 
 /* How a store is kept, with RocksDB's names (RocksDB wiki, "Universal Compaction"). `ucstore_options_init` fills it
- * in. A later library may have more fields behind these. */
+ * in. It has more fields only with another UCSTORE_ABI, and then the shared library has another name. */
 struct ucstore_options {
     size_t size;                              /* sizeof(struct ucstore_options). */
     uint64_t write_buffer_size;               /* From how many bytes on the memtable is full, at least 1. */
     uint32_t compaction_trigger;              /* From how many runs on something is compacted, at least 1. */
-    uint32_t stop_trigger;                    /* From how many runs on a write compacts before it goes on, `compaction_trigger` to 255. */
+    uint32_t stop_trigger;                    /* From how many runs on a write that flushes compacts first, `compaction_trigger` to 255. The end
+                                               * of a flush job never compacts. */
     uint32_t size_ratio;                      /* By how many percent a run may be larger than those above it to be compacted with them. */
     uint32_t max_size_amplification_percent;  /* Above how many percent of the oldest run's size the newer ones are compacted with it. */
     uint32_t min_merge_width;                 /* The least number of runs for a compaction by size ratio, at least 2. */
     uint32_t max_merge_width;                 /* The greatest number of runs for a compaction, at least `min_merge_width`. */
-    uint32_t compacts_itself;                 /* Not 0 if the store compacts behind a flush. Else only from `stop_trigger` runs on. */
+    uint32_t compacts_itself;                 /* Not 0 if the store compacts after a flush. Else only from `stop_trigger` runs on. */
     uint32_t max_write_buffer_number;         /* How many memtables are gathered at most, at least 1. With 1 a write that finds the memtable
                                                * full flushes it. With more a job does, and a write only once as many are full. */
 };
@@ -219,8 +219,8 @@ struct ucstore_ended {
     uint64_t place;
 };
 
-/* What a store holds, in numbers. Points, fragments and bytes are sums over its runs, held at 2^64 - 1. A later
- * library may have more fields behind these. */
+/* What a store holds, in numbers. Points, fragments and bytes are sums over its runs, held at 2^64 - 1. It has more
+ * fields only with another UCSTORE_ABI. */
 struct ucstore_report {
     size_t size;         /* sizeof(struct ucstore_report), which the caller writes. */
     uint64_t runs;
@@ -228,7 +228,7 @@ struct ucstore_report {
     uint64_t points;     /* Writes of a single key. */
     uint64_t fragments;  /* Stretches of keys that range deletions cover. */
     uint64_t bytes;      /* Their texts, with 8 bytes for each sequence. */
-    uint64_t gathered;   /* Writes in the memtable, which no run has yet. */
+    uint64_t gathered;   /* Writes in the memtables, which no run has yet. */
     uint64_t last;       /* The last sequence; 0 if nothing was written. */
 };
 
@@ -239,7 +239,8 @@ struct ucstore_log_place {
     uint64_t batches;  /* The batches before it. */
 };
 
-/* Tells UCSTORE_ABI of the library that is linked. It grows when a function or a status changes its meaning. */
+/* Tells UCSTORE_ABI of the library that is linked. It grows when a function or a status changes its meaning, or a struct
+ * its size: a shared library of another number has another name. */
 uint32_t ucstore_version(void);
 
 /* Fills in the default options and their size: a memtable of 4 MiB, 4 runs, 36 runs, 1 percent, 200 percent, at least
@@ -381,9 +382,9 @@ int32_t ucstore_source(struct ucstore *store, const uint8_t *key, size_t key_len
 int32_t ucstore_get_at(struct ucstore *store, const uint8_t *key, size_t key_length, uint64_t at, uint8_t *room,
                        size_t room_length, size_t *size);
 
-/* Looks up `count` keys at the last sequence, which stand one behind the other, in any order. For each in turn
+/* Looks up `count` keys at the last sequence, which stand one after the other, in any order. For each in turn
  * `value_lengths` tells the length of its value, UINT64_MAX if it has none. The values that are there are copied into the
- * room one behind the other, as much of them as there is room for, and `size` tells how many bytes they have.
+ * room one after the other, as much of them as there is room for, and `size` tells how many bytes they have.
  * `value_count` is `count`.
  * UCSTORE_NO_STORE, UCSTORE_BAD_KEYS, UCSTORE_OUT_OF_MEMORY. */
 int32_t ucstore_get_many(struct ucstore *store, const uint8_t *keys, size_t keys_length, const uint64_t *key_lengths,
@@ -391,10 +392,10 @@ int32_t ucstore_get_many(struct ucstore *store, const uint8_t *keys, size_t keys
                          size_t *size);
 
 /* Scans the first rows, at most `limit`, of the keys from `low` to below `high`, or to the last one if not `bounded`,
- * at the last sequence. The rows that fit the room are written one behind the other, each as 8 bytes for the key's
+ * at the last sequence. The rows that fit the room are written one after the other, each as 8 bytes for the key's
  * length, low byte first, the key, 8 bytes for the value's length, and the value. `rows` tells how many these are, and
  * `size` how many bytes all rows have: if it is above the room's length, some aren't there. All rows up to the limit
- * are found, whatever the room: to read page by page, give a limit, and begin the next page behind the last key.
+ * are found, whatever the room: to read page by page, give a limit, and begin the next page after the last key.
  * UCSTORE_NO_STORE, UCSTORE_OUT_OF_MEMORY. */
 int32_t ucstore_scan(struct ucstore *store, const uint8_t *low, size_t low_length, const uint8_t *high, size_t high_length,
                      bool bounded, uint64_t limit, uint8_t *room, size_t room_length, size_t *size, uint64_t *rows);
@@ -467,8 +468,8 @@ int32_t ucstore_checkpoint(struct ucstore_view *view, struct ucstore_checkpoint 
  * a batch of `most` rows and at most 65,536, or of one if `most` is 0. It has fewer only if no more are left. `done`
  * tells whether no row was left: `size` is 0 then.
  *
- * The pieces one behind the other, from a log of no bytes on, are read back as puts of exactly the rows that the view
- * has at its last sequence, numbered from 1. There are at most as many as that sequence, so later batches go on behind
+ * The pieces one after the other, from a log of no bytes on, are read back as puts of exactly the rows that the view
+ * has at its last sequence, numbered from 1. There are at most as many as that sequence, so later batches go on after
  * them.
  *
  * UCSTORE_ROOM: the piece doesn't fit the room. No row is laid out, and `size` tells how much room it needs.
@@ -498,9 +499,10 @@ int32_t ucstore_job_run(struct ucstore_job *job);
 /* Ends a job on the store that it was taken from: the run that was made stands for the job's runs or memtables.
  * `installed` is false if the job wasn't run, or if no number is left for the run: the store has its runs for others
  * then. That of a flush is false too if no run more may be, if memory is refused, and if a write, a flush or a snapshot
- * has flushed its writes since. No write is lost, and no read changes. It frees no memory: the job stays behind its
- * handle, and keeps what it had until it is closed. The end of a compaction takes none either.
- * UCSTORE_NO_JOB, UCSTORE_JOB_ENDED, UCSTORE_NO_STORE, UCSTORE_NOT_OF_STORE: nothing changes. */
+ * has flushed its writes since. No write is lost, and no read changes. It frees no run and no memtable: the job stays behind
+ * its handle, and keeps what it had and made until it is closed. The end of a compaction takes no memory.
+ * UCSTORE_NO_JOB, UCSTORE_JOB_ENDED, UCSTORE_NO_STORE, UCSTORE_NOT_OF_STORE: nothing changes, so the job can still be ended on
+ * its own store. */
 int32_t ucstore_job_end(struct ucstore *store, struct ucstore_job *job, bool *installed);
 
 /* Tells how many bytes the runs have together that a job compacts, as `ucstore_report` counts them: 0 for a flush. So the change
@@ -517,7 +519,7 @@ int32_t ucstore_job_close(struct ucstore_job *job);
  * UCSTORE_NO_STORE, UCSTORE_BAD_SIZE. */
 int32_t ucstore_report(struct ucstore *store, struct ucstore_report *report);
 
-/* Goes from a place in a log to behind the next batch, and lays its writes out in the room one behind the other: each
+/* Goes from a place in a log to after the next batch, and lays its writes out in the room one after the other: each
  * as 8 bytes for the sequence, low byte first, 1 for the kind (0 a deletion, 1 a put, 2 a merge, 15 a deletion of a
  * range), 8 for the length of the first text, that text, 8 for the length of the second, and that one. A deletion's
  * second text is empty. `writes` tells how many these are, and `size` how many bytes.
@@ -532,11 +534,11 @@ int32_t ucstore_log_next(const uint8_t *log, size_t log_length, struct ucstore_l
 
 /* Writes the next batch at a place of a log to the store, with the sequences that it has, and goes to the place behind it.
  * A walk begins with an offset and batches of 0, and `last` is the store's last sequence. So a log that is read in several
- * files, or behind a checkpoint, is written batch by batch; `ucstore_open` reads one whole. What is prepared is given up.
+ * files, or after a checkpoint, is written batch by batch; `ucstore_open` reads one whole. What is prepared is given up.
  *
- * UCSTORE_SEQUENCE_GAP: the batch doesn't begin right behind the last sequence, and `may_skip` is false.
+ * UCSTORE_SEQUENCE_GAP: the batch doesn't begin right after the last sequence, and `may_skip` is false.
  * UCSTORE_LOG_ENDS: no batch comes next, and `ended` tells how far the log was read, as `ucstore_log_next` does.
- * UCSTORE_BAD_PLACE: no walk over the log leads to the place, or its `last` isn't the store's.
+ * UCSTORE_BAD_PLACE: there are more batches than bytes before the place, it lies past the log, or its `last` isn't the store's.
  * UCSTORE_NO_STORE, UCSTORE_IDS_SPENT, UCSTORE_RUNS_CLAIMED, UCSTORE_OUT_OF_MEMORY. */
 int32_t ucstore_replay(struct ucstore *store, const uint8_t *log, size_t log_length, struct ucstore_log_place *place,
                        bool may_skip, struct ucstore_ended *ended);

@@ -4,6 +4,7 @@ import collections
 import ctypes
 import doctest
 import os
+import resource
 import subprocess
 import sys
 import tempfile
@@ -14,7 +15,7 @@ from pathlib import Path
 
 import ucstore
 from ucstore import (
-    BadOption, BatchFull, Closed, Damaged, Db, DbOptions, Delete, EventKind, FileFault, Forked, Locked, Merge, NotABatch,
+    BadOption, BatchFull, Closed, Damaged, Db, DbOptions, Delete, EventKind, FileFault, Forked, Locked, Merge, Missing, NotABatch,
     NotProtected, NotRecoverable, Operator, OtherDatabase, OtherOperator, Progress, Put, ReadOnly, SequenceBack, Sync, TooLong,
     UcstoreError, UnknownOperator, _db, _db_library, _db_reader, batch_bytes,
 )
@@ -26,6 +27,37 @@ ONE = (1).to_bytes(8, "little")
 def number(value):
     """A counter's number."""
     return int.from_bytes(value or b"", "little")
+
+
+# Puts a value and reads it, with as many more bytes of address space as are said.
+WITHOUT_MEMORY = """
+import os, resource, sys, time
+from ucstore import Db, DbOptions, OutOfMemory
+folder, size, allowed = sys.argv[1], int(sys.argv[2]), int(sys.argv[3])
+
+def states():
+    tasks = [task for task in os.listdir("/proc/self/task") if int(task) != os.getpid()]
+    return {open(f"/proc/self/task/{task}/stat").read().rpartition(")")[2].split()[0] for task in tasks}
+
+with Db(folder, options=DbOptions(compactors=0)) as db:
+    # A thread's first call allocates something for it, which ends the process if there is none: let each thread begin, and wait.
+    db[b"first"] = b"v"
+    assert db[b"first"] == b"v"
+    while states() - {"S"}:
+        time.sleep(0.001)
+    value = bytes(size)
+    now = int(open("/proc/self/statm").read().split()[0]) * 4096
+    resource.setrlimit(resource.RLIMIT_AS, (now + allowed, resource.RLIM_INFINITY))
+    try:
+        db[b"k"] = value
+        found = len(db[b"k"])
+    except (OutOfMemory, MemoryError):
+        found = None
+    resource.setrlimit(resource.RLIMIT_AS, (resource.RLIM_INFINITY, resource.RLIM_INFINITY))
+    assert found in (None, size), found
+    db[b"after"] = b"v"
+    assert db[b"after"] == b"v"
+"""
 
 
 class InFolder(unittest.TestCase):
@@ -147,13 +179,15 @@ class Calls(InFolder):
 
     def test_options_are_those_of_the_library(self):
         default = _db_library.Options()
-        self.assertEqual(init_options()(ctypes.byref(default)), 0)
+        self.assertEqual(init_options()(ctypes.byref(default), ctypes.c_size_t(ctypes.sizeof(default))), 0)
         self.assertEqual(default.size, ctypes.sizeof(default))
         for name, value in zip(DbOptions._fields, DbOptions()):
             self.assertEqual(getattr(default, name), value, name)
-        for options in DbOptions(write_buffer_size=0), DbOptions(compactors=1 << 32), DbOptions(sync=7):
+        every_none = DbOptions(sync=Sync.EVERY, sync_milliseconds=0)
+        for options in DbOptions(write_buffer_size=0), DbOptions(compactors=1 << 32), DbOptions(sync=7), every_none:
             with self.assertRaises(BadOption):
                 Db(self.folder, options=options)
+        self.assertFalse(self.folder.exists())
         with self.assertRaises(UnknownOperator):
             Db(self.folder, 9)
         with self.assertRaises(ValueError):
@@ -166,6 +200,23 @@ class Calls(InFolder):
                 with self.assertRaises(TooLong):
                     db[b"k"] = bytes(1 << 32)
                 self.assertEqual(list(db), [])
+
+    def test_an_allocation_that_fails_is_an_error(self):
+        """A child whose address space is limited gets an exception, and the database goes on."""
+        for size in 1, 20, 60:
+            for allowed in range(0, 260 * size // 40, max(1, size // 4)):
+                child = subprocess.run(
+                    [sys.executable, "-c", WITHOUT_MEMORY, str(self.folder), str(size << 20), str(allowed << 20)],
+                    capture_output=True, text=True, check=False,
+                )
+                self.assertEqual((child.returncode, child.stderr), (0, ""), (size, allowed))
+
+    def test_the_database_needs_no_library_of_the_store(self):
+        child = subprocess.run(
+            [sys.executable, "-c", "from ucstore import Db\nprint(list(Db.in_memory()))"],
+            env={**os.environ, "UCSTORE_LIBRARY": "none.so"}, capture_output=True, text=True, check=True,
+        )
+        self.assertEqual(child.stdout, "[]\n")
 
     def test_other_calls(self):
         with Db(self.folder, options=DbOptions(sync=Sync.NEVER)) as db:
@@ -198,7 +249,7 @@ class Calls(InFolder):
 
 def init_options():
     """The library's function that fills in options."""
-    name = os.environ.get("UCSTORE_DB_LIBRARY") or "libucstore_db.so.1"
+    name = os.environ.get("UCSTORE_DB_LIBRARY") or "libucstore_db.so.2"
     return ctypes.CDLL(name).ucstore_db_options_init
 
 
@@ -213,6 +264,36 @@ class Refusals(InFolder):
         with self.assertRaises(FileFault):
             Db(file)
 
+    def test_a_directory_may_have_to_exist(self):
+        for _ in range(2):
+            with self.assertRaises(Missing):
+                Db(self.folder, must_exist=True)
+            self.assertFalse(self.folder.exists())
+        self.folder.mkdir()
+        with self.assertRaises(Missing):
+            Db(self.folder, must_exist=True)
+        self.assertEqual(os.listdir(self.folder), [])
+        with Db(self.folder) as db:
+            db[b"k"] = b"v"
+        with Db(self.folder, must_exist=True) as db:
+            self.assertEqual(db[b"k"], b"v")
+
+    def test_what_a_crash_left_is_set_aside(self):
+        with Db(self.folder, options=DbOptions(sync=Sync.NEVER)) as db:
+            db[b"k"] = b"v"
+            db[b"l"] = b"w" * 100
+            size = (self.folder / "000001.log").stat().st_size
+            kept = (self.folder / "000001.log").read_bytes()
+        (self.folder / "000001.log").write_bytes(kept[:size - 50] + b"x" * 50)
+        told = []
+        with Db(self.folder, events=told.append) as db:
+            self.assertEqual((db.get(b"k"), db.get(b"l")), (b"v", None))
+            stats = db.stats()
+        asides = [(event.text, event.bytes) for event in told if event.kind == EventKind.SET_ASIDE]
+        self.assertEqual([aside for _, aside in asides], [stats.set_aside_bytes])
+        self.assertGreater(stats.set_aside_bytes, 100)
+        self.assertEqual((self.folder / asides[0][0]).stat().st_size, stats.set_aside_bytes)
+
     def test_damage_is_named(self):
         with Db(self.folder) as db:
             for key in b"a", b"b", b"c":
@@ -221,7 +302,7 @@ class Refusals(InFolder):
         text = bytearray(log.read_bytes())
         text[40] ^= 0xFF
         log.write_bytes(text)
-        with self.assertRaisesRegex(Damaged, "000001.log is damaged at 28: a fault at 28"):
+        with self.assertRaisesRegex(Damaged, "000001.log is damaged at 32: a fault at 32"):
             Db(self.folder)
         with self.assertRaises(ReadOnly):
             with Db(self.folder, options=DbOptions(recovers_to_fault=True)) as db:
@@ -390,16 +471,25 @@ class Told(InFolder):
         told = []
         db = Db(self.folder, events=told.append)
         db[b"k"] = b"v"
-        # A checkpoint can't be made where nothing can be made.
-        os.rename(self.folder, self.folder.with_name("gone"))
-        with self.assertRaisesRegex(ReadOnly, "000002.log: No such file"):
-            db.checkpoint()
-        self.assertEqual([type(event.error) for event in told], [ReadOnly])
-        with self.assertRaises(ReadOnly):
+        limits = resource.getrlimit(resource.RLIMIT_FSIZE)
+        resource.setrlimit(resource.RLIMIT_FSIZE, (2000, limits[1]))
+        try:
+            for _ in range(2):
+                with self.assertRaisesRegex(FileFault, "000001.log: File too large"):
+                    db[b"l"] = bytes(3000)
+            self.assertEqual([type(event.error) for event in told], [FileFault])
+            # A smaller one has space.
             db[b"k"] = b"w"
-        self.assertEqual(db[b"k"], b"v")
-        with self.assertRaises(ReadOnly):
-            db.close()
+        finally:
+            resource.setrlimit(resource.RLIMIT_FSIZE, limits)
+        db[b"l"] = bytes(3000)
+        self.assertEqual((db[b"k"], len(db[b"l"])), (b"w", 3000))
+        # A checkpoint can't be made where nothing can be made, and writes go on.
+        os.rename(self.folder, self.folder.with_name("gone"))
+        with self.assertRaisesRegex(FileFault, "000002.log: No such file"):
+            db.checkpoint()
+        db[b"k"] = b"x"
+        db.close()
 
 
 class Threads(InFolder):

@@ -23,7 +23,7 @@ from unittest import mock
 
 import drawn
 from ucstore import Db, Delete, DeleteRange, FileFault, Merge, NotProtected, Operator, Options, Put, Store, batch_bytes
-from ucstore._shard import Claim, Manifest, Sequencer, acknowledged, batch_of, dumps, last_numbers, packed, sealed, unsealed
+from ucstore._shard import Claim, Manifest, Sequencer, _record, acknowledged, batch_of, dumps, last_numbers, packed, sealed, unsealed
 from ucstore._shard_files import Writer
 from ucstore._shard_part import Refusal, Shard
 from ucstore.sharded import AnotherWriter, BadManifest, LogDamaged, OlderFormat, Scan, ShardedError
@@ -254,6 +254,19 @@ class Sequencers(Folder):
         sequencer = Sequencer(Writer(self.folder, self.manifest, self.epoch, True, 0.1))
         self.addCleanup(sequencer.close)
         return sequencer
+
+    def test_a_record_without_some_of_its_sectors_is_torn(self):
+        records = [_record([number, *range(1, 101)]) for number in (7, 8)]
+        text = b"".join(records)
+        # The second record has bytes of three sectors: a crash may leave zeros for any of them.
+        for first, end in ((812, 1024), (1024, 1536), (1536, 1624)):
+            self.path.write_bytes(text[:first] + bytes(end - first) + text[end:])
+            self.assertEqual(last_numbers(self.path, 101)[0], 7)
+        # Other bytes than zeros are damage, and so is a sector of a record that isn't the last one.
+        for damaged in (text[:1100] + b"\xff" + text[1101:], bytes(512) + text[512:]):
+            self.path.write_bytes(damaged)
+            with self.assertRaisesRegex(LogDamaged, "sequencer.log is damaged at byte"):
+                last_numbers(self.path, 101)
 
     def test_a_torn_record_is_cut_off_and_damage_is_named(self):
         sequencer = self.opened()
@@ -516,7 +529,8 @@ class Shards(Folder):
             shard.apply(last, 2, part(Put(b"a", b"2")))
         shard = self.opened(last)
         self.assertEqual(self.value(shard, b"a"), b"1")
-        self.assertGreater(self.log.stat().st_size, size)
+        # What it had written of the batch was cut off.
+        self.assertEqual(self.log.stat().st_size, size)
         self.assertEqual(shard.apply(last, 2, part(Put(b"a", b"3"))), 2)
         del shard
         self.assertEqual(self.value(self.opened(2), b"a"), b"3")

@@ -189,7 +189,7 @@ class Options(NamedTuple):
     max_merge_width: int = 4294967295
     """The greatest number of runs for a compaction, at least `min_merge_width`."""
     compacts_itself: bool = True
-    """Whether the store compacts behind a flush. Else it does only from `stop_trigger` runs on."""
+    """Whether the store compacts after a flush. Else it does only from `stop_trigger` runs on."""
     max_write_buffer_number: int = 1
     """How many memtables are gathered at most, at least 1. With more than 1 a job flushes a full one, and a write only once as many are."""
 
@@ -435,19 +435,40 @@ _Function = Callable[..., int]
 
 
 class _Library:
-    """The functions of `ucstore.h`, without their prefix. It says what each does and what its caller owes."""
+    """The functions of `ucstore.h`, without their prefix. It says what each does and what its caller owes.
+
+    The shared object is loaded at the first call: a program that uses `Db` alone doesn't need it.
+    """
 
     def __init__(self) -> None:
+        self._loading = threading.Lock()
+        self._is_loaded = False
+
+    def load(self) -> None:
+        """Loads the shared object, unless that is done. Raises `OSError` and `ImportError`."""
+        with self._loading:
+            if not self._is_loaded:
+                self.__dict__.update(self._functions())
+                self._is_loaded = True
+
+    def __getattr__(self, name: str) -> "_Function":
+        if name not in _SIGNATURES:
+            raise AttributeError(name)
+        self.load()
+        function: _Function = self.__dict__[name]
+        return function
+
+    @staticmethod
+    def _functions() -> "Dict[str, _Function]":
         library = _load()
         if library.ucstore_version() != _ABI:
             raise ImportError(f"the functions of {library._name} aren't of version {_ABI}")
+        functions = {}
         for name, types in _SIGNATURES.items():
             function = getattr(library, f"ucstore_{name}")
             function.argtypes, function.restype = types, ctypes.c_int32
-            setattr(self, name, function)
-
-    def __getattr__(self, name: str) -> "_Function":
-        raise AttributeError(name)
+            functions[name] = function
+        return functions
 
 
 _library = _Library()
@@ -500,7 +521,7 @@ def _text_at(room: memoryview, place: int) -> Tuple[bytes, int]:
 
 
 def _cut(values: bytes, lengths: Iterable[int]) -> Iterator[Optional[bytes]]:
-    """Values that stand one behind the other. A length may say that there is none."""
+    """Values that stand one after the other. A length may say that there is none."""
     place = 0
     for length in lengths:
         if length == _NO_VALUE:
@@ -571,7 +592,8 @@ class _Held:
     """An object over a handle of the library. Its calls wait for one another, so that threads may share it."""
 
     def _begin(self) -> None:
-        """A handle that is all zeros."""
+        """A handle that is all zeros. Raises `OSError` and `ImportError` if the library isn't there."""
+        _library.load()
         self._at = _Handle()
         self._handle = ctypes.byref(self._at)
         self._lock = threading.RLock()
@@ -634,7 +656,7 @@ class WriteBatch(_Held):
     def add(self, operations: Iterable[Operation]) -> None:
         """Adds operations. Raises what `put` does."""
         for operation in operations:
-            self._call(_ADDS[type(operation)], *_texts(*operation))
+            self._call(getattr(_library, _ADDS[type(operation)]), *_texts(*operation))
 
     def clear(self) -> None:
         """Removes all operations. Their memory stays for others."""
@@ -680,10 +702,7 @@ class WriteBatch(_Held):
             self.close()
 
 
-_ADDS = {
-    Put: _library.batch_put, Delete: _library.batch_delete, Merge: _library.batch_merge,
-    DeleteRange: _library.batch_delete_range,
-}
+_ADDS = {Put: "batch_put", Delete: "batch_delete", Merge: "batch_merge", DeleteRange: "batch_delete_range"}
 
 
 def _batch_of(operations: Union[WriteBatch, Iterable[Operation]]) -> WriteBatch:
@@ -701,7 +720,7 @@ def batch_bytes(operations: Iterable[Operation], sequence: int = 0) -> bytes:
 
 
 class _HeldReader(_Held, _Reader):
-    """A store or a view, which the library reads by functions of the same names behind a prefix."""
+    """A store or a view, which the library reads by functions of the same names after a prefix."""
 
     _prefix = ""
 
@@ -1014,7 +1033,7 @@ class Snapshot(_Reader):
         self._is_held = True
 
     def release(self) -> None:
-        """Releases the snapshot. A second call does nothing, and neither does one behind the store's end."""
+        """Releases the snapshot. A second call does nothing, and neither does one after the store's end."""
         if self._is_held:
             self._is_held = False
             if self._store._at.at is not None:
@@ -1071,8 +1090,8 @@ class View(_HeldReader):
 class Checkpoint(_Held):
     """The rows of a view at its last sequence as a log, piece by piece, as `View.checkpoint` makes it.
 
-    `Store.open` opens a store of exactly these rows from the pieces one behind the other. They are numbered from 1, so
-    batches that were written later go on behind them.
+    `Store.open` opens a store of exactly these rows from the pieces one after the other. They are numbered from 1, so
+    batches that were written later go on after them.
 
         >>> with Store(Operator.APPEND) as store:
         ...     store[b"colour"] = b"red"
@@ -1093,7 +1112,7 @@ class Checkpoint(_Held):
         return self
 
     def __next__(self) -> bytes:
-        """The next piece. Raises `NoCheckpoint`, `TooLong` and `OutOfMemory`: no piece comes behind one."""
+        """The next piece. Raises `NoCheckpoint`, `TooLong` and `OutOfMemory`: no piece comes after one."""
         with self._lock:
             if self._is_done:
                 raise StopIteration
@@ -1204,13 +1223,13 @@ class LogWrites:
 
     @property
     def offset(self) -> int:
-        """Where the log goes on behind the batches that were read."""
+        """Where the log goes on after the batches that were read."""
         return int(self._place.offset)
 
     def end(self) -> Tuple[int, Ended]:
         """Passes over what is left, and returns where the log goes on, and how it ends.
 
-        A log's file is cut to this length before more is appended to it: what is behind may be a torn record, or zeros
+        A log's file is cut to this length before more is appended to it: what is after may be a torn record, or zeros
         that a crash left. Raises `OutOfMemory`.
         """
         self._batch = iter(())

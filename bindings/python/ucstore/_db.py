@@ -1,6 +1,6 @@
 """`Db`: a durable database for many threads, in a folder.
 
-It loads the file that `UCSTORE_DB_LIBRARY` names, else `libucstore_db.so.1` beside this module, else the one that the
+It loads the file that `UCSTORE_DB_LIBRARY` names, else `libucstore_db.so.2` beside this module, else the one that the
 system's loader finds, when the first database is opened.
 """
 
@@ -87,7 +87,7 @@ class DbBatch(Alone):
 class DbSnapshot(Alone, Reader):
     """What a database held at a moment, as `Db.snapshot` makes it. It stays so, whatever is written.
 
-    It is read behind the end of its database too. It holds the memory of what it has, until `with` closes it.
+    It is read after the end of its database too. It holds the memory of what it has, until `with` closes it.
     """
 
     _close = "snapshot_close"
@@ -153,14 +153,15 @@ class Db(Reader):
         recover_to: Optional[int] = None,
         give_up_until: Optional[int] = None,
         marks: Sequence[int] = (),
+        must_exist: bool = False,
     ) -> None:
-        """Opens the database of a folder, which is made if it isn't there.
+        """Opens the database of a directory, which is made if it isn't there. With `must_exist` that raises `Missing` instead.
 
         `progress` is told how far the opening is, and `events` what the database does: by the thread that did it, which
         waits meanwhile. Both may call the database, but for its `close`.
 
-        What the files have behind the sequence `recover_to` is given up: it is cut off before the first write. No batch of
-        that may begin behind `give_up_until`. Snapshots are made at the sequences `marks`, for `take_mark`. Each of these
+        What the files have after the sequence `recover_to` is given up: it is cut off before the first write. No batch of
+        that may begin after `give_up_until`. Snapshots are made at the sequences `marks`, for `take_mark`. Each of these
         is the end of a batch.
 
         Raises `Locked`, `Damaged`, `Missing`, `NotRecoverable`, `OtherOperator`, `FileFault`, `BadOption`, `OutOfMemory`,
@@ -171,6 +172,7 @@ class Db(Reader):
             raise ValueError("a zero byte is in the folder's name")
         given = Options.of(operator, options)
         given.recover(recover_to, give_up_until, marks)
+        given.must_exist = must_exist
         self._begin(given, progress, events, "open", name)
 
     @classmethod

@@ -44,7 +44,7 @@ class Options(ctypes.Structure):
         ("slow_trigger", ctypes.c_uint32), ("checkpoint_ratio", _U64), ("checkpoint_least", _U64),
         ("recovers_to_fault", ctypes.c_uint32), ("progress", _ProgressFunction), ("progress_context", _Pointer),
         ("event", _EventFunction), ("event_context", _Pointer), ("recover_to", _U64), ("give_up_until", _U64),
-        ("marks", ctypes.POINTER(_U64)), ("marks_count", _Size),
+        ("marks", ctypes.POINTER(_U64)), ("marks_count", _Size), ("must_exist", ctypes.c_uint32), ("reserved", ctypes.c_uint32),
     ]
 
     @classmethod
@@ -123,7 +123,7 @@ _SIGNATURES: Dict[str, Sequence[Any]] = {
 }
 
 # The version of the library's functions.
-_ABI = 1
+_ABI = 2
 
 # A function of the library, which answers a status.
 _Function = Callable[..., int]

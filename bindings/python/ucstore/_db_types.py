@@ -58,7 +58,7 @@ class Closed(DbError, ValueError):
 
 
 class Forked(DbError):
-    """The process was forked behind the opening. A child opens a database of its own."""
+    """The process was forked after the opening. A child opens a database of its own."""
 
     status = 71
 
@@ -105,8 +105,8 @@ class DbOptions(NamedTuple):
 
     sync: Sync = Sync.ALWAYS
     """When a write is on the device."""
-    sync_milliseconds: int = 0
-    """For `Sync.EVERY`."""
+    sync_milliseconds: int = 100
+    """For `Sync.EVERY`, at least 1."""
     write_buffer_size: int = 4194304
     """From how many bytes on the memtable is full, at least 1."""
     compaction_trigger: int = 4
@@ -122,7 +122,7 @@ class DbOptions(NamedTuple):
     max_merge_width: int = 4294967295
     """The greatest number of runs for a compaction, at least `min_merge_width`."""
     compactors: int = 2
-    """How many threads flush and compact. Without any, writes do."""
+    """How many threads compact; one more is kept for flushes. Without any, writes do both."""
     slow_trigger: int = 20
     """From how many runs on writes are slowed, by a millisecond each time."""
     checkpoint_ratio: int = 2
@@ -154,9 +154,11 @@ class EventKind(enum.IntEnum):
     CHECKPOINTED = 2
     """A base was written, whose name is the text. The logs before it are gone."""
     STALLED = 3
-    """Writes are slowed, or wait, from now on: there are too many runs."""
+    """Writes are slowed, or wait, from now on: flushes or compactions fall behind."""
     FAILED = 4
     """A log or a checkpoint failed: the error says why."""
+    SET_ASIDE = 5
+    """The opening cut bytes off the end of the last log, where a crash had left them, and wrote them to the file that the text names."""
 
 
 class Event(NamedTuple):
@@ -171,7 +173,7 @@ class Event(NamedTuple):
     """How long it took."""
     text: str
     error: Optional[UcstoreError]
-    """Of a failure: behind `ReadOnly` nothing can be written any more."""
+    """Of a failure: after `ReadOnly` nothing can be written any more."""
 
 
 class DbStats(NamedTuple):
@@ -208,7 +210,7 @@ class DbStats(NamedTuple):
     sync_p99: int
     """The time that 99 percent of them kept to."""
     stalls: int
-    """How often writes began to be slowed, or waited for a compaction."""
+    """How often writes began to be slowed, or waited for a flush or a compaction."""
     slowed: int
     """How many groups of writes were slowed."""
     stalled: int
@@ -231,3 +233,5 @@ class DbStats(NamedTuple):
     """The same of those that filters answered: no write of a run touched the key."""
     lookups_by_runs: int
     """The same of those that runs answered."""
+    set_aside_bytes: int
+    """The bytes that the opening cut off the last log, where a crash had left them, and set aside."""

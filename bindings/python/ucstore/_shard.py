@@ -37,6 +37,9 @@ PIECE = 2000
 # From how many bytes on the sequencer's log is begun anew.
 MOST_RECORDS = 1 << 20
 
+# The bytes that a device writes whole.
+_SECTOR = 512
+
 
 def dumps(found: Any) -> bytes:
     """What is sent, in one piece: Dask would send the texts of a list one by one."""
@@ -315,14 +318,14 @@ def _record(numbers: Sequence[int]) -> bytes:
 def last_numbers(path: Path, count: int) -> Sequence[int]:
     """The numbers of the last record of a sequencer's log. Raises `LogDamaged`.
 
-    A crash leaves less than a record at the end, or zeros in its place: this is passed over. Any
+    A crash leaves less than a record at the end, or zeros in some of its sectors: this is passed over. Any
     other record was whole, and may have been acknowledged. So it must have its checksum.
     """
     text, size = path.read_bytes(), 8 * count + 4
     numbers: Sequence[int] = ()
     for place in range(0, len(text), size):
         record = text[place : place + size]
-        if numbers and place + size >= len(text) and (len(record) < size or not any(record)):
+        if numbers and place + size >= len(text) and (len(record) < size or _is_torn(record, place)):
             break
         body, checksum = record[:-4], record[-4:]
         if len(record) < size or crc32(body).to_bytes(4, "little") != checksum:
@@ -331,6 +334,14 @@ def last_numbers(path: Path, count: int) -> Sequence[int]:
     if not numbers:
         raise LogDamaged(f"{path} is damaged at byte 0")
     return numbers
+
+
+def _is_torn(record: bytes, place: int) -> bool:
+    """Whether a crash may have left a last record like this: without its checksum, and with a sector of zeros."""
+    if crc32(record[:-4]).to_bytes(4, "little") == record[-4:]:
+        return False
+    begins = [0, *range(_SECTOR - place % _SECTOR, len(record), _SECTOR)]
+    return any(not any(record[begin:end]) for begin, end in zip(begins, [*begins[1:], len(record)]))
 
 
 def acknowledged(folder: Path, count: int) -> Sequence[int]:

@@ -2,6 +2,6 @@
 
 fn main() {
     println!("cargo:rerun-if-changed=build.rs");
-    println!("cargo:rustc-cdylib-link-arg=-Wl,-soname,libucstore_db.so.1");
+    println!("cargo:rustc-cdylib-link-arg=-Wl,-soname,libucstore_db.so.2");
     println!("cargo:rustc-cdylib-link-arg=-Wl,-z,defs,-z,relro,-z,now");
 }

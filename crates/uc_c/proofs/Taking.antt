@@ -9,6 +9,7 @@ use Rattle.uc_batch.specs.Gathering.{numbered_text}
 use Rattle.uc_batch.specs.Spelling.{batch_text}
 use Rattle.uc_batch.specs.declared.error.BatchError.{BatchError}
 use Rattle.uc_live.specs.Going.{GoesOn}
+use Rattle.uc_live.specs.LiveFlushes.{HadRoom}
 use Rattle.uc_live.specs.Lives.{last}
 use Rattle.uc_live.specs.Writing.{IsBatchPrepared, IsBatchWritten, Prepares, next_batch}
 use Rattle.uc_live.specs.declared.write_error.WriteError.{WriteError}
@@ -49,12 +50,13 @@ module _ (bytes : List ℕ) (ops : List Op) (e e' : Engined) where
         kind = kind;
         goes_on = subst (GoesOn (meaning_of e.kind) e.live e'.live) so.0 written.goes_on;
         none_prepared = written.none_prepared;
+        room = subst (HadRoom e'.live) so.0 written.room;
       }
 
   pub prepared : bytes ≡ batch_text 0 ops → AreReadSo ops → e'.kind ≡ e.kind → IsBatchPrepared (meaning_of e.kind) bytes e.live e'.live → ArePrepared ops e e'
   prepared text only kind waits =
       let so = only (last e.live) waits.writes (sym (next_is (last e.live) bytes ops text) ∙ waits.is) in
-      record { left = so.1; kind = kind; prepares = subst (Prepares (meaning_of e.kind) e.live e'.live) so.0 waits.prepares }
+      record { left = so.1; kind = kind; prepares = subst (Prepares (meaning_of e.kind) e.live e'.live) so.0 waits.prepares; room = waits.room }
 
   pub declined : (error : WriteError) (status : ℤ) → bytes ≡ batch_text 0 ops → AreRead ops → DeclinesBatch bytes e e' error → GatheredSays error status → DeclinesOps status ops e e'
   declined (Faulty fault) status text read d says = (d.1, inl (says, spent (last e.live) bytes ops fault text read d.0))

@@ -6,6 +6,7 @@ use Rattle.uc_batch.specs.Gathering.{RefusesOp}
 use Rattle.uc_batch.specs.Spelling.{batch_text}
 use Rattle.uc_live.specs.Compacting.{HasNoRoom}
 use Rattle.uc_live.specs.Going.{GoesOn}
+use Rattle.uc_live.specs.LiveFlushes.{HasRoom, HadRoom}
 use Rattle.uc_live.specs.Lives.{last}
 use Rattle.uc_live.specs.Writing.{Prepares}
 use Rattle.uc_engine.specs.Engines.{Engined, meaning_of}
@@ -35,12 +36,14 @@ pub record AreTaken (ops : List Op) (e e' : Engined) : Type 0 where
   pub kind : e'.kind ≡ e.kind
   pub goes_on : GoesOn (meaning_of e.kind) e.live e'.live (numbered (last e.live + 1) ops)
   pub none_prepared : e'.live.prepared ≡ []
+  pub room : HadRoom e'.live (numbered (last e.live + 1) ops)
 
 -- They wait, with these sequences.
 pub record ArePrepared (ops : List Op) (e e' : Engined) : Type 0 where
   pub left : AreLeft ops e
   pub kind : e'.kind ≡ e.kind
   pub prepares : Prepares (meaning_of e.kind) e.live e'.live (numbered (last e.live + 1) ops)
+  pub room : HasRoom e'.live
 
 -- The status says that too few sequences are left, or why there is no room. No operation is taken.
 abbrev pub DeclinesOps : ℤ → List Op → Engined → Engined → Type 0

@@ -1,6 +1,7 @@
 -- What flushes, compactions and snapshots do to the store behind a handle.
 use Rattle.std.specs.Prelude.{◌≡◌, [], ℕ, ℤ, Bool, Option}
 use Rattle.uc_live.specs.Compacting.{next_stretch, HasNoRoom, IsCompacted}
+use Rattle.uc_live.specs.Going.{GoesOn}
 use Rattle.uc_live.specs.Snapshots.{TakesSnapshot}
 use Rattle.uc_live.specs.Writing.{Prepares}
 use Rattle.uc_engine.specs.Engines.{Engined, meaning_of}
@@ -22,7 +23,8 @@ module _ (status : ℤ) (old new : Option Engined) where
   -- what is picked next is compacted, if anything is, or the status says why not
   abbrev pub Compacts : Bool → Type 0
   Compacts compacted = Tries RoomSays status old new
-      (λ e e'. (e'.kind ≡ e.kind) × IsCompacted (meaning_of e.kind) (next_stretch e.live) compacted e.live e'.live)
+      (λ e e'. (e'.kind ≡ e.kind) × IsCompacted (meaning_of e.kind) (next_stretch e.live) compacted e.live e'.live
+      × GoesOn (meaning_of e.kind) e.live e'.live [])
       (λ e e' error. HasNoRoom error e.live × (e' ≡ e))
 
   -- a snapshot is taken at the last sequence, or the status says why not

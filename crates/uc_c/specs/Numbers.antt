@@ -1,7 +1,7 @@
 -- Options, reports, and how a log ended, as the numbers that C sees.
 use Rattle.uc_batch.specs.declared.ended.Ended.{Ended}
 use Rattle.uc_batch.specs.declared.ended.Ended.TheVariants as ends
-use Rattle.std.specs.Prelude.{◌≡◌, ◌≢◌, ◌⊎◌, ◌==◌, ℤ, not}
+use Rattle.std.specs.Prelude.{◌≡◌, ◌≢◌, ◌⊎◌, ◌==◌, ℕ, ℤ, not}
 use Rattle.uc_live.specs.declared.live_options.LiveOptions.{LiveOptions}
 use Rattle.uc_engine.specs.declared.report.EngineReport.{EngineReport}
 use Rattle.uc_c.specs.FaultCodes.{log_fault_code, batch_fault_code}
@@ -12,9 +12,9 @@ use Rattle.uc_c.specs.declared.c_report.TheConstants.{REPORT_SIZE}
 use Rattle.uc_c.specs.declared.status.TheConstants.{OK, BAD_SIZE}
 use Rattle.uc_c.specs.declared.c_ended.TheConstants.{CLEAN, TORN, LOG_FAULT, BATCH_FAULT}
 
--- the options of a store
-abbrev pub options_in : COptions → LiveOptions
-options_in c = record {
+-- the options of the store with a number
+abbrev pub options_in : COptions → ℕ → LiveOptions
+options_in c number = record {
   store = record {
     memtable = c.write_buffer_size;
     trigger = c.compaction_trigger;
@@ -27,6 +27,7 @@ options_in c = record {
   stop_trigger = c.stop_trigger;
   max_write_buffer_number = c.max_write_buffer_number;
   compacts_itself = not (c.compacts_itself == 0);
+  id = record { number = number };
 }
 
 -- how a log ended: its kind, the offset in the log or the number of the payload, and the code of the fault

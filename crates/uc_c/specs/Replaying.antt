@@ -1,9 +1,10 @@
 -- A log whose batches are written to a store again, one at a call.
-use Rattle.std.specs.Prelude.{◌≡◌, ◌≢◌, ◌⊎◌, ℕ, ℤ, Bool, false, ◌+◌, ◌<◌, List, [], length}
+use Rattle.std.specs.Prelude.{◌≡◌, ◌≢◌, ◌⊎◌, ℕ, ℤ, Bool, false, ◌+◌, ◌<◌, ◌≤◌, List, [], length}
 use Rattle.uc_bytes.specs.declared.write.Write.{Write}
 use Rattle.uc_batch.specs.declared.ended.Ended.{Ended}
 use Rattle.uc_live.specs.Compacting.{HasNoRoom}
 use Rattle.uc_live.specs.Going.{GoesOn}
+use Rattle.uc_live.specs.LiveFlushes.{HadRoom}
 use Rattle.uc_live.specs.Lives.{last}
 use Rattle.uc_engine.specs.Engines.{Engined, meaning_of}
 use Rattle.uc_c.specs.declared.c_ended.CEnded.{CEnded}
@@ -27,13 +28,14 @@ abbrev pub TookNone : Engined → Engined → Type 0
 TookNone e e' = (e' ≡ e) ⊎ Took [] e e'
 
 module _ (log : List ℕ) (place : CLogPlace) (may_skip : Bool) (e e' : Engined) where
-  -- The next batch was taken, and leads to the place behind it. It has the sequence behind the last one, unless it may skip
+  -- The next batch was taken, behind fewer writes than fill the memtables, and leads to the place behind it. It has the sequence behind the last one, unless it may skip
   -- some.
   pub record IsReplayed (behind : CLogPlace) : Type 0 where
     pub writes : List Write
     pub next : ComesNext writes log place behind
     pub follows : may_skip ≡ false → behind.last ≡ place.last + length writes
     pub took : Took writes e e'
+    pub room : HadRoom e'.live writes
 
   -- The next batch leaves sequences out, and may not.
   pub record LeavesGap : Type 0 where
@@ -54,12 +56,13 @@ module _ (status : ℤ) (log : List ℕ) (old new : CLogPlace) (may_skip : Bool)
   -- No batch is ahead, and it is told how far the log was read.
   pub record StopsThere : Type 0 where
     pub found : Ended
+    pub there : old.offset ≤ length log
     pub ends : EndsAt found log old
     pub told : status ≡ LOG_ENDS
     pub ended_is : ended' ≡ ended_in found
 
-  -- No walk leads to the place, or not to one of this store: there are more batches than bytes before it, it is past the
-  -- log, or its last sequence isn't the store's.
+  -- It is told of some places that no walk leads to, or not to one of this store: there are more batches than bytes before
+  -- it, it is past the log, or its last sequence isn't the store's. Of one within a record it isn't.
   abbrev pub IsElsewhere : Type 0
   IsElsewhere = (status ≡ BAD_PLACE) × ((old.offset < old.batches) ⊎ ((length log < old.offset) ⊎ (old.last ≢ last e.live)))
 

@@ -4,7 +4,7 @@ ghost use Rattle.uc_c.specs.declared.status.TheConstants.{OK};
 
 use crate::status::OK;
 use std::mem::size_of;
-use uc_engine::{LiveOptions, Options};
+use uc_engine::{LiveOptions, Options, StoreId};
 
 /// How many bytes the struct has.
 pub const OPTIONS_SIZE: usize = 48;
@@ -40,9 +40,9 @@ const _: () = prove!(size_of::<COptions>() == OPTIONS_SIZE);
 impl COptions {
     ghost use Rattle.uc_c.specs.Numbers.{options_in};
 
-    /// The options of a store.
-    pub fn options(&self) -> LiveOptions
-        ensures { result ≡ options_in self.now }
+    /// The options of the store with a number.
+    pub fn options(&self, number: u64) -> LiveOptions
+        ensures { result ≡ options_in self.now number }
     {
         LiveOptions {
             store: Options {
@@ -57,6 +57,7 @@ impl COptions {
             stop_trigger: self.stop_trigger,
             max_write_buffer_number: self.max_write_buffer_number,
             compacts_itself: self.compacts_itself != 0,
+            id: StoreId { number },
         }
     }
 }

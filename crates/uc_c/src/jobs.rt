@@ -3,12 +3,15 @@ ghost use Rattle.std.specs.Prelude.{◌≡◌, ◌⊎◌, ◌↔◌, Some, IsTru
 ghost use Rattle.uc_engine.specs.declared.taken_job.TakenJob.TheVariants as kinds;
 ghost use Rattle.uc_c.specs.declared.status.TheConstants.{OK, NO_JOB};
 ghost use Rattle.uc_c.specs.Jobs as jobs;
-ghost use Rattle.uc_c.specs.Jobs.{EndsTaken, IsOwnJob, RunsJob, Takes, TakesJob, TakesNone, TellsSize};
+ghost use Rattle.uc_c.specs.Jobs.{EndsTaken, IsOwnJob, RunsJob, TakesJob, TakesNone, TakesOne, TellsSize};
+ghost use Rattle.uc_engine.specs.StoreJobs.{IsOf};
 ghost use Rattle.uc_c.specs.Replies.{Closes};
 
 use crate::status::{HAS_JOB, JOB_ENDED, NO_JOB, NO_STORE, NOT_OF_STORE, OK, OUT_OF_MEMORY};
 use std::alloc::{AllocError, Global};
-use uc_engine::{Engine, EngineJob, FlushEnd, FlushJob, JobEnd, JobStage, TakenJob, flushes_go_in};
+use uc_engine::{
+    Engine, EngineJob, FlushEnd, FlushJob, JobEnd, JobStage, StoreJob, TakenJob, flushes_go_in,
+};
 use uc_handle::{Handle, JobHandle};
 use uc_oper::Counter;
 use uc_version::{claimable_stretches_can_be_compacted, claims_are_held};
@@ -64,31 +67,33 @@ fn give_back(alloc: Global, engine: &mut Engine, job: &mut TakenJob)
     }
 }
 
-/// A job that is taken, in a box, if there is one. An `Err` changes nothing but how many flush jobs were taken.
-fn start(alloc: Global, engine: &mut Engine) -> Result<Option<Box<TakenJob>>, AllocError>
-    ensures ok { IfOk result (λ job. Takes (option_map (λ b. b.value) job) engine.old engine.new) }
+/// A job that is taken, with the store's id, in a box, if there is one. An `Err` changes nothing but how many flush jobs were
+/// taken.
+fn start(alloc: Global, engine: &mut Engine) -> Result<Option<Box<StoreJob>>, AllocError>
+    ensures ok { IfOk result (λ job. TakesOne (option_map (λ b. b.value) job) engine.old engine.new) }
     ensures err { OnErr result (TakesNone engine.old engine.new) }
 {
     engine.recall();
     claims_are_held();
     claimable_stretches_can_be_compacted::<Counter>();
     flushes_go_in::<Counter>();
+    let store = engine.id();
     let Some(job) = engine.take_job(alloc)? else {
         return Ok(None);
     };
-    match Box::new(alloc, job) {
+    match Box::new(alloc, StoreJob { store, job }) {
         Ok(started) => Ok(Some(started)),
         Err(refused) => {
             let mut started = refused.value;
-            give_back(alloc, engine, &mut started);
+            give_back(alloc, engine, &mut started.job);
             Err(AllocError)
         }
     }
 }
 
 /// Whether the job has ended.
-fn is_ended(job: &TakenJob) -> bool
-    ensures { IsTrue result ↔ jobs.HasEnded job.now }
+fn is_ended(job: &StoreJob) -> bool
+    ensures { IsTrue result ↔ jobs.HasEnded job.now.job }
 {
     matches!(job.stage(), JobStage::Ended)
 }
@@ -115,11 +120,11 @@ pub extern "C" fn ucstore_job_run(alloc: Global, job: &mut JobHandle) -> i32
 }
 
 /// Ends a job that was taken from the store: puts its run there, if it was run and isn't refused, which `installed`
-/// says, and lets the store flush its writes or compact its runs again. It frees no memory: the job keeps what it had until
-/// it is closed. It is refused if the job has ended, and if the store doesn't hold the claim of a compaction.
+/// says, and lets the store flush its writes or compact its runs again. It frees no run and no memtable: the job keeps what it had until
+/// it is closed. It is refused if the job has ended, and if it was taken from another store.
 ///
-/// C owes that the job is the store's own, if the store holds its claim, or its number: a job is ended on no other store
-/// than the one that it was taken from. No other function has such a demand.
+/// What it requires is that a job with the store's id is the store's own, as `taken_jobs_are_own` says of those that were taken
+/// from it. Each store has a number of its own, so C owes nothing for it.
 #[unsafe(no_mangle)]
 pub extern "C" fn ucstore_job_end(
     alloc: Global,
@@ -140,7 +145,7 @@ pub extern "C" fn ucstore_job_end(
 }
 
 /// Ends a job, as [`ucstore_job_end`] does.
-fn end_held(alloc: Global, handle: &mut Handle, job: &mut TakenJob, installed: &mut bool) -> i32
+fn end_held(alloc: Global, handle: &mut Handle, job: &mut StoreJob, installed: &mut bool) -> i32
     requires own { IsOwnJob handle.old.held (Some job.old) }
     ensures ends { EndsTaken result handle.old.held handle.new.held (Some job.old) (Some job.new) installed.new }
     ensures untold { (result ≡ OK) ⊎ (installed.new ≡ installed.old) }
@@ -162,11 +167,24 @@ fn end_held(alloc: Global, handle: &mut Handle, job: &mut TakenJob, installed: &
     }
 }
 
-/// Ends a job that hasn't ended. Tells whether its run was installed, or nothing if the engine doesn't hold its claim.
-fn end(alloc: Global, engine: &mut Engine, job: &mut TakenJob) -> Option<bool>
+/// Ends a job that hasn't ended. Tells whether its run was installed, or nothing if it was taken from another store.
+fn end(alloc: Global, engine: &mut Engine, job: &mut StoreJob) -> Option<bool>
+    requires lasts { ¬ jobs.HasEnded job.old.job }
+    requires own { IsOf engine.old job.old → jobs.IsOwn engine.old job.old.job }
+    ensures { jobs.IsTakenBack engine.old engine.new job.old job.new result }
+{
+    if !engine.is_of(job) {
+        return None;
+    }
+    end_own(alloc, engine, &mut job.job)
+}
+
+/// Ends a job of the engine that hasn't ended. Tells whether its run was installed, or nothing if the engine doesn't hold its
+/// claim.
+fn end_own(alloc: Global, engine: &mut Engine, job: &mut TakenJob) -> Option<bool>
     requires lasts { ¬ jobs.HasEnded job.old }
     requires own { jobs.IsOwn engine.old job.old }
-    ensures { jobs.IsTakenBack engine.old engine.new job.old job.new result }
+    ensures { jobs.IsBack engine.old engine.new job.old job.new result }
 {
     match job {
         TakenJob::Flush(flush) => Some(end_flush(alloc, engine, flush)),
@@ -178,7 +196,7 @@ fn end(alloc: Global, engine: &mut Engine, job: &mut TakenJob) -> Option<bool>
 fn end_flush(alloc: Global, engine: &mut Engine, job: &mut FlushJob) -> bool
     requires lasts { ¬ jobs.HasEnded (kinds.Flush job.old) }
     requires own { jobs.IsOwn engine.old (kinds.Flush job.old) }
-    ensures { jobs.IsTakenBack engine.old engine.new (kinds.Flush job.old) (kinds.Flush job.new) (Some result) }
+    ensures { jobs.IsBack engine.old engine.new (kinds.Flush job.old) (kinds.Flush job.new) (Some result) }
 {
     let end = engine.end_flush(alloc, job);
     is_flushed(&end)
@@ -195,7 +213,7 @@ fn is_flushed(end: &FlushEnd) -> bool
 fn end_compaction(engine: &mut Engine, job: &mut EngineJob) -> Option<bool>
     requires lasts { ¬ jobs.HasEnded (kinds.Compaction job.old) }
     requires own { jobs.IsOwn engine.old (kinds.Compaction job.old) }
-    ensures { jobs.IsTakenBack engine.old engine.new (kinds.Compaction job.old) (kinds.Compaction job.new) result }
+    ensures { jobs.IsBack engine.old engine.new (kinds.Compaction job.old) (kinds.Compaction job.new) result }
 {
     if !engine.has_out(job) {
         return None;

@@ -27,17 +27,19 @@ fn boxed(alloc: Global, engine: Engine) -> Result<Box<Engine>, LiveOpenError>
 }
 
 /// Puts an empty store behind the handle, whose operator is 0 for texts joined by commas, 1 for sums, 2 for the greater
-/// text or 3 for the last four bytes. It has no snapshot. It is refused if the handle has a store, if the options' size
+/// text or 3 for the last four bytes. It has no snapshot. By its number it knows its jobs: `bindings/c/ids.c` gives each store of
+/// a process another one. It is refused if the handle has a store, if the options' size
 /// isn't the one that this library knows, if no operator has the number, if an option is out of its range, and for want
 /// of memory.
 #[unsafe(no_mangle)]
-pub extern "C" fn ucstore_create(
+pub extern "C" fn numbered_ucstore_create(
     alloc: Global,
     handle: &mut Handle,
     operator: u32,
     options: &COptions,
+    number: u64,
 ) -> i32
-    ensures { Creates result handle.old.held handle.new.held operator options.now }
+    ensures { Creates result handle.old.held handle.new.held operator options.now number }
 {
     if let Some(engine) = handle.take(alloc) {
         handle.put(engine);
@@ -49,7 +51,7 @@ pub extern "C" fn ucstore_create(
     let Some(kind) = OperatorKind::of(operator) else {
         return UNKNOWN_OPERATOR;
     };
-    let engine = match Engine::create(alloc, kind, options.options()) {
+    let engine = match Engine::create(alloc, kind, options.options(number)) {
         Ok(engine) => engine,
         Err(error) => return open_status(error),
     };
@@ -63,18 +65,20 @@ pub extern "C" fn ucstore_create(
 }
 
 /// Puts a store behind the handle that is opened from the bytes of a write-ahead log: it has the writes before the
-/// log's first fault, and `ended` says whether there was one. It has no snapshot. It is refused as `ucstore_create` is,
+/// log's first fault, and `ended` says whether there was one. It has no snapshot. It is refused as
+/// `numbered_ucstore_create` is,
 /// and if no id is left for a run.
 #[unsafe(no_mangle)]
-pub extern "C" fn ucstore_open(
+pub extern "C" fn numbered_ucstore_open(
     alloc: Global,
     handle: &mut Handle,
     operator: u32,
     options: &COptions,
     log: &[u8],
     ended: &mut CEnded,
+    number: u64,
 ) -> i32
-    ensures opens { Opens result handle.old.held handle.new.held operator options.now log.now }
+    ensures opens { Opens result handle.old.held handle.new.held operator options.now number log.now }
     ensures ended { (result ≡ OK) → ended.new ≡ ended_in (log_writes log.now).ended }
     ensures untold { (result ≡ OK) ⊎ (ended.new ≡ ended.old) }
 {
@@ -88,7 +92,7 @@ pub extern "C" fn ucstore_open(
     let Some(kind) = OperatorKind::of(operator) else {
         return UNKNOWN_OPERATOR;
     };
-    let opened = match Engine::open(alloc, kind, log, options.options()) {
+    let opened = match Engine::open(alloc, kind, log, options.options(number)) {
         Ok(opened) => opened,
         Err(error) => return open_status(error),
     };

@@ -1,5 +1,5 @@
 //! [`Checkpoint`]: the rows of a view as a write-ahead log, piece by piece.
-ghost use Rattle.std.specs.Prelude.{◌≡◌, ◌≤◌, ◌<◌, ◌+◌, ◌^◌, ◌++◌, ◌∷◌, [], IfOk, IfErr, MatchOption, OnOk, length, take, option_map};
+ghost use Rattle.std.specs.Prelude.{◌≡◌, ◌≤◌, ◌<◌, ◌+◌, ◌^◌, ◌++◌, ◌∷◌, ℕ, [], IfOk, IfErr, MatchOption, OnOk, length, take, option_map};
 ghost use Rattle.uc_batch.specs.Gathering.{FitTogether, numbered_text};
 ghost use Rattle.uc_checkpoint.specs.Checkpoints.{LaysInto, LaysOut, RefusesPiece, all_rows, piece_size, put_of, puts_of, rows_behind, rows_left};
 ghost use Rattle.uc_checkpoint.specs.HeldCheckpoints.{IsNext, IsPage, Parts, RefusesRows, Splits};
@@ -17,6 +17,13 @@ use uc_query_read::{Rows, scan_rows_are_determined, scan_rows_are_first};
 
 /// The most rows of a piece.
 const MOST_ROWS: u64 = 1 << 16;
+
+/// A piece has at most 65,536 rows, and at least one of those that are left.
+pub fn pieces_have_a_most()
+    ensures most { (most : ℕ) → 1 ≤ most → most ≤ 65536 → piece_size most ≡ most }
+    ensures none { piece_size 0 ≡ 1 }
+    ensures more { (most : ℕ) → 65536 ≤ most → piece_size most ≡ 65536 }
+{}
 
 /// A view whose rows are laid out as a write-ahead log that puts them, piece by piece.
 pub struct Checkpoint<O: Operator> {

@@ -8,13 +8,13 @@
 //!
 //! An `Err` of `Memory` comes only if an allocation fails.
 //!
-//! Tests: `uc_tests_live`.
+//! Tests: `bindings/c/worked.c`, `bindings/c/test.c`.
 #![tactic(auto)]
 
 mod checkpoint;
 mod checkpoint_error;
 mod laws;
 
-pub use checkpoint::Checkpoint;
+pub use checkpoint::{Checkpoint, pieces_have_a_most};
 pub use checkpoint_error::CheckpointError;
 pub use laws::{pieces_are_read_back, pieces_in_rooms_are_read_back, rows_are_at_most_the_writes};

@@ -19,6 +19,7 @@ pub mod EngineJobs
 pub mod HeldEngineJobs
 pub mod EngineReports
 pub mod TakenJobs
+pub mod StoreJobs
 pub use Rattle.uc_checkpoint.specs.Checkpoints
 pub mod EngineCheckpoints
 pub mod HeldEngineCheckpoints

@@ -8,7 +8,7 @@ ghost use Rattle.uc_live.specs.Lives.{owner_in};
 use crate::each_operator::{kind_of, with_each};
 use crate::operator_kind::{LastBytes, OperatorKind, Texts};
 use std::marker::Model;
-use uc_live::{LiveStore, Version};
+use uc_live::{LiveStore, StoreId, Version};
 use uc_oper::{Counter, Maximum};
 
 /// A store of each operator.
@@ -59,6 +59,13 @@ impl Engine {
         ensures { result ≡ self.now.kind }
     {
         kind_of!(AnyStore, &self.store)
+    }
+
+    /// Which store it is, as its options say.
+    pub fn id(&self) -> StoreId
+        ensures { result ≡ self.now.live.options.id }
+    {
+        with_each!(AnyStore, &self.store, store => store.id())
     }
 
     /// What its runs hold.

@@ -12,7 +12,7 @@
 //!
 //! An `Err(AllocError)`, or a variant `Memory`, comes only if an allocation fails.
 //!
-//! Tests: `uc_tests_engine`.
+//! Tests: `bindings/rust/ucstore/tests/stories.rs`.
 #![tactic(auto)]
 
 mod compacting;
@@ -27,6 +27,7 @@ mod operator_kind;
 mod reading;
 mod report;
 mod snapshots;
+mod store_job;
 mod taken_job;
 mod writing;
 
@@ -37,14 +38,18 @@ pub use engine_view::EngineView;
 pub use opening::OpenedEngine;
 pub use operator_kind::OperatorKind;
 pub use report::EngineReport;
+pub use store_job::StoreJob;
 pub use taken_job::TakenJob;
 pub use uc_batch::{BatchError, Ended};
 pub use uc_bytes::{Bytes, OpRef};
-pub use uc_checkpoint::{CheckpointError, pieces_are_read_back, rows_are_at_most_the_writes};
+pub use uc_checkpoint::{
+    CheckpointError, pieces_are_read_back, pieces_have_a_most, rows_are_at_most_the_writes,
+};
 pub use uc_live::{
     FeedError, FlushEnd, FlushJob, GREATEST_STOP, InstallError, JobEnd, JobStage, LiveOpenError,
-    LiveOptions, LookupSource, Options, ReleaseError, RoomError, WriteError, batches_are_walked,
-    flushes_go_in, jobs_go_in, recorded_batch_is_recovered, sources_tell_what_values_come_of,
+    LiveOptions, LookupSource, Options, ReleaseError, RoomError, StoreId, WriteError,
+    batches_are_walked, commits_go_on, flushes_go_in, jobs_go_in, limits_have_their_numbers,
+    recorded_batch_is_recovered, sources_tell_what_values_come_of, spent_flushes_stay_spent,
 };
 pub use uc_oper::ValueRef;
 pub use uc_query_read::{Answer, Query, Rows};

@@ -5,7 +5,7 @@ ghost use Rattle.uc_live.specs.LiveOptions as live_options;
 ghost use Rattle.uc_live.specs.Lives.{created};
 ghost use Rattle.uc_live.specs.Going.{GoesOn};
 ghost use Rattle.uc_live.specs.declared.open_error.LiveOpenError.TheVariants.{BadOption, NoRoom};
-ghost use Rattle.uc_live.specs.declared.room_error.RoomError.TheVariants.{Memory};
+ghost use Rattle.uc_live.specs.declared.room_error.RoomError.TheVariants.{Memory, RunsClaimed};
 ghost use Rattle.uc_engine.specs.Engines.{meaning_of};
 ghost use Rattle.uc_engine.specs.HeldEngines.{kind_of, live_of};
 
@@ -70,6 +70,7 @@ impl Engine {
         ensures ended { IfOk result (λ found. found.ended ≡ (log_writes log.now).ended) }
         ensures good { IfOk result (λ _. live_options.are_good options ≡ true) }
         ensures err { IfErr result (λ error. error ≡ BadOption → live_options.are_good options ≡ false) }
+        ensures never { IfErr result (λ error. error ≢ NoRoom RunsClaimed) }
     {
         match kind {
             OperatorKind::Append => {

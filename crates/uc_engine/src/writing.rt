@@ -3,6 +3,7 @@ ghost use Rattle.std.specs.Prelude.{◌≡◌, ◌++◌, [], IfOk, IfErr, OnOk};
 ghost use Rattle.uc_batch.specs.Rising.{IsRising};
 ghost use Rattle.uc_live.specs.Compacting.{HasNoRoom};
 ghost use Rattle.uc_live.specs.Going.{GoesOn};
+ghost use Rattle.uc_live.specs.LiveFlushes.{HadRoom};
 ghost use Rattle.uc_live.specs.Lives as lives;
 ghost use Rattle.uc_live.specs.Recording.{IsRecorded};
 ghost use Rattle.uc_live.specs.Writing.{IsBatchPrepared, IsBatchWritten, IsWritten, Prepares, Refuses, RefusesBatch, next_batch};
@@ -43,6 +44,7 @@ impl Engine {
         requires rising { IsRising (lives.last self.old.live) writes }
         ensures kind { self.new.kind ≡ self.old.kind }
         ensures ok { OnOk result (GoesOn (meaning_of self.old.kind) self.old.live self.new.live writes.entry) }
+        ensures room { OnOk result (HadRoom self.new.live writes.entry) }
         ensures err { IfErr result (λ error. HasNoRoom error self.new.live
             × GoesOn (meaning_of self.old.kind) self.old.live self.new.live []) }
         ensures none { self.new.live.prepared ≡ [] }

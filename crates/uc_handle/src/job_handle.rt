@@ -1,7 +1,7 @@
 //! [`JobHandle`]: a job that C holds.
 ghost use Rattle.std.specs.Coded.{coded_option};
 ghost use Rattle.std.specs.Prelude.{◌≡◌, Option, Some, None, option_map};
-ghost use Rattle.uc_engine.specs.contracts.TakenJob.{the_row};
+ghost use Rattle.uc_engine.specs.contracts.StoreJob.{the_row};
 ghost use Rattle.uc_handle.specs.Address.{address_owns};
 
 use crate::loose::Loose;
@@ -9,7 +9,7 @@ use std::alloc::Global;
 use std::marker::{Model, Send};
 use std::mem::replace;
 use std::ptr::null_mut;
-use uc_engine::TakenJob;
+use uc_engine::StoreJob;
 
 /// A job that C holds: its address, which is null if there is none. It is as a [`Handle`](crate::handle::Handle).
 #[repr(C)]
@@ -38,14 +38,14 @@ impl JobHandle {
     }
 
     /// A handle of the box.
-    pub fn of(job: Box<TakenJob>) -> JobHandle
+    pub fn of(job: Box<StoreJob>) -> JobHandle
         ensures { result.held ≡ Some job.value }
     {
         JobHandle::from_loose(Loose::of(job))
     }
 
     /// The box, if there is one.
-    pub fn into_box(self) -> Option<Box<TakenJob>>
+    pub fn into_box(self) -> Option<Box<StoreJob>>
         ensures { option_map (λ b. b.value) result ≡ self.held }
     {
         match self.into_loose() {
@@ -55,7 +55,7 @@ impl JobHandle {
     }
 
     /// Takes the box out, and leaves a handle of no job.
-    pub fn take(&mut self, alloc: Global) -> Option<Box<TakenJob>>
+    pub fn take(&mut self, alloc: Global) -> Option<Box<StoreJob>>
         ensures result { option_map (λ b. b.value) result ≡ self.old.held }
         ensures left { self.new.held ≡ None }
     {
@@ -63,7 +63,7 @@ impl JobHandle {
     }
 
     /// Puts a box into a handle of no job.
-    pub fn put(&mut self, job: Box<TakenJob>)
+    pub fn put(&mut self, job: Box<StoreJob>)
         requires { self.old.held ≡ None }
         ensures { self.new.held ≡ Some job.value }
     {
@@ -74,7 +74,7 @@ impl JobHandle {
     }
 
     /// The address of a box that is taken apart.
-    fn from_loose(loose: Loose<TakenJob, Global>) -> JobHandle
+    fn from_loose(loose: Loose<StoreJob, Global>) -> JobHandle
         ensures { result.held ≡ Some loose.value }
     {
         let Loose { at, alloc } = loose;
@@ -85,7 +85,7 @@ impl JobHandle {
     }
 
     /// A box that is taken apart, of the address.
-    fn into_loose(self) -> Option<Loose<TakenJob, Global>>
+    fn into_loose(self) -> Option<Loose<StoreJob, Global>>
         ensures { option_map (λ l. l.value) result ≡ self.held }
     {
         let JobHandle { at, alloc } = self;
@@ -93,7 +93,7 @@ impl JobHandle {
             return None;
         }
         Some(Loose {
-            at: at.cast::<TakenJob>(),
+            at: at.cast::<StoreJob>(),
             alloc,
         })
     }

@@ -11,9 +11,11 @@ use Rattle.uc_version.specs.declared.job_stage.JobStage.{JobStage}
 use Rattle.uc_version.specs.declared.job_stage.JobStage.TheVariants as stages
 use Rattle.uc_version.specs.Jobs.{Task, run_stage}
 use Rattle.uc_live.specs.Going.{GoesOn, LetsLeave}
-use Rattle.uc_live.specs.LiveFlushes.{FlushTask, run, is_full, wants_flush, flush_of, with_flush, StartsFlush, has_flush_out, IsOwnFlush, IsFlushOut, IsFlushSpent}
+use Rattle.uc_live.specs.declared.flush_end.FlushEnd.{FlushEnd}
+use Rattle.uc_live.specs.declared.flush_end.FlushEnd.TheVariants.{Installed, NotRun, FlushedBefore, Refused}
+use Rattle.uc_live.specs.LiveFlushes.{FlushTask, run, is_full, wants_flush, flush_of, with_flush, StartsFlush, has_flush_out, Begin, EndsFlush, IsOwnFlush, IsFlushOut, IsFlushSpent}
 use Rattle.uc_live.specs.LiveJobs.{StartsJob, EndsJob}
-use Rattle.uc_live.specs.Lives.{Live}
+use Rattle.uc_live.specs.Lives.{Live, committed, unprepared}
 use Rattle.uc_live.specs.Snapshots.{TakesSnapshot, with_snapshot, without_one, is_among, without_snapshot}
 
 taken_lasts : stages.Taken ≢ stages.Ended
@@ -42,7 +44,7 @@ started_out true job old new is =
 pub flush_started : (old new : Live) (job : FlushTask) → StartsFlush (wants_flush old) (Some job) old new → IsFlushOut job new
 flush_started old new job starts = started_out (wants_flush old) job old new starts
 
-none_there : (leaving : Option ℕ) (b : Bool) → (is_none leaving && b) ≡ true → leaving ≡ None
+pub none_there : (leaving : Option ℕ) (b : Bool) → (is_none leaving && b) ≡ true → leaving ≡ None
 none_there None b e = refl
 none_there (Some n) b e = absurd (false≢true e)
 
@@ -59,16 +61,16 @@ flush_run l job out = record { lasts = run_lasts job.stage out.lasts; out = out.
 
 -- ---- and stays out, or its writes are flushed
 
-and_back : (a b : Bool) → (a && b) ≡ true → b ≡ true
+pub and_back : (a b : Bool) → (a && b) ≡ true → b ≡ true
 and_back true b e = e
 and_back false b e = absurd (false≢true e)
 
 -- nothing of it changes
-same_out : (old new : Live) (job : FlushTask) → new.flushes ≡ old.flushes → new.leaving ≡ old.leaving → has_flush_out new job ≡ has_flush_out old job
+pub same_out : (old new : Live) (job : FlushTask) → new.flushes ≡ old.flushes → new.leaving ≡ old.leaving → has_flush_out new job ≡ has_flush_out old job
 same_out old new job flushes leaving =
     ap (λ (o : Option ℕ). is_some o && (new.flushes == job.number)) leaving ∙ ap (λ n. is_some old.leaving && (n == job.number)) flushes
 
-none_out : (l : Live) (job : FlushTask) → l.leaving ≡ None → has_flush_out l job ≡ false
+pub none_out : (l : Live) (job : FlushTask) → l.leaving ≡ None → has_flush_out l job ≡ false
 none_out l job none = ap (λ (o : Option ℕ). is_some o && (l.flushes == job.number)) none
 
 pub flush_lets : (old new : Live) (job : FlushTask) → IsFlushOut job old → LetsLeave old new → IsFlushOut job new ⊎ IsFlushSpent job new
@@ -99,7 +101,7 @@ flush_same old new job flushes leaving gathered out = record {
   begin = (out.begin.0, gathered ∙ out.begin.1);
 }
 
-spent_same : (old new : Live) (job : FlushTask) → new.flushes ≡ old.flushes → new.leaving ≡ old.leaving → IsFlushSpent job old → IsFlushSpent job new
+pub spent_same : (old new : Live) (job : FlushTask) → new.flushes ≡ old.flushes → new.leaving ≡ old.leaving → IsFlushSpent job old → IsFlushSpent job new
 spent_same old new job flushes leaving spent =
     let taken = spent.taken in
     record { taken = omega (arith, taken, flushes); not_out = same_out old new job flushes leaving ∙ spent.not_out }
@@ -123,36 +125,39 @@ pub flush_ended_beside : (m : Operation) (old new : Live) (job : FlushTask) (oth
 flush_ended_beside m old new job other end out ends =
     flush_same old new job (ap (λ (l : Live). l.flushes) ends.1) (ap (λ (l : Live). l.leaving) ends.1) (ap (λ (l : Live). l.gathered) ends.1) out
 
+pub flush_committed : (l : Live) (job : FlushTask) → IsFlushOut job l → IsFlushOut job (committed l)
+flush_committed l job out = record { lasts = out.lasts; out = out.out; leaving = out.leaving; begin = more_begin job.writes l.gathered l.prepared out.begin }
+  where
+    more_begin : (ws all more : List Write) → Begin ws all → Begin ws (all ++ more)
+    more_begin ws all more begin = (begin.0 ++ more, ap (λ (us : List Write). us ++ more) begin.1 ∙ append_assoc ws begin.0 more)
+
+pub flush_given_up : (l : Live) (job : FlushTask) → IsFlushOut job l → IsFlushOut job (unprepared l)
+flush_given_up l job out = flush_same l (unprepared l) job refl refl refl out
+
+-- no other flush comes out beside it
+alone_beside : (b : Bool) (old new : Live) (job : FlushTask) (other : Option FlushTask) → (b ≡ true → old.leaving ≡ None) → IsFlushOut job old → StartsFlush b other old new → (other ≡ None) × IsFlushOut job new
+alone_beside false old new job other none out is = (is.0, subst (λ (l : Live). IsFlushOut job l) (sym is.1) out)
+alone_beside true old new job other none out is = let wrong : Some (length job.writes) ≡ None = sym out.leaving ∙ none refl in absurd cc
+
+pub flush_beside_flush : (old new : Live) (job : FlushTask) (other : Option FlushTask) → IsFlushOut job old → StartsFlush (wants_flush old) other old new → (other ≡ None) × IsFlushOut job new
+flush_beside_flush old new job other out starts =
+    alone_beside (wants_flush old) old new job other
+    (none_there old.leaving (nat_lt 1 old.options.max_write_buffer_number && (nat_lt old.flushes (2 ^ 64 - 1) && is_full old))) out starts
+
+-- one that has its number is out
+pub same_number : (l : Live) (job other : FlushTask) → has_flush_out l job ≡ true → has_flush_out l other ≡ true → other.number ≡ job.number
+same_number l job other out there =
+    let one : l.flushes ≡ job.number = eqb-true l.flushes job.number (and_back (is_some l.leaving) (l.flushes == job.number) out) in
+    let two : l.flushes ≡ other.number = eqb-true l.flushes other.number (and_back (is_some l.leaving) (l.flushes == other.number) there) in
+    sym two ∙ one
+
+pub flush_past_flush : (old new : Live) (job other : FlushTask) (end : FlushEnd) → IsFlushOut job old → other.number ≢ job.number → EndsFlush other old new end → IsFlushOut job new
+flush_past_flush old new job other (Installed id) out differs is = absurd (differs (same_number old job other out.out is.1))
+flush_past_flush old new job other NotRun out differs is = absurd (differs (same_number old job other out.out is.1))
+flush_past_flush old new job other FlushedBefore out differs is = subst (λ (l : Live). IsFlushOut job l) (sym is.1) out
+flush_past_flush old new job other (Refused error) out differs is = absurd (differs (same_number old job other out.out is.1))
+
 -- ---- the store takes it back
 
 pub flush_own : (l : Live) (job : FlushTask) → IsFlushOut job l → IsOwnFlush l job
 flush_own l job out = λ there. (out.leaving, out.begin)
-
-pub spent_own : (l : Live) (job : FlushTask) → IsFlushSpent job l → IsOwnFlush l job
-spent_own l job spent = λ there. absurd (false≢true (sym spent.not_out ∙ there))
-
-pub spent_on : (old new : Live) (job : FlushTask) → IsFlushSpent job old → LetsLeave old new → IsFlushSpent job new
-spent_on old new job spent lets = leave lets.1
-  where
-    leave : ((new.leaving ≡ old.leaving) × ((more : List Write) × (new.gathered ≡ old.gathered ++ more))) ⊎ (new.leaving ≡ None) → IsFlushSpent job new
-    leave (inl stays) = spent_same old new job lets.0 stays.0 spent
-    leave (inr none) =
-        let taken = spent.taken in
-        let flushes = lets.0 in
-        record { taken = omega (arith, taken, flushes); not_out = none_out new job none }
-
-beside_of : (l : Live) (job : FlushTask) → IsFlushSpent job l → IsFlushSpent job (with_flush l)
-beside_of l job spent =
-    let taken = spent.taken in
-    record { taken = omega (arith, taken); not_out = differs (l.flushes + 1) job.number (l.flushes + 1 == job.number) refl (omega (arith, taken)) }
-  where
-    differs : (n k : ℕ) (b : Bool) → (n == k) ≡ b → k + 1 ≤ n → (n == k) ≡ false
-    differs n k false e lt = e
-    differs n k true e lt = let same : n ≡ k = eqb-true n k e in absurd (omega (arith, same, lt))
-
-started_beside : (b : Bool) (old new : Live) (job : FlushTask) (other : Option FlushTask) → IsFlushSpent job old → StartsFlush b other old new → IsFlushSpent job new
-started_beside false old new job other spent is = subst (λ (l : Live). IsFlushSpent job l) (sym is.1) spent
-started_beside true old new job other spent is = subst (λ (l : Live). IsFlushSpent job l) (sym is.1) (beside_of old job spent)
-
-pub spent_beside : (old new : Live) (job : FlushTask) (other : Option FlushTask) → IsFlushSpent job old → StartsFlush (wants_flush old) other old new → IsFlushSpent job new
-spent_beside old new job other spent starts = started_beside (wants_flush old) old new job other spent starts

@@ -8,8 +8,9 @@ use Rattle.uc_version_state.specs.Versions.{Stored}
 use Rattle.uc_version_state.specs.declared.event.Event.{Event}
 use Rattle.uc_version_state.specs.declared.event.Event.TheVariants.{Installed, Flushed, Kept, Released}
 use Rattle.uc_version_state.specs.Histories.{MayHappen, MayFollow, KeepsStay, after, writes_brought}
-use Rattle.uc_live.specs.Lives.{Live, owner_in, committed}
+use Rattle.uc_live.specs.Lives.{Live, owner_in, committed, unprepared}
 use Rattle.uc_live.specs.Going.{Follows, GoesOn, LetsLeave}
+use Rattle.uc_live.specs.Writing.{Prepares}
 use Rattle.uc_live.proofs.Holding.{same_held, holds_on}
 
 pub follow-append : (m : Operation) (v : Stored) (es fs : List Event) → MayFollow m v es → MayFollow m (fold after v es) fs → MayFollow m v (es ++ fs)
@@ -116,3 +117,15 @@ module _ (m : Operation) where
     second.4 ∙ first.4,
     lets_on a b c first.5 second.5,
   )
+
+  -- ---- what is prepared is taken, or given up
+
+  pub commit_on : (l : Live) → GoesOn m l (committed l) l.prepared
+  commit_on l = (follows_more l.version l.gathered l.prepared, refl, refl, same_held (owner_in l), refl, lets_more l)
+
+  pub given_up_on : (l : Live) → GoesOn m l (unprepared l) []
+  given_up_on l = (follows_none l.version l.gathered, refl, refl, same_held (owner_in l), refl, lets_stay l l.gathered (sym (append-nil l.gathered)))
+
+  pub commits : (old mid : Live) (ws : List Write) → Prepares m old mid ws → GoesOn m old (committed mid) ws
+  commits old mid ws prepares =
+      subst (λ (us : List Write). GoesOn m old (committed mid) us) prepares.1 (goes_on old mid (committed mid) [] mid.prepared prepares.0 (commit_on mid))

@@ -1,6 +1,8 @@
 pub mod Holding
 pub mod Going
+pub mod Room
 pub mod Free
+pub mod Later
 pub mod Recorded
 pub mod Held
 pub mod Flush
@@ -15,6 +17,7 @@ pub mod LogTaken
 pub mod JobsHeld
 pub mod JobsOut
 pub mod FlushesOut
+pub mod FlushesSpent
 pub mod FlushEnds
 pub mod FlushesTaken
 pub mod SeenEffects

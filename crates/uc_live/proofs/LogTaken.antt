@@ -8,11 +8,10 @@ use Rattle.uc_batch.specs.WriteLog.{WriteLog}
 use Rattle.uc_batch.specs.Position.{BatchPosition, BatchComesFirst, nothing_ahead}
 use Rattle.uc_batch.specs.declared.ended.Ended.{Ended}
 use Rattle.uc_batch.proofs.Rises.{last_of-append}
-use Rattle.uc_live.specs.Lives.{Live, last, owner_in, committed}
+use Rattle.uc_live.specs.Lives.{Live, last, committed}
 use Rattle.uc_live.specs.Going.{GoesOn}
 use Rattle.uc_live.specs.Writing.{Prepares}
-use Rattle.uc_live.proofs.Holding.{same_held}
-use Rattle.uc_live.proofs.Going.{goes_nowhere, goes_on, follows_more, lets_more}
+use Rattle.uc_live.proofs.Going.{goes_nowhere, goes_on, commits}
 use Rattle.uc_live.proofs.Last.{last_follows}
 
 -- The store has taken what came first of a log, and the rest is ahead of the reader.
@@ -26,12 +25,6 @@ pub record HasRead (m : Operation) (start now : Live) (whole : WriteLog) (at : B
 
 pub none_read : (m : Operation) (start : Live) (at : BatchPosition) → start.prepared ≡ [] → last start ≡ at.last → HasRead m start start at.ahead at
 none_read m start at none last_is = record { done = []; goes_on = goes_nowhere m start; none = none; last_is = last_is; list = refl; ended = refl }
-
--- what is prepared is committed
-pub commits : (m : Operation) (old mid : Live) (ws : List Write) → Prepares m old mid ws → GoesOn m old (committed mid) ws
-commits m old mid ws prepares =
-    let on : GoesOn m mid (committed mid) mid.prepared = (follows_more m mid.version mid.gathered mid.prepared, refl, refl, same_held (owner_in mid), refl, lets_more mid) in
-    subst (λ (us : List Write). GoesOn m old (committed mid) us) prepares.1 (goes_on m old mid (committed mid) [] mid.prepared prepares.0 on)
 
 module _ (m : Operation) (start now : Live) (whole : WriteLog) (old new : BatchPosition) (has : HasRead m start now whole old) where
   module _ (comes : BatchComesFirst old new) (ws : List Write) (ws_is : ws ≡ new.batch) where

@@ -1,6 +1,6 @@
 -- What a live store has taken, and what it answers.
 use Rattle.std.proofs.Common.{◌≡◌, ℕ, ◌*◌, ◌<◌, ◌≤◌, Bool, true, false, ◌&&◌, List, [], ◌∷◌, ◌++◌, fold, Option, ◌⊎◌, append_assoc, refl, sym, ap, ◌∙◌, subst, arith}
-use Rattle.std.specs.Prelude.{Contains, if◌then◌else◌, nat_le}
+use Rattle.std.specs.Prelude.{Contains, if◌then◌else◌, nat_le, count_by}
 use Rattle.std.specs.List.{flat_map}
 use Rattle.std.proofs.lemmas.Bool.{eq-eqb, leb-true}
 use Rattle.std.proofs.Math.Nat.{mul-pos}
@@ -12,6 +12,7 @@ use Rattle.uc_batch.specs.Rising.{last_of}
 use Rattle.uc_batch.proofs.Rises.{last_of-append}
 use Rattle.uc_model.specs.Meaning.{effect_on, value_of}
 use Rattle.uc_run.specs.Size.{memtable_size}
+use Rattle.uc_memtable.specs.Labels.{deletes_range}
 use Rattle.uc_query_read.specs.Answers.{answer_of, first_rows, named_keys, Reads, is_protected}
 use Rattle.uc_query_read.specs.declared.query.Query.{Query}
 use Rattle.uc_query_read.specs.declared.query.Query.TheVariants.{Scan}
@@ -27,7 +28,7 @@ use Rattle.uc_version_state.specs.declared.event.Event.{Event}
 use Rattle.uc_version_state.specs.declared.event.Event.TheVariants.{Kept, Released}
 use Rattle.uc_live.specs.declared.live_options.LiveOptions.{LiveOptions}
 use Rattle.uc_version_state.specs.declared.options.TheConstants.{GREATEST_FIRST_ID}
-use Rattle.uc_live.specs.declared.live_options.TheConstants.{GREATEST_STOP}
+use Rattle.uc_live.specs.declared.live_options.TheConstants.{GREATEST_STOP, MOST_RANGES}
 use Rattle.uc_live.specs.LiveOptions.{are_good, version_options}
 use Rattle.uc_live.specs.Lives as lives
 use Rattle.uc_live.specs.Lives.{Live, created, empty_opening}
@@ -60,8 +61,9 @@ version_options_good o good =
     others_good (nat_le 1 s.memtable) (nat_le 1 s.trigger) (nat_le 2 s.least) (nat_le s.least s.greatest) (nat_le 1 s.first_id) (nat_le s.first_id GREATEST_FIRST_ID)
     (nat_le s.trigger o.stop_trigger && (nat_le o.stop_trigger GREATEST_STOP && nat_le 1 o.max_write_buffer_number)) good
 
--- a store gathers at least a byte
-pub some_room : (o : LiveOptions) → are_good o ≡ true → memtable_size [] < o.store.memtable * o.max_write_buffer_number
+-- a store gathers at least a byte, and a range deletion
+pub some_room : (o : LiveOptions) → are_good o ≡ true →
+    (memtable_size [] < o.store.memtable * o.max_write_buffer_number) × (count_by deletes_range [] < MOST_RANGES * o.max_write_buffer_number)
 some_room o good =
     let s = o.store in
     let limits = nat_le s.trigger o.stop_trigger && (nat_le o.stop_trigger GREATEST_STOP && nat_le 1 o.max_write_buffer_number) in
@@ -71,7 +73,8 @@ some_room o good =
     let some = leb-true 1 s.memtable size in
     let one = leb-true 1 o.max_write_buffer_number stops in
     let above : 0 < s.memtable * o.max_write_buffer_number = mul-pos (omega (arith, some)) (omega (arith, one)) in
-    omega (arith, above)
+    let ranges : 0 < MOST_RANGES * o.max_write_buffer_number = mul-pos (omega arith) (omega (arith, one)) in
+    (omega (arith, above), ranges)
 
 pub created_taken : (m : Operation) (o : LiveOptions) → are_good o ≡ true → HasTaken m (created o) []
 created_taken m o good = record {

@@ -19,9 +19,19 @@ use Rattle.uc_live.specs.declared.flush_end.FlushEnd.TheVariants.{Installed, Not
 use Rattle.uc_live.specs.declared.live_options.TheConstants.{MOST_RANGES}
 use Rattle.uc_live.specs.Lives.{Live, owner_in}
 
--- What is gathered has fewer bytes than the memtables that the store gathers.
+-- Writes have fewer bytes, and fewer range deletions, than fill the memtables that the store gathers.
+abbrev pub FillFewer : Live → List Write → Type 0
+FillFewer l ws =
+    (memtable_size ws < l.options.store.memtable * l.options.max_write_buffer_number)
+    × (count_by deletes_range ws < MOST_RANGES * l.options.max_write_buffer_number)
+
+-- What is gathered does.
 abbrev pub HasRoom : Live → Type 0
-HasRoom l = memtable_size l.gathered < l.options.store.memtable * l.options.max_write_buffer_number
+HasRoom l = FillFewer l l.gathered
+
+-- So did what was gathered before the last writes.
+abbrev pub HadRoom : Live → List Write → Type 0
+HadRoom l ws = (before : List Write) × (l.gathered ≡ before ++ ws) × FillFewer l before
 
 -- what a flush job has: its number, the writes, which it keeps, and how far it is
 pub record FlushTask : Type 0 where

@@ -12,6 +12,7 @@ use Rattle.uc_batch.specs.declared.error.BatchError.TheVariants.{SequenceTooLarg
 use Rattle.uc_live.specs.Lives.{Live, last}
 use Rattle.uc_live.specs.Going.{GoesOn}
 use Rattle.uc_live.specs.Compacting.{HasNoRoom}
+use Rattle.uc_live.specs.LiveFlushes.{HasRoom, HadRoom}
 use Rattle.uc_live.specs.declared.write_error.WriteError.{WriteError}
 use Rattle.uc_live.specs.declared.write_error.WriteError.TheVariants.{Faulty, SequencesSpent, TooLong, NoRoom}
 
@@ -25,11 +26,12 @@ Prepares m old new ws = GoesOn m old new [] × (new.prepared ≡ ws)
 abbrev pub next_write : Live → Op → List Write
 next_write l op = record { seq = last l + 1; op = op } ∷ []
 
--- The operation waits.
+-- The operation waits, behind fewer writes than fill the memtables.
 pub record IsPrepared (m : Operation) (op : Op) (old new : Live) : Type 0 where
   pub fits : FitsOp op
   pub left : last old + 1 < 2 ^ 56
   pub prepares : Prepares m old new (next_write old op)
+  pub room : HasRoom new
 
 -- It is taken.
 pub record IsWritten (m : Operation) (op : Op) (old new : Live) : Type 0 where
@@ -37,6 +39,7 @@ pub record IsWritten (m : Operation) (op : Op) (old new : Live) : Type 0 where
   pub left : last old + 1 < 2 ^ 56
   pub goes_on : GoesOn m old new (next_write old op)
   pub none_prepared : new.prepared ≡ []
+  pub room : HadRoom new (next_write old op)
 
 -- Why it doesn't wait.
 abbrev pub Refuses : Op → Live → Live → WriteError → Type 0
@@ -63,11 +66,12 @@ numbered last bytes = if is_unnumbered bytes then with_sequence (last + 1) bytes
 abbrev pub next_batch : ℕ → List ℕ → Result (List Write) BatchError
 next_batch last bytes = batch_of last (numbered last bytes)
 
--- The writes of a batch that is read so wait.
+-- The writes of a batch that is read so wait, behind fewer than fill the memtables.
 pub record IsPreparedAs (m : Operation) (read : Result (List Write) BatchError) (old new : Live) : Type 0 where
   pub writes : List Write
   pub is : read ≡ Ok writes
   pub prepares : Prepares m old new writes
+  pub room : HasRoom new
 
 -- The writes of the batch that comes next wait.
 abbrev pub IsBatchPrepared : Operation → List ℕ → Live → Live → Type 0
@@ -79,6 +83,7 @@ pub record IsBatchWritten (m : Operation) (bytes : List ℕ) (old new : Live) : 
   pub is : next_batch (last old) bytes ≡ Ok writes
   pub goes_on : GoesOn m old new writes
   pub none_prepared : new.prepared ≡ []
+  pub room : HadRoom new writes
 
 -- Why they don't.
 abbrev pub RefusesBatch : Result (List Write) BatchError → Live → WriteError → Type 0

@@ -1,5 +1,6 @@
 //! [`FlushJob`]: a flush that is done away from its store.
-ghost use Rattle.std.specs.Prelude.{◌≡◌, ◌≢◌, [], OnOk, OnErr};
+ghost use Rattle.std.specs.Arc.{arc_value};
+ghost use Rattle.std.specs.Prelude.{◌≡◌, ◌≢◌, [], OnOk, OnErr, option_map};
 ghost use Rattle.uc_batch.specs.Rising.{last_of};
 ghost use Rattle.uc_version.specs.declared.job_stage.JobStage.TheVariants as stages;
 ghost use Rattle.uc_live.specs.LiveFlushes as flushes;
@@ -8,6 +9,7 @@ ghost use Rattle.uc_live.specs.LiveFlushes.{IsMadeOf};
 use std::alloc::{AllocError, Global};
 use std::marker::Model;
 use std::mem;
+use std::sync::Arc;
 use uc_memtable::FlushableMemtables;
 use uc_run::Run;
 use uc_version::JobStage;
@@ -16,10 +18,9 @@ use uc_version::JobStage;
 #[derive(Drop)]
 enum Progress {
     Taken,
-    Run(Run),
-    Ended,
-    /// It has ended, and its run wasn't wanted.
-    Unused(Run),
+    Run(Arc<Run>),
+    /// It has ended, and keeps its share of the run, if it was run.
+    Ended(Option<Arc<Run>>),
 }
 
 /// A flush that is done away from its store, by any thread: shares of memtables, which it makes a run of. The owner takes
@@ -27,8 +28,8 @@ enum Progress {
 /// [`LiveStore::end_flush`](crate::LiveStore::end_flush). If it is dropped before, its store flushes the writes itself
 /// once too much is gathered, and takes no flush job out before that.
 ///
-/// It keeps its shares of the memtables until it is dropped, also when it has ended. So they are freed where it is
-/// dropped, and not by their owner.
+/// It keeps its shares of the memtables and of its run until it is dropped, also when it has ended. So what nobody else
+/// shares is freed where it is dropped, and not by its owner.
 pub struct FlushJob {
     number: u64,
     memtables: FlushableMemtables,
@@ -84,7 +85,7 @@ impl FlushJob {
         match &self.progress {
             Progress::Taken => JobStage::Taken,
             Progress::Run(_) => JobStage::Run,
-            Progress::Ended | Progress::Unused(_) => JobStage::Ended,
+            Progress::Ended(_) => JobStage::Ended,
         }
     }
 
@@ -108,33 +109,32 @@ impl FlushJob {
         ensures err { OnErr result (self.new ≡ self.old) }
     {
         if let Progress::Taken = self.progress {
-            self.progress = Progress::Run(self.memtables.to_run(alloc)?);
+            let run = self.memtables.to_run(alloc)?;
+            self.progress = Progress::Run(Arc::new(alloc, run)?);
         }
         Ok(())
     }
 
-    /// Ends it: the run that was made, if one was.
-    pub(crate) fn end(&mut self) -> Option<Run>
-        ensures made { IsMadeOf self.old result }
-        ensures ended { self.new ≡ flushes.ended self.old }
+    /// The run that was made, if it was run and hasn't ended.
+    pub(crate) fn made(&self) -> Option<&Arc<Run>>
+        ensures { IsMadeOf self.now (option_map (λ run. arc_value run.now) result) }
     {
-        match mem::replace(&mut self.progress, Progress::Ended) {
+        match &self.progress {
             Progress::Run(run) => Some(run),
             Progress::Taken => None,
-            Progress::Ended => None,
-            Progress::Unused(_) => None,
+            Progress::Ended(_) => None,
         }
     }
 
-    /// Ends it, and keeps the run that was made.
-    pub(crate) fn end_unused(&mut self)
+    /// Ends it. The job keeps its share of the run.
+    pub(crate) fn end(&mut self)
         ensures { self.new ≡ flushes.ended self.old }
     {
-        match mem::replace(&mut self.progress, Progress::Ended) {
-            Progress::Run(run) => self.progress = Progress::Unused(run),
-            Progress::Taken => {}
-            Progress::Ended => {}
-            Progress::Unused(run) => self.progress = Progress::Unused(run),
-        }
+        let kept = match mem::replace(&mut self.progress, Progress::Taken) {
+            Progress::Run(run) => Some(run),
+            Progress::Taken => None,
+            Progress::Ended(run) => run,
+        };
+        self.progress = Progress::Ended(kept);
     }
 }

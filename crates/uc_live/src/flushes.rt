@@ -55,7 +55,8 @@ impl<O: Operator> LiveStore<O> {
     }
 
     /// Ends a flush job that was taken out of this store: installs its run, if it was run, and forgets its memtables. It
-    /// sorts and copies no text. The job keeps its shares of the memtables until it is dropped, which any thread does.
+    /// sorts and copies no text. The job keeps its shares of the memtables and of its run until it is dropped, which any
+    /// thread does.
     ///
     /// If its writes were flushed since, they are in already, and nothing changes. Else a job that was run is refused
     /// only if no slot or no id is left, and for want of memory. Then its writes are still gathered, for another job.
@@ -66,7 +67,7 @@ impl<O: Operator> LiveStore<O> {
         ensures kept { job.new ≡ flushes.ended job.old }
     {
         if !self.has_flush_out(job) {
-            job.end_unused();
+            job.end();
             return FlushEnd::FlushedBefore;
         }
         small_writes_fill_one_memtable();
@@ -74,11 +75,14 @@ impl<O: Operator> LiveStore<O> {
         job.recall();
         self.leaving = None;
         let last = job.last();
-        let Some(run) = job.end() else {
+        let Some(run) = job.made() else {
+            job.end();
             return FlushEnd::NotRun;
         };
         let id = self.owned.version().next_id();
-        match self.owned.feed_run(alloc, run, last) {
+        let fed = self.owned.feed_run(alloc, run, last);
+        job.end();
+        match fed {
             Ok(()) => {
                 self.active.drop_apart(alloc);
                 FlushEnd::Installed(id)

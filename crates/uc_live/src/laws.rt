@@ -15,9 +15,10 @@ ghost use Rattle.uc_version.specs.Jobs.{IsOwn, Task, run};
 ghost use Rattle.uc_live.specs.declared.live_options.LiveOptions.{LiveOptions as OptionsOf};
 ghost use Rattle.uc_live.specs.LiveOptions.{are_good};
 ghost use Rattle.uc_live.specs.Lives as lives;
-ghost use Rattle.uc_live.specs.Lives.{Live, created, owner_in};
+ghost use Rattle.uc_live.specs.Lives.{Live, committed, created, owner_in, unprepared};
 ghost use Rattle.uc_live.specs.LiveJobs.{EndsJob, IsOut, StartsJob};
 ghost use Rattle.uc_live.specs.Going.{GoesOn};
+ghost use Rattle.uc_live.specs.Writing.{Prepares};
 ghost use Rattle.uc_live.specs.Snapshots.{TakesSnapshot, without_snapshot};
 ghost use Rattle.uc_live.specs.Coming.{HasTaken};
 ghost use Rattle.uc_live.specs.Views as views;
@@ -37,8 +38,9 @@ pub fn created_stores_have_taken_nothing<O: Operator>()
     ensures { (options : OptionsOf) → are_good options ≡ true → HasTaken O.meaning (created options) [] }
 {}
 
-/// A store that goes on has taken the writes from before and those that it took meanwhile. A snapshot that is taken or
-/// released brings no write, nor does a job that is started or ended.
+/// A store that goes on has taken the writes from before and those that it took meanwhile. A commit brings the writes that
+/// were prepared. A snapshot that is taken or released brings none, nor does a job that is started or ended, nor a batch that
+/// is given up.
 pub fn taken_writes_add_up<O: Operator>()
     ensures goes_on { (old new : Live) (before ws : List Write) → HasTaken O.meaning old before → GoesOn O.meaning old new ws →
         HasTaken O.meaning new (before ++ ws) }
@@ -50,12 +52,15 @@ pub fn taken_writes_add_up<O: Operator>()
         StartsJob job old new → HasTaken O.meaning new before }
     ensures ended { (old new : Live) (before : List Write) (job : Task) (end : JobEnd) → HasTaken O.meaning old before →
         IsOwner (owner_in old) → IsOut O.meaning job old → EndsJob O.meaning job old new end → HasTaken O.meaning new before }
+    ensures committed { (l : Live) (before : List Write) → HasTaken O.meaning l before →
+        HasTaken O.meaning (committed l) (before ++ l.prepared) }
+    ensures given_up { (l : Live) (before : List Write) → HasTaken O.meaning l before → HasTaken O.meaning (unprepared l) before }
 {
     claims_can_be_compacted();
     installs_are_events::<O>();
 }
 
-/// A job that was started is out until it is ended, whatever is written, flushed, compacted, taken as a snapshot or
+/// A job that was started is out until it is ended, whatever is written, committed, flushed, compacted, taken as a snapshot or
 /// released meanwhile, and whatever other jobs are started or ended. While it is out, its store takes it back, and
 /// refuses its run only if no id is left.
 pub fn jobs_go_in<O: Operator>()
@@ -68,6 +73,8 @@ pub fn jobs_go_in<O: Operator>()
         IsOut O.meaning job new }
     ensures release { (l : Live) (seq : ℕ) (job : Task) → IsOut O.meaning job l → Contains l.version.keeps seq →
         IsOut O.meaning job (without_snapshot seq l) }
+    ensures committed { (l : Live) (job : Task) → IsOut O.meaning job l → IsOut O.meaning job (committed l) }
+    ensures given_up { (l : Live) (job : Task) → IsOut O.meaning job l → IsOut O.meaning job (unprepared l) }
     ensures beside_a_start { (old new : Live) (job : Task) (other : Option Task) → IsOwner (owner_in old) →
         IsOut O.meaning job old → StartsJob other old new → IsOut O.meaning job new }
     ensures apart { (old new : Live) (job other : Task) → IsOwner (owner_in old) → IsOut O.meaning job old →
@@ -86,6 +93,13 @@ pub fn jobs_go_in<O: Operator>()
     owners_stay_owners::<O>();
     own_compactions_are_refused_for_ids_alone::<O>();
 }
+
+/// A commit goes on as any write does, and so does a batch that is given up. So what holds of stores that go on holds of them.
+pub fn commits_go_on<O: Operator>()
+    ensures committed { (l : Live) → GoesOn O.meaning l (committed l) l.prepared }
+    ensures given_up { (l : Live) → GoesOn O.meaning l (unprepared l) [] }
+    ensures prepared { (old mid : Live) (ws : List Write) → Prepares O.meaning old mid ws → GoesOn O.meaning old (committed mid) ws }
+{}
 
 /// Whatever a store flushed and compacted, it answers as one thread that folds all writes it has taken: at the last
 /// sequence, and at each snapshot.

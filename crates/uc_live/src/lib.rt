@@ -26,9 +26,7 @@
 //! By the laws of `laws.rt` a store answers as one thread that folds all writes it has taken, whatever it flushed and
 //! compacted, and so does a view of it.
 //!
-//! `uc_tests_engine` tries it by way of `uc_engine`.
-//!
-//! Tests: `uc_c`.
+//! Tests: `bindings/rust/ucstore/tests/stories.rs`.
 //!
 //! An `Err(AllocError)`, or a variant `Memory`, comes only if an allocation fails.
 #![tactic(auto)]
@@ -54,25 +52,31 @@ mod recording;
 mod room_error;
 mod snapshots;
 mod source_laws;
+mod store_id;
 mod view;
 mod waiting;
 mod write_error;
 
 pub use flush_end::FlushEnd;
 pub use flush_job::FlushJob;
-pub use flush_laws::{flushes_bring_no_write, flushes_go_in, jobs_stay_out_beside_flushes};
+pub use flush_laws::{
+    flushes_bring_no_write, flushes_go_in, jobs_stay_out_beside_flushes, spent_flushes_stay_spent,
+};
 pub use laws::{
-    created_stores_have_taken_nothing, jobs_go_in, stores_answer_as_their_writes,
+    commits_go_on, created_stores_have_taken_nothing, jobs_go_in, stores_answer_as_their_writes,
     taken_writes_add_up, views_answer_as_their_writes,
 };
-pub use live_options::{GREATEST_STOP, LiveOptions, MOST_RANGES};
+pub use live_options::{GREATEST_STOP, LiveOptions, MOST_RANGES, limits_have_their_numbers};
 pub use live_store::LiveStore;
 pub use lookup_source::LookupSource;
 pub use open_error::LiveOpenError;
 pub use opening::OpenedStore;
-pub use recorded_laws::{batches_are_walked, recorded_batch_is_recovered};
+pub use recorded_laws::{
+    batches_are_walked, later_batches_come_after_less, recorded_batch_is_recovered,
+};
 pub use room_error::RoomError;
 pub use source_laws::sources_tell_what_values_come_of;
+pub use store_id::StoreId;
 pub use uc_batch::{BatchError, Ended};
 pub use uc_bytes::{Bytes, OpRef};
 pub use uc_query_read::{Answer, Rows};

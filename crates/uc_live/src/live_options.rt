@@ -1,7 +1,9 @@
 //! [`LiveOptions`]: how a live store is kept.
 ghost use Rattle.std.specs.Prelude.{◌≡◌, true};
 ghost use Rattle.uc_live.specs.LiveOptions as options;
+ghost use Rattle.uc_live.specs.declared.live_options.TheConstants as limits;
 
+use crate::store_id::StoreId;
 use uc_claims::MOST_SLOTS;
 use uc_version::Options;
 
@@ -10,6 +12,12 @@ pub const GREATEST_STOP: u32 = MOST_SLOTS as u32 - 1;
 
 /// How many range deletions fill a memtable: a lookup asks each of them.
 pub const MOST_RANGES: usize = 64;
+
+/// Writes stop at 255 runs at the latest, and 64 range deletions fill a memtable.
+pub fn limits_have_their_numbers()
+    ensures stop { limits.GREATEST_STOP ≡ 255 }
+    ensures ranges { limits.MOST_RANGES ≡ 64 }
+{}
 
 /// How a live store is kept.
 #[derive(Clone, Copy, Debug, PartialEq, Eq)]
@@ -26,6 +34,8 @@ pub struct LiveOptions {
     /// Whether it compacts behind each flush while runs are picked. Else its owner does, and the store only from
     /// `stop_trigger` runs on.
     pub compacts_itself: bool,
+    /// Which store it is.
+    pub id: StoreId,
 }
 
 impl LiveOptions {
@@ -43,6 +53,7 @@ impl LiveOptions {
             stop_trigger: 36,
             max_write_buffer_number: 1,
             compacts_itself: true,
+            id: StoreId::NONE,
         }
     }
 

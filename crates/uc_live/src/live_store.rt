@@ -11,6 +11,7 @@ ghost use Rattle.uc_live.specs.declared.room_error.RoomError.TheVariants.{Memory
 use crate::last_reads::last_sequence;
 use crate::live_options::LiveOptions;
 use crate::open_error::LiveOpenError;
+use crate::store_id::StoreId;
 use std::alloc::Global;
 use std::marker::Model;
 use uc_memtable::FlushableMemtables;
@@ -100,6 +101,13 @@ impl<O: Operator> LiveStore<O> {
         ensures good { live_options.are_good self.now.options ≡ true }
     {
         self.owned.recall();
+    }
+
+    /// Which store it is, as its options say.
+    pub fn id(&self) -> StoreId
+        ensures { result ≡ self.now.options.id }
+    {
+        self.options.id
     }
 
     /// What its runs hold. What is gathered isn't in it.

@@ -1,11 +1,12 @@
 //! Live stores that open from a write-ahead log.
-ghost use Rattle.std.specs.Prelude.{◌≡◌, [], true, false, IfOk, IfErr, OnOk};
+ghost use Rattle.std.specs.Prelude.{◌≡◌, ◌≢◌, [], true, false, IfOk, IfErr, OnOk};
 ghost use Rattle.uc_batch.specs.Log.{log_writes};
 ghost use Rattle.uc_live.specs.LiveOptions as live_options;
 ghost use Rattle.uc_live.specs.Going.{GoesOn};
 ghost use Rattle.uc_live.specs.Lives as lives;
-ghost use Rattle.uc_live.specs.Lives.{created};
-ghost use Rattle.uc_live.specs.declared.open_error.LiveOpenError.TheVariants.{BadOption};
+ghost use Rattle.uc_live.specs.Lives.{created, has_claims};
+ghost use Rattle.uc_live.specs.declared.open_error.LiveOpenError.TheVariants.{BadOption, NoRoom};
+ghost use Rattle.uc_live.specs.declared.room_error.RoomError.TheVariants.{RunsClaimed};
 
 use crate::live_options::LiveOptions;
 use crate::live_store::LiveStore;
@@ -47,9 +48,11 @@ fn read_on<O: Operator>(
 ) -> Result<Ended, RoomError>
     requires none { store.old.prepared ≡ [] }
     requires last { lives.last store.old ≡ batches.old.last }
+    requires unclaimed { has_claims store.old ≡ false }
     ensures goes_on { OnOk result (GoesOn O.meaning store.old store.new batches.old.ahead.list) }
     ensures none { OnOk result (store.new.prepared ≡ []) }
     ensures ended { IfOk result (λ ended. ended ≡ batches.old.ahead.ended) }
+    ensures never { IfErr result (λ error. error ≢ RunsClaimed) }
 {
     loop {
         match batches.advance()? {
@@ -77,6 +80,7 @@ impl<O: Operator> LiveStore<O> {
         ensures ended { IfOk result (λ found. found.ended ≡ (log_writes log.now).ended) }
         ensures good { IfOk result (λ _. live_options.are_good options ≡ true) }
         ensures err { IfErr result (λ error. error ≡ BadOption → live_options.are_good options ≡ false) }
+        ensures never { IfErr result (λ error. error ≢ NoRoom RunsClaimed) }
     {
         let mut store = LiveStore::create(alloc, options)?;
         let mut batches = BatchReader::new(alloc, log);

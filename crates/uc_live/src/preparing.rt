@@ -7,7 +7,7 @@ ghost use Rattle.uc_batch.specs.Rising.{IsRising};
 ghost use Rattle.uc_batch.specs.Spelling.{FitsOp};
 ghost use Rattle.uc_live.specs.Compacting.{HasNoRoom};
 ghost use Rattle.uc_live.specs.Going.{GoesOn};
-ghost use Rattle.uc_live.specs.LiveFlushes.{HasRoom};
+ghost use Rattle.uc_live.specs.LiveFlushes.{HadRoom, HasRoom};
 ghost use Rattle.uc_live.specs.Lives as lives;
 ghost use Rattle.uc_live.specs.Lives.{Live};
 ghost use Rattle.uc_live.specs.Writing as writing;
@@ -96,7 +96,6 @@ impl<O: Operator> LiveStore<O> {
     /// is no room for it, as [`RoomError`] says. Nothing is prepared then, and no read changes.
     pub fn prepare(&mut self, alloc: Global, op: OpRef<'_>) -> Result<(), WriteError>
         ensures ok { OnOk result (IsPrepared O.meaning op.entry self.old self.new) }
-        ensures room { OnOk result (HasRoom self.new) }
         ensures err { IfErr result (λ error. Refuses op.entry self.old self.new error × Prepares O.meaning self.old self.new []) }
     {
         self.active.give_up();
@@ -121,6 +120,7 @@ impl<O: Operator> LiveStore<O> {
         requires none { self.old.prepared ≡ [] }
         requires rising { IsRising (lives.last self.old) writes }
         ensures ok { OnOk result (Prepares O.meaning self.old self.new writes.entry) }
+        ensures room { OnOk result (HasRoom self.new) }
         ensures err { IfErr result (λ error. HasNoRoom error self.new × Prepares O.meaning self.old self.new []) }
     {
         self.make_room(alloc)?;
@@ -207,6 +207,7 @@ impl<O: Operator> LiveStore<O> {
     pub fn write_all(&mut self, alloc: Global, writes: BatchWrites<'_>) -> Result<(), RoomError>
         requires rising { IsRising (lives.last self.old) writes }
         ensures ok { OnOk result (GoesOn O.meaning self.old self.new writes.entry) }
+        ensures room { OnOk result (HadRoom self.new writes.entry) }
         ensures err { IfErr result (λ error. HasNoRoom error self.new × GoesOn O.meaning self.old self.new []) }
         ensures none { self.new.prepared ≡ [] }
     {

@@ -1,5 +1,5 @@
 //! What holds of logs that a store's batches are recorded in.
-ghost use Rattle.std.specs.Prelude.{◌≡◌, ℕ, List, [], ◌++◌, Ok};
+ghost use Rattle.std.specs.Prelude.{◌≡◌, ◌≤◌, ℕ, List, [], ◌++◌, Ok};
 ghost use Rattle.uc_bytes.specs.declared.write.Write.{Write};
 ghost use Rattle.uc_logrec.specs.Position.{LiesIn};
 ghost use Rattle.uc_batch.specs.Batch.{batch_of};
@@ -16,11 +16,18 @@ pub fn batches_are_walked()
         LiesIn payload log offset behind → batch_of (last_of 0 writes) payload ≡ Ok more → HasBatches log behind (writes ++ more) }
 {}
 
+/// A batch that comes next after a sequence comes after each lesser one too, with the same writes.
+pub fn later_batches_come_after_less()
+    ensures { (less last : ℕ) (bytes : List ℕ) (writes : List Write) → less ≤ last → batch_of last bytes ≡ Ok writes →
+        batch_of less bytes ≡ Ok writes }
+{}
+
 /// A log begins with batches that end at an offset. Cut there, and continued by the record of a batch, it has the
-/// writes of all of these, and ends clean. Then it goes on in the same way behind the record.
+/// writes of all of these, and ends clean. Then it goes on in the same way behind the record. The store that the batch was
+/// prepared in has the last sequence of the log or a later one, as behind a checkpoint, whose rows are numbered anew.
 pub fn recorded_batch_is_recovered()
-    ensures { (log : List ℕ) (offset : ℕ) (writes : List Write) (batch bytes : List ℕ) → HasBatches log offset writes →
-        (recorded : IsRecorded (last_of 0 writes) offset batch bytes) →
+    ensures { (log : List ℕ) (offset last : ℕ) (writes : List Write) (batch bytes : List ℕ) → HasBatches log offset writes →
+        last_of 0 writes ≤ last → (recorded : IsRecorded last offset batch bytes) →
         IsRecovered log offset bytes writes recorded.read.writes }
 {
     log_goes_on();

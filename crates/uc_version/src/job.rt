@@ -23,6 +23,8 @@ enum Progress<O: Operator> {
     Taken,
     Run(Compacted<O>),
     Ended,
+    /// It has ended, and what was made was refused.
+    Refused(Compacted<O>),
 }
 
 /// A compaction that is done away from its store, by any thread: the claim of a stretch, and shares of its runs. The owner
@@ -30,7 +32,7 @@ enum Progress<O: Operator> {
 /// claimed for good.
 ///
 /// It keeps its shares of the runs until it is dropped, also when it has ended. So the runs that its own replaced are
-/// freed where it is dropped, and not by their owner.
+/// freed where it is dropped, and not by their owner, and so is its own if it was refused.
 pub struct Job<O: Operator> {
     claim: OwnedClaim,
     asked: Asked,
@@ -67,7 +69,7 @@ impl<O: Operator> Job<O> {
         match &self.progress {
             Progress::Taken => JobStage::Taken,
             Progress::Run(_) => JobStage::Run,
-            Progress::Ended => JobStage::Ended,
+            Progress::Ended | Progress::Refused(_) => JobStage::Ended,
         }
     }
 
@@ -100,9 +102,17 @@ impl<O: Operator> Job<O> {
     {
         let made = match mem::replace(&mut self.progress, Progress::Ended) {
             Progress::Run(made) => Some(made),
-            Progress::Taken | Progress::Ended => None,
+            Progress::Taken | Progress::Ended | Progress::Refused(_) => None,
         };
         (self.claim.again(), made)
+    }
+
+    /// Keeps what was made of its runs, which was refused.
+    fn keep(&mut self, made: Compacted<O>)
+        requires { self.old.stage ≡ Ended }
+        ensures { self.new ≡ self.old }
+    {
+        self.progress = Progress::Refused(made);
     }
 }
 
@@ -155,6 +165,7 @@ impl<O: Operator> Owned<O> {
         };
         if let Some(error) = self.own_refusal_of(&claim, &made) {
             self.abandon(claim);
+            job.keep(made);
             return JobEnd::Refused(error);
         }
         JobEnd::Installed(self.replace_claimed(claim, made))

@@ -1,4 +1,5 @@
 //! A run that is fed to an owner's store: writes that were flushed away from it.
+ghost use Rattle.std.specs.Arc.{arc_value};
 ghost use Rattle.std.specs.Prelude.{◌≡◌, ◌⊎◌, None, Some, List, IfOk, IfErr, OnOk};
 ghost use Rattle.uc_bytes.specs.declared.write.Write.{Write};
 ghost use Rattle.uc_version_state.specs.Feeds.{fed, feed_refusal};
@@ -10,6 +11,7 @@ use crate::claims::move_down;
 use crate::memtable_feed::run_refusal;
 use crate::owned::Owned;
 use std::alloc::{AllocError, Global};
+use std::sync::Arc;
 use uc_oper::Operator;
 use uc_run::Run;
 use uc_version_state::{
@@ -17,24 +19,22 @@ use uc_version_state::{
     small_writes_fill_one_memtable,
 };
 
-/// The version with a run of writes that are fed, as a new one that shares the runs which were there. It costs one look at
-/// the runs for their slots.
+/// The version with a run of writes that are fed, as a new one that shares it and the runs which were there. It costs one
+/// look at the runs for their slots.
 fn version_with_run(
     alloc: Global,
     version: &Version,
-    run: Run,
+    run: &Arc<Run>,
     last: u64,
 ) -> Result<Version, AllocError>
-    requires { (writes : List Write) × MakesRun version.now run last writes × (feed_refusal version.now writes ≡ None) }
-    ensures { IfOk result (λ next. (writes : List Write) → MakesRun version.now run last writes → next ≡ fed writes version.now) }
+    requires { (writes : List Write) × MakesRun version.now (arc_value run.now) last writes × (feed_refusal version.now writes ≡ None) }
+    ensures { IfOk result (λ next. (writes : List Write) → MakesRun version.now (arc_value run.now) last writes → next ≡ fed writes version.now) }
 {
     version.recall();
     feeds_and_keeps_give_versions();
     no_refusal_is_leave_to_feed();
     small_writes_fill_one_memtable();
-    let mut runs = Vec::new(alloc);
-    runs.push(run)?;
-    version.with_runs(alloc, runs, last)
+    version.with_run(alloc, run, last)
 }
 
 impl<O: Operator> Owned<O> {
@@ -50,13 +50,14 @@ impl<O: Operator> Owned<O> {
     }
 
     /// Feeds writes of which the run is made already; `last` is their last sequence. What it does is what
-    /// [`feed`](Owned::feed) does of a list of these writes, and so is what it refuses. It copies and sorts nothing.
-    pub fn feed_run(&mut self, alloc: Global, run: Run, last: u64) -> Result<(), FeedError>
-        requires { IsOfWrites self.old.version run last }
-        ensures ok { OnOk result ((writes : List Write) → MakesRun self.old.version run last writes →
+    /// [`feed`](Owned::feed) does of a list of these writes, and so is what it refuses. It copies and sorts nothing, and
+    /// shares the run with the caller.
+    pub fn feed_run(&mut self, alloc: Global, run: &Arc<Run>, last: u64) -> Result<(), FeedError>
+        requires { IsOfWrites self.old.version (arc_value run.now) last }
+        ensures ok { OnOk result ((writes : List Write) → MakesRun self.old.version (arc_value run.now) last writes →
             (feed_refusal self.old.version writes ≡ None) × (self.new ≡ feeding.after_feed writes self.old)) }
         ensures same { IfErr result (λ _. self.new ≡ self.old) }
-        ensures err { IfErr result (λ error. (writes : List Write) → MakesRun self.old.version run last writes →
+        ensures err { IfErr result (λ error. (writes : List Write) → MakesRun self.old.version (arc_value run.now) last writes →
             (feed_refusal self.old.version writes ≡ Some error)
             ⊎ ((feed_refusal self.old.version writes ≡ None) × (error ≡ Memory))) }
     {

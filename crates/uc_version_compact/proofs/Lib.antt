@@ -9,3 +9,4 @@ pub mod OwnKeeps
 pub mod KeepsSince
 pub mod StandingLast
 pub mod InstallableLater
+pub mod InstalledBeside

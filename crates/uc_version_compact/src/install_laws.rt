@@ -1,18 +1,22 @@
 //! What holds of installs in place of claimed runs.
-ghost use Rattle.std.specs.Prelude.{◌≡◌, ◌≤◌, ◌<◌, ◌+◌, ◌⊎◌, List, fold, length};
+ghost use Rattle.std.specs.Prelude.{◌≡◌, ◌≤◌, ◌<◌, ◌+◌, ◌++◌, ◌∷◌, ◌⊎◌, List, [], fold, length};
 ghost use Rattle.uc_compact.specs.Inputs.{Compaction, Stand};
 ghost use Rattle.uc_version_state.specs.declared.stretch.Stretch.{Stretch};
 ghost use Rattle.uc_version_state.specs.Versions.{PlacedRun, Stored, IsVersion, contents_of, ids_of};
-ghost use Rattle.uc_version_state.specs.Installs.{MayInstall, IdLeft, standing};
+ghost use Rattle.uc_version_state.specs.Courses.{LookApart, LookThen, noted_at};
+ghost use Rattle.uc_version_state.specs.Installs.{MayInstall, IdLeft, installed, standing};
+ghost use Rattle.uc_version_state.specs.Openings.{Opening, opened};
 ghost use Rattle.uc_version_state.specs.Refusals.{AreInPlace};
 ghost use Rattle.uc_version_state.specs.declared.event.Event.{Event};
-ghost use Rattle.uc_version_state.specs.Histories.{MayFollow, after};
+ghost use Rattle.uc_version_state.specs.declared.event.Event.TheVariants.{Installed};
+ghost use Rattle.uc_version_state.specs.Histories.{MayFollow, after, version_after};
 ghost use Rattle.uc_version_compact.specs.declared.install_error.InstallError.{InstallError};
 ghost use Rattle.uc_version_compact.specs.declared.install_error.InstallError.TheVariants.{Stale, IdsSpent};
 ghost use Rattle.uc_version_compact.specs.Compacting.{runs_at, compaction_at, IsInstallable, IsNotInstallable};
 ghost use Rattle.uc_version_compact.specs.Compacting.{install_for};
 
 use uc_oper::Operator;
+use uc_version_state::{opening_gives_a_version, two_compactors_install_beside_others};
 
 /// If a version still has the claimed runs under their ids, and a compaction of them is installable there, its install
 /// is an event that may happen to that version.
@@ -42,3 +46,18 @@ pub fn own_compactions_stay_installable<O: Operator>()
         IsNotInstallable (fold after v events) (runs_at v s) (compaction_at v s) error →
         (error ≡ IdsSpent) × ¬ IdLeft (fold after v events) }
 {}
+
+/// Two compactors that look at two stretches of an opening that share no run, and compact them under its keeps, install what they
+/// made, the one and then the other, whatever was fed, kept and released since they looked, if an id is left for each.
+pub fn two_own_compactions_install_beside_others<O: Operator>()
+    ensures { (o : Opening) (s t : Stretch) (meanwhile : List Event) →
+        let v = version_after (record { opening = o; events = meanwhile }) in
+        let i = install_for O.meaning (noted_at o s) (compaction_at (opened o) s) in
+        let j = install_for O.meaning (noted_at o t) (compaction_at (opened o) t) in
+        LookApart O.meaning o s t meanwhile → IdLeft v → IdLeft (installed i v) →
+        LookThen O.meaning o (noted_at o s ∷ noted_at o t ∷ []) (meanwhile ++ Installed i ∷ Installed j ∷ []) }
+{
+    opening_gives_a_version();
+    two_compactors_install_beside_others();
+    own_compactions_stay_installable::<O>();
+}

@@ -8,7 +8,7 @@
 //!
 //! An `Err(AllocError)`, or a variant `Memory`, comes only if an allocation fails.
 //!
-//! Tests: `uc_tests_store`.
+//! Tests: `tests/owner.py`.
 #![tactic(auto)]
 
 mod asked;
@@ -24,7 +24,10 @@ pub use asked::Asked;
 pub use candidates::pick;
 pub use claim_error::ClaimError;
 pub use install_error::InstallError;
-pub use install_laws::{own_compactions_stay_installable, what_fits_may_be_installed};
+pub use install_laws::{
+    own_compactions_stay_installable, two_own_compactions_install_beside_others,
+    what_fits_may_be_installed,
+};
 pub use refusal::{are_inputs, error_of, install_refusal, own_refusal, present_refusal};
 pub use runs::{run_ids, runs_of, slots_of, stretch_runs};
 pub use stretches::{compact_stretch, compact_stretch_by, install_of};

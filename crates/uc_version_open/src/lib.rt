@@ -22,7 +22,7 @@
 //!
 //! An `Err(AllocError)`, or a variant `Memory`, comes only if an allocation fails.
 //!
-//! Tests: `uc_tests_store`.
+//! Tests: `tests/owner.py`, `tests/drawn_stores.py`.
 #![tactic(auto)]
 
 mod first_version;

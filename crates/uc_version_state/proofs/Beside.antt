@@ -1,10 +1,11 @@
 -- Two compactors look, others make something happen, and both install.
-use Rattle.std.proofs.Common.{◌≡◌, ℕ, ◌+◌, ◌≤◌, List, [], ◌∷◌, ◌++◌, ◌⊎◌, ⊎_elim, length, refl, sym, subst, append_assoc, arith}
+use Rattle.std.proofs.Common.{◌≡◌, ℕ, ◌+◌, ◌≤◌, List, [], ◌∷◌, ◌++◌, ◌⊎◌, ⊎_elim, length, refl, sym, ap, subst, append_assoc, arith}
 use Rattle.std.specs.List.{AllByRecursion}
 use Rattle.std.proofs.lemmas.List.Sums.{sum_by-cons}
 use Rattle.uc_oper.specs.Operation.{Operation, IsLawful}
 use Rattle.uc_claims.specs.Claims.{times}
-use Rattle.uc_version_state.specs.Versions.{PlacedRun, Stored, IsVersion, slots_of}
+use Rattle.uc_version_state.specs.Versions.{PlacedRun, Stored, IsVersion, ids_of, slots_of}
+use Rattle.uc_version_state.specs.Refusals.{AreInPlace}
 use Rattle.uc_version_state.specs.Openings.{Opening, opened}
 use Rattle.uc_version_state.specs.declared.event.Event.{Event}
 use Rattle.uc_version_state.specs.declared.event.Event.TheVariants.{Installed}
@@ -15,7 +16,8 @@ use Rattle.uc_version_state.specs.Courses.{started, NeedsNoWord, LookThen}
 use Rattle.uc_version_state.proofs.Placing.{FlushesAreRuns}
 use Rattle.uc_version_state.proofs.Counted.{held_times, all_times}
 use Rattle.uc_version_state.proofs.Growing.{after-append}
-use Rattle.uc_version_state.proofs.StepsKept.{keeps_first}
+use Rattle.uc_version_state.proofs.Noted.{standing_noted}
+use Rattle.uc_version_state.proofs.StepsKept.{Holds, Keeps, keeps_first}
 use Rattle.uc_version_state.proofs.Leading.{state, with_event, Leads, keeps_there, leads_on, others_come, at_first, look_then}
 use Rattle.uc_version_state.proofs.Looking.{Around, looks, publishes}
 use Rattle.uc_version_state.proofs.Stretches.{parts_apart}
@@ -60,26 +62,53 @@ module _ (is_run : FlushesAreRuns) (m : Operation) (laws : IsLawful m) (o : Open
       (keeps_there m (started o 2) (at_first o) (Checked noted ∷ Idle ∷ []) one_looks is_run laws
       (keeps_first m o 2 (record { opens = legal.opens; follow = tt }) opens)))
 
-  module _ (free : AllByRecursion NeedsNoWord meanwhile) (i j : Install) (made : IsMadeFor m (version_after between) noted i) (made_after : IsMadeFor m (installed i (version_after between)) others j) where
+  module _ (free : AllByRecursion NeedsNoWord meanwhile) where
     abbrev from : Machine
     from = state (at_first o) both_look.words (Checked noted ∷ Checked others ∷ [])
 
     come : Leads m from between (Checked noted ∷ Checked others ∷ [])
     come = others_come m (at_first o) both_look.words (Checked noted ∷ Checked others ∷ []) meanwhile free legal.follow
 
-    one_installs : Leads m from (with_event between (Installed i)) (giving (slots_of noted) ∷ Checked others ∷ [])
-    one_installs =
-        leads_on m from between (Checked noted ∷ Checked others ∷ []) come (with_event between (Installed i)) (giving (slots_of noted) ∷ Checked others ∷ [])
-        (publishes m 0 (λ p. p ∷ Checked others ∷ []) (ahead (Checked others)) between come.words noted i made)
+    keeps_from : Keeps m from
+    keeps_from =
+        keeps_there m (started o 2) (at_first o) (Checked noted ∷ Checked others ∷ []) both_look is_run laws
+        (keeps_first m o 2 (record { opens = legal.opens; follow = tt }) opens)
 
-    both_install : Leads m from (record { opening = o; events = (meanwhile ++ Installed i ∷ []) ++ Installed j ∷ [] }) (giving (slots_of noted) ∷ giving (slots_of others) ∷ [])
-    both_install =
-        leads_on m from (with_event between (Installed i)) (giving (slots_of noted) ∷ Checked others ∷ []) one_installs
-        (record { opening = o; events = (meanwhile ++ Installed i ∷ []) ++ Installed j ∷ [] }) (giving (slots_of noted) ∷ giving (slots_of others) ∷ [])
-        (publishes m 1 (λ p. giving (slots_of noted) ∷ p ∷ []) (after (giving (slots_of noted))) (with_event between (Installed i)) one_installs.words others j
-        (subst (λ (v : Stored). IsMadeFor m v others j) (sym (after-append (opened o) meanwhile (Installed i))) made_after))
+    keeps_come : Keeps m (state between come.words (Checked noted ∷ Checked others ∷ []))
+    keeps_come = keeps_there m from between (Checked noted ∷ Checked others ∷ []) come is_run laws keeps_from
 
-    pub install_beside : LookThen m o (noted ∷ others ∷ []) (meanwhile ++ Installed i ∷ Installed j ∷ [])
-    install_beside =
-        look_then m o legal.opens (noted ∷ others ∷ []) (meanwhile ++ Installed i ∷ Installed j ∷ []) (giving (slots_of noted) ∷ giving (slots_of others) ∷ []) both_look
-        (subst (λ (es : List Event). Leads m from (record { opening = o; events = es }) (giving (slots_of noted) ∷ giving (slots_of others) ∷ [])) (append_assoc meanwhile (Installed i ∷ []) (Installed j ∷ [])) both_install)
+    -- runs that were found in place are there
+    found_in_place : (v : Stored) (ps : List PlacedRun) → IsVersion v → Holds v (Checked ps) → AreInPlace v (ids_of ps)
+    found_in_place v ps version holds = ap ids_of (standing_noted v ps version holds.0 holds.1)
+
+    pub one_stays : AreInPlace (version_after between) (ids_of noted)
+    one_stays = found_in_place (version_after between) noted keeps_come.version (keeps_come.each 0)
+
+    module _ (i : Install) (made : IsMadeFor m (version_after between) noted i) where
+      one_installs : Leads m from (with_event between (Installed i)) (giving (slots_of noted) ∷ Checked others ∷ [])
+      one_installs =
+          leads_on m from between (Checked noted ∷ Checked others ∷ []) come (with_event between (Installed i)) (giving (slots_of noted) ∷ Checked others ∷ [])
+          (publishes m 0 (λ p. p ∷ Checked others ∷ []) (ahead (Checked others)) between come.words noted i made)
+
+      keeps_one : Keeps m (state (with_event between (Installed i)) one_installs.words (giving (slots_of noted) ∷ Checked others ∷ []))
+      keeps_one = keeps_there m from (with_event between (Installed i)) (giving (slots_of noted) ∷ Checked others ∷ []) one_installs is_run laws keeps_from
+
+      pub other_stays : IsLegal m (with_event between (Installed i)) × AreInPlace (installed i (version_after between)) (ids_of others)
+      other_stays = (
+        keeps_one.legal,
+        subst (λ (v : Stored). AreInPlace v (ids_of others)) (after-append (opened o) meanwhile (Installed i))
+            (found_in_place (version_after (with_event between (Installed i))) others keeps_one.version (keeps_one.each 1)),
+      )
+
+      module _ (j : Install) (made_after : IsMadeFor m (installed i (version_after between)) others j) where
+        both_install : Leads m from (record { opening = o; events = (meanwhile ++ Installed i ∷ []) ++ Installed j ∷ [] }) (giving (slots_of noted) ∷ giving (slots_of others) ∷ [])
+        both_install =
+            leads_on m from (with_event between (Installed i)) (giving (slots_of noted) ∷ Checked others ∷ []) one_installs
+            (record { opening = o; events = (meanwhile ++ Installed i ∷ []) ++ Installed j ∷ [] }) (giving (slots_of noted) ∷ giving (slots_of others) ∷ [])
+            (publishes m 1 (λ p. giving (slots_of noted) ∷ p ∷ []) (after (giving (slots_of noted))) (with_event between (Installed i)) one_installs.words others j
+            (subst (λ (v : Stored). IsMadeFor m v others j) (sym (after-append (opened o) meanwhile (Installed i))) made_after))
+
+        pub install_beside : LookThen m o (noted ∷ others ∷ []) (meanwhile ++ Installed i ∷ Installed j ∷ [])
+        install_beside =
+            look_then m o legal.opens (noted ∷ others ∷ []) (meanwhile ++ Installed i ∷ Installed j ∷ []) (giving (slots_of noted) ∷ giving (slots_of others) ∷ []) both_look
+            (subst (λ (es : List Event). Leads m from (record { opening = o; events = es }) (giving (slots_of noted) ∷ giving (slots_of others) ∷ [])) (append_assoc meanwhile (Installed i ∷ []) (Installed j ∷ [])) both_install)

@@ -1,13 +1,16 @@
 -- Steps of any number of compactors, and of others that feed, keep and release, one after the other, from an opening on.
-use Rattle.std.specs.Prelude.{◌≡◌, ℕ, ◌<◌, ⊤, List, [], ◌∷◌, ◌++◌, length, map, fold, replicate}
-use Rattle.uc_oper.specs.Operation.{Operation}
+use Rattle.std.specs.Prelude.{◌≡◌, ℕ, ◌<◌, ◌≤◌, ◌+◌, ◌⊎◌, ⊤, List, [], ◌∷◌, ◌++◌, length, map, fold, replicate}
+use Rattle.std.specs.List.{AllByRecursion}
+use Rattle.uc_oper.specs.Operation.{Operation, IsLawful}
 use Rattle.uc_bytes.specs.declared.write.Write.{Write}
 use Rattle.uc_claims.specs.declared.table.TheConstants.{MOST_SLOTS}
-use Rattle.uc_version_state.specs.Openings.{Opening, MayOpen}
+use Rattle.uc_version_state.specs.Openings.{Opening, MayOpen, opened}
+use Rattle.uc_version_state.specs.Installs.{part_of}
+use Rattle.uc_version_state.specs.declared.stretch.Stretch.{Stretch}
 use Rattle.uc_version_state.specs.Versions.{PlacedRun}
 use Rattle.uc_version_state.specs.declared.event.Event.{Event}
 use Rattle.uc_version_state.specs.declared.event.Event.TheVariants.{Installed, Flushed, Kept, Released}
-use Rattle.uc_version_state.specs.Histories.{MayHappen}
+use Rattle.uc_version_state.specs.Histories.{MayHappen, IsLegal}
 use Rattle.uc_version_state.specs.Machine.{Idle, Checked, Machine, Action, MayAct, present, phase_of, happens, after_action}
 
 -- One step: an action of the compactor with a number, or one event that any caller makes, without a claim word.
@@ -78,3 +81,18 @@ pub record LookThen (m : Operation) (o : Opening) (noted : List (List PlacedRun)
   pub nothing_yet : (machine_after (course_of o noted looking)).history.events ≡ []
   pub possible : IsPossible m (course_of o noted (looking ++ rest))
   pub happened : (machine_after (course_of o noted (looking ++ rest))).history.events ≡ events
+
+-- the runs of a stretch of an opening
+abbrev pub noted_at : Opening → Stretch → List PlacedRun
+noted_at o s = part_of s.first s.count (opened o).runs
+
+-- Two stretches of an opening, of two runs or more, that share none, and what happens meanwhile, which needs no claim word.
+pub record LookApart (m : Operation) (o : Opening) (s t : Stretch) (meanwhile : List Event) : Type 0 where
+  pub lawful : IsLawful m
+  pub legal : IsLegal m (record { opening = o; events = meanwhile })
+  pub free : AllByRecursion NeedsNoWord meanwhile
+  pub two : 2 ≤ s.count
+  pub within : s.first + s.count ≤ length (opened o).runs
+  pub two_more : 2 ≤ t.count
+  pub more_within : t.first + t.count ≤ length (opened o).runs
+  pub apart : (s.first + s.count ≤ t.first) ⊎ (t.first + t.count ≤ s.first)

@@ -1,5 +1,6 @@
 //! Writes that are fed: what refuses them, and the version after them.
-ghost use Rattle.std.specs.Prelude.{◌≡◌, ◌<◌, ◌^◌, ◌+◌, ◌++◌, ℕ, false, IfOk, length, slice_index_or};
+ghost use Rattle.std.specs.Arc.{arc_value};
+ghost use Rattle.std.specs.Prelude.{◌≡◌, ◌<◌, ◌^◌, ◌+◌, ◌++◌, ◌∷◌, ℕ, [], false, IfOk, length, slice_index_or};
 ghost use Rattle.uc_version_state.specs.Versions.{IsVersion, slots_of};
 ghost use Rattle.uc_version_state.specs.Flushes as flushes;
 ghost use Rattle.uc_version_state.specs.Feeds as feeds;
@@ -112,5 +113,25 @@ impl Version {
         let placed = placed_onto(alloc, self.next_id(), shared, runs)?;
         let keeps = self.keeps().to_vec(alloc)?;
         Ok(Version::new(placed, keeps, last, self.next_id() + count, self.limit()))
+    }
+
+    /// The version with a run before all others, as a new one that shares it and those. The run stays with the caller too.
+    pub fn with_run(&self, alloc: Global, run: &Arc<Run>, last: u64) -> Result<Version, AllocError>
+        requires { IsVersion (feeds.with_runs (arc_value run.now ∷ []) last self.now) }
+        ensures { IfOk result (λ version. version ≡ feeds.with_runs (arc_value run.now ∷ []) last self.now) }
+    {
+        let mut all = Vec::with_capacity(alloc, self.runs().len() + 1)?;
+        push_shared(&mut all, self.runs())?;
+        let slot = least_free(alloc, &all)?;
+        let id = self.next_id();
+        let shared = run.clone()?;
+        let first = Placed {
+            id,
+            slot,
+            run: shared,
+        };
+        all.insert(0, first)?;
+        let keeps = self.keeps().to_vec(alloc)?;
+        Ok(Version::new(all, keeps, last, id + 1, self.limit()))
     }
 }

@@ -15,7 +15,7 @@
 //!
 //! An `Err(AllocError)` comes only if an allocation fails.
 //!
-//! Tests: `uc_tests_store`.
+//! Tests: `tests/owner.py`, `tests/drawn_stores.py`.
 #![tactic(auto)]
 
 mod candidate;

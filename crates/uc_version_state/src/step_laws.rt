@@ -1,6 +1,5 @@
 //! What holds of every course of steps.
-ghost use Rattle.std.specs.Prelude.{◌≡◌, ◌≢◌, ◌≤◌, ◌⊎◌, ◌+◌, ℕ, List, [], ◌∷◌, ◌++◌, Contains, length};
-ghost use Rattle.std.specs.List.{AllByRecursion};
+ghost use Rattle.std.specs.Prelude.{◌≡◌, ◌≢◌, ◌≤◌, ◌+◌, ℕ, List, [], ◌∷◌, ◌++◌, Contains, length};
 ghost use Rattle.uc_oper.specs.Operation.{Operation, IsLawful};
 ghost use Rattle.uc_version_state.specs.Versions.{PlacedRun, ids_of};
 ghost use Rattle.uc_version_state.specs.Openings.{Opening, MayOpen, opened};
@@ -12,7 +11,7 @@ ghost use Rattle.uc_version_state.specs.declared.event.Event.TheVariants.{Instal
 ghost use Rattle.uc_version_state.specs.Histories.{History, IsLegal, MayHappen, version_after};
 ghost use Rattle.uc_version_state.specs.Machine.{Checked, IsMadeFor, present, phase_of, slots_held};
 ghost use Rattle.uc_version_state.specs.Courses.{Course, IsPossible, machine_after};
-ghost use Rattle.uc_version_state.specs.Courses.{NeedsNoWord, LookThen};
+ghost use Rattle.uc_version_state.specs.Courses.{LookApart, LookThen, noted_at};
 
 use crate::laws::opening_gives_a_version;
 use uc_run::flushed_writes_are_a_run;
@@ -55,19 +54,23 @@ pub fn a_lone_compactor_installs()
 }
 
 /// Nor is it empty beside others. Two compactors look, with any two stretches of any opening that share no run. Whatever is
-/// then fed, kept and released, the one installs its output, and after it the other.
+/// then fed, kept and released, the one installs its output, and after it the other. The runs of each stay in place until it
+/// does. `uc_version_compact::two_own_compactions_install_beside_others` says that these installs may happen.
 pub fn two_compactors_install_beside_others()
-    ensures { (m : Operation) (o : Opening) (s t : Stretch) (meanwhile : List Event) (i j : Install) →
-        let runs = (opened o).runs in
-        let one = part_of s.first s.count runs in
-        let other = part_of t.first t.count runs in
+    ensures installs { (m : Operation) (o : Opening) (s t : Stretch) (meanwhile : List Event) (i j : Install) →
         let history : History = record { opening = o; events = meanwhile } in
-        IsLawful m → IsLegal m history → AllByRecursion NeedsNoWord meanwhile →
-        2 ≤ s.count → s.first + s.count ≤ length runs → 2 ≤ t.count → t.first + t.count ≤ length runs →
-        (s.first + s.count ≤ t.first) ⊎ (t.first + t.count ≤ s.first) →
-        IsMadeFor m (version_after history) one i →
-        IsMadeFor m (installed i (version_after history)) other j →
-        LookThen m o (one ∷ other ∷ []) (meanwhile ++ Installed i ∷ Installed j ∷ []) }
+        LookApart m o s t meanwhile →
+        IsMadeFor m (version_after history) (noted_at o s) i →
+        IsMadeFor m (installed i (version_after history)) (noted_at o t) j →
+        LookThen m o (noted_at o s ∷ noted_at o t ∷ []) (meanwhile ++ Installed i ∷ Installed j ∷ []) }
+    ensures stays { (m : Operation) (o : Opening) (s t : Stretch) (meanwhile : List Event) →
+        LookApart m o s t meanwhile →
+        AreInPlace (version_after (record { opening = o; events = meanwhile })) (ids_of (noted_at o s)) }
+    ensures beside { (m : Operation) (o : Opening) (s t : Stretch) (meanwhile : List Event) (i : Install) →
+        let history : History = record { opening = o; events = meanwhile } in
+        LookApart m o s t meanwhile → IsMadeFor m (version_after history) (noted_at o s) i →
+        IsLegal m (record { opening = o; events = meanwhile ++ Installed i ∷ [] })
+        × AreInPlace (installed i (version_after history)) (ids_of (noted_at o t)) }
 {
     flushed_writes_are_a_run();
     opening_gives_a_version();

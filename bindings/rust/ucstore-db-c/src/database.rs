@@ -22,10 +22,8 @@ unsafe fn open_by(
 ) -> Result<(), Refusal> {
     // SAFETY: C owes the memory.
     let place = unsafe { Place::of(place) }?;
-    // SAFETY: C owes the struct.
-    let options = unsafe { options.as_ref() }.ok_or(Status::Null)?;
-    // SAFETY: C owes what it leads to.
-    let options = unsafe { options.read() }?;
+    // SAFETY: C owes the struct, and what it leads to.
+    let options = unsafe { COptions::at(options)?.read() }?;
     place.put(Handle::begin(open(&options)?));
     Ok(())
 }
@@ -69,14 +67,17 @@ pub unsafe extern "C" fn ucstore_db_end(db: *const DbHandle) -> i32 {
 #[no_mangle]
 pub unsafe extern "C" fn ucstore_db_close(db: *mut DbHandle) -> i32 {
     call(|| {
-        // SAFETY: C owes a handle that no other call uses.
-        match unsafe { Handle::end(db) }? {
-            Some(db) => match db.close() {
-                // It was ended before.
-                Err(db::Error::Closed) => Ok(()),
-                outcome => Ok(outcome?),
-            },
-            None => Ok(()),
+        if db.is_null() {
+            return Ok(());
+        }
+        // SAFETY: C owes a handle that only functions of the database's own threads use.
+        let outcome = unsafe { Handle::get(db) }?.close();
+        // SAFETY: They have ended, and C uses it no more.
+        drop(unsafe { Handle::end(db) }?);
+        match outcome {
+            // It was ended before.
+            Err(db::Error::Closed) => Ok(()),
+            outcome => Ok(outcome?),
         }
     })
 }

@@ -11,6 +11,7 @@ const COMPACTED: u32 = 1;
 const CHECKPOINTED: u32 = 2;
 const STALLED: u32 = 3;
 const FAILED: u32 = 4;
+const SET_ASIDE: u32 = 5;
 
 /// `struct ucstore_db_progress`.
 #[repr(C)]
@@ -72,7 +73,7 @@ pub(crate) fn progress_of(
             read: progress.read,
             whole: progress.whole,
         };
-        // SAFETY: C gave the function, and what is told lives behind the call.
+        // SAFETY: C gave the function, and what is told outlives the call.
         unsafe { function(context.get(), &told) }
     }))
 }
@@ -85,7 +86,7 @@ pub(crate) fn events_of(function: EventFunction, context: *mut c_void) -> Option
             return;
         };
         event.text = text.as_ptr();
-        // SAFETY: C gave the function, and what is told lives behind the call.
+        // SAFETY: C gave the function, and what is told outlives the call.
         unsafe { function(context.get(), &event) }
     }))
 }
@@ -114,6 +115,10 @@ impl Told {
                 let mut told = Told::done(FAILED, 0, 0, Duration::ZERO, &refusal.text);
                 told.event.status = refusal.status as i32;
                 Some(told)
+            }
+            Event::SetAside { file, bytes } => {
+                let file = CString::new(&**file).unwrap_or_default();
+                Some(Told::done(SET_ASIDE, 0, *bytes, Duration::ZERO, &file))
             }
             _ => None,
         }

@@ -35,7 +35,7 @@ pub use stats::{ucstore_db_stats, ucstore_db_stats_text, CStats};
 pub use status::Status;
 
 /// The version of the functions. It grows when one of them, or a status, changes its meaning.
-pub const ABI: u32 = 1;
+pub const ABI: u32 = 2;
 
 /// Tells [`ABI`].
 #[no_mangle]

@@ -7,6 +7,9 @@ use std::mem::MaybeUninit;
 use std::ptr::NonNull;
 use std::slice;
 
+/// The greatest size of a struct that a later header may have.
+const MOST_SIZE: usize = 4096;
+
 /// Items at an address. If there are none, the address isn't looked at.
 ///
 /// # Safety
@@ -32,6 +35,67 @@ pub(crate) unsafe fn items<'a, T>(at: *const T, count: usize) -> Result<&'a [T],
 pub(crate) unsafe fn text<'a>(at: *const c_void, length: usize) -> Result<&'a [u8], Refusal> {
     // SAFETY: The caller owes as much.
     unsafe { items(at.cast(), length) }
+}
+
+/// Reads a struct that begins with its size, as the caller's version of the header has it. Fields that it doesn't have keep their
+/// defaults. Bytes that this library doesn't know must be 0.
+///
+/// # Safety
+///
+/// If the address isn't null, a size stands there, and as many bytes from there on.
+pub(crate) unsafe fn read_sized<T: Copy>(
+    at: *const T,
+    least: usize,
+    default: T,
+) -> Result<T, Refusal> {
+    let at = NonNull::new(at.cast_mut()).ok_or(Status::Null)?;
+    // SAFETY: The caller owes the size.
+    let size = unsafe { at.cast::<usize>().read() };
+    if size < least || size > MOST_SIZE {
+        return Err(Status::BadSize.into());
+    }
+    // SAFETY: The caller owes as many bytes.
+    let given = unsafe { slice::from_raw_parts(at.cast::<MaybeUninit<u8>>().as_ptr(), size) };
+    let known = size.min(size_of::<T>());
+    // SAFETY: Behind what this library knows the header's struct has whole fields without gaps.
+    if given[known..]
+        .iter()
+        .any(|byte| unsafe { byte.assume_init() } != 0)
+    {
+        return Err(Status::BadSize.into());
+    }
+    let mut read = default;
+    // SAFETY: Both have as many bytes, and any bytes of C's are a `T`.
+    unsafe {
+        at.cast::<u8>()
+            .copy_to_nonoverlapping(NonNull::from(&mut read).cast(), known)
+    };
+    Ok(read)
+}
+
+/// Writes a struct, as much of it as the caller has memory for. Bytes that this library doesn't know become 0.
+///
+/// # Safety
+///
+/// If the address isn't null, there is memory for as many bytes.
+pub(crate) unsafe fn write_sized<T: Copy>(
+    at: *mut T,
+    value: &T,
+    size: usize,
+) -> Result<(), Refusal> {
+    if size > MOST_SIZE {
+        return Err(Status::BadSize.into());
+    }
+    let at = NonNull::new(at).ok_or(Status::Null)?.cast::<u8>();
+    let known = size.min(size_of::<T>());
+    // SAFETY: The caller owes the memory.
+    unsafe {
+        NonNull::from(value)
+            .cast()
+            .copy_to_nonoverlapping(at, known);
+        at.add(known).write_bytes(0, size - known);
+    }
+    Ok(())
 }
 
 /// Where C wants something written, which may have no value before.
@@ -100,7 +164,7 @@ impl<T: Copy> Room<T> {
         unsafe { slice::from_raw_parts_mut(self.at.cast(), self.count) }
     }
 
-    /// Writes items behind the others, as many as there is room for.
+    /// Writes items after the others, as many as there is room for.
     pub(crate) fn push(&mut self, items: &[T]) {
         let count = items.len().min(self.left());
         if count > 0 {

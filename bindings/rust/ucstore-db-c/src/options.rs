@@ -2,10 +2,11 @@
 
 use crate::call::{call, Refusal};
 use crate::events::{events_of, progress_of, EventFunction, ProgressFunction};
-use crate::memory::{items, Place};
+use crate::memory::{items, read_sized, write_sized};
 use crate::status::Status;
 use db::{ucstore, Operator, Options, Sync};
 use std::ffi::c_void;
+use std::mem::offset_of;
 
 const SYNC_ALWAYS: u32 = 0;
 const SYNC_EVERY: u32 = 1;
@@ -14,7 +15,11 @@ const SYNC_NEVER: u32 = 2;
 /// The sequence that gives up nothing.
 const TO_THE_END: u64 = u64::MAX;
 
+/// The size of the smallest struct of options that there was: it ended before `recover_to`.
+const LEAST_SIZE: usize = offset_of!(COptions, recover_to);
+
 /// `struct ucstore_db_options`.
+#[derive(Clone, Copy)]
 #[repr(C)]
 pub struct COptions {
     /// The size of the struct.
@@ -57,7 +62,7 @@ pub struct COptions {
     pub event: EventFunction,
     /// What it is given.
     pub event_context: *mut c_void,
-    /// What the files have behind this sequence is given up.
+    /// What the files have after this sequence is given up.
     pub recover_to: u64,
     /// Up to which sequence a batch may begin that is given up.
     pub give_up_until: u64,
@@ -65,18 +70,30 @@ pub struct COptions {
     pub marks: *const u64,
     /// How many there are.
     pub marks_count: usize,
+    /// Not 0 to open only a database that is there.
+    pub must_exist: u32,
+    /// None.
+    pub reserved: u32,
 }
 
 impl COptions {
+    /// The options at an address, as large as their first field says: those that an older program doesn't know have their defaults.
+    /// Those that this library doesn't know must be 0.
+    ///
+    /// # Safety
+    ///
+    /// C owes a struct of that size.
+    pub(crate) unsafe fn at(options: *const COptions) -> Result<COptions, Refusal> {
+        // SAFETY: C owes as much.
+        unsafe { read_sized(options, LEAST_SIZE, COptions::default()) }
+    }
+
     /// The options of the database.
     ///
     /// # Safety
     ///
     /// C owes the marks.
     pub(crate) unsafe fn read(&self) -> Result<Options, Refusal> {
-        if self.size != size_of::<COptions>() {
-            return Err(Status::BadSize.into());
-        }
         // SAFETY: C owes as much.
         let marks = unsafe { items(self.marks, self.marks_count) }?;
         Ok(Options {
@@ -87,6 +104,7 @@ impl COptions {
             slow_trigger: self.slow_trigger,
             checkpoint_ratio: self.checkpoint_ratio,
             checkpoint_least: self.checkpoint_least,
+            must_exist: self.must_exist != 0,
             recover_to_fault: self.recovers_to_fault != 0,
             recover_to: (self.recover_to != TO_THE_END).then_some(self.recover_to),
             give_up_until: self.give_up_until,
@@ -127,7 +145,7 @@ impl Default for COptions {
             size: size_of::<COptions>(),
             merge_operator: options.operator as u32,
             sync: SYNC_ALWAYS,
-            sync_milliseconds: 0,
+            sync_milliseconds: 100,
             write_buffer_size: options.store.write_buffer_size,
             compaction_trigger: options.store.compaction_trigger,
             stop_trigger: options.store.stop_trigger,
@@ -148,6 +166,8 @@ impl Default for COptions {
             give_up_until: options.give_up_until,
             marks: std::ptr::null(),
             marks_count: 0,
+            must_exist: options.must_exist.into(),
+            reserved: 0,
         }
     }
 }
@@ -163,13 +183,18 @@ fn operator_of(number: u32) -> Result<Operator, Refusal> {
     }
 }
 
-/// Fills in the default options.
+/// Fills in the default options, of a struct as large as the caller says.
 #[no_mangle]
-pub unsafe extern "C" fn ucstore_db_options_init(options: *mut COptions) -> i32 {
+pub unsafe extern "C" fn ucstore_db_options_init(options: *mut COptions, size: usize) -> i32 {
     call(|| {
-        // SAFETY: C owes the memory.
-        let place = unsafe { Place::of(options) }?;
-        place.put(COptions::default());
-        Ok(())
+        if size < LEAST_SIZE {
+            return Err(Status::BadSize.into());
+        }
+        let whole = COptions {
+            size,
+            ..COptions::default()
+        };
+        // SAFETY: C owes as many bytes.
+        unsafe { write_sized(options, &whole, size) }
     })
 }

@@ -2,13 +2,18 @@
 
 use crate::call::call;
 use crate::handle::{DbHandle, Handle};
-use crate::memory::{Place, Room};
+use crate::memory::{write_sized, Place, Room};
 use crate::status::Status;
 use db::Stats;
 use std::ffi::c_char;
+use std::mem::offset_of;
 use std::time::Duration;
 
+/// The size of the smallest struct of these that there was: it ended before `lookups_by_memtable`.
+const LEAST_SIZE: usize = offset_of!(CStats, lookups_by_memtable);
+
 /// `struct ucstore_db_stats`.
+#[derive(Clone, Copy)]
 #[repr(C)]
 pub struct CStats {
     /// The size of the struct.
@@ -67,6 +72,8 @@ pub struct CStats {
     pub lookups_by_filters: u64,
     /// About how many of them runs answered.
     pub lookups_by_runs: u64,
+    /// The bytes that the opening cut off the last log and set aside.
+    pub set_aside_bytes: u64,
 }
 
 impl From<Stats> for CStats {
@@ -101,6 +108,7 @@ impl From<Stats> for CStats {
             lookups_by_memtable: stats.lookups_by_memtable,
             lookups_by_filters: stats.lookups_by_filters,
             lookups_by_runs: stats.lookups_by_runs,
+            set_aside_bytes: stats.set_aside_bytes,
         }
     }
 }
@@ -109,14 +117,22 @@ impl From<Stats> for CStats {
 #[no_mangle]
 pub unsafe extern "C" fn ucstore_db_stats(db: *const DbHandle, stats: *mut CStats) -> i32 {
     call(|| {
-        // SAFETY: C owes the handle, and a struct that has a size.
-        let (db, place) = unsafe { (Handle::get(db)?, Place::of(stats)?) };
-        // SAFETY: As above; the place isn't null.
-        if unsafe { (*stats).size } != size_of::<CStats>() {
+        // SAFETY: C owes the handle.
+        let db = unsafe { Handle::get(db) }?;
+        if stats.is_null() {
+            return Err(Status::Null.into());
+        }
+        // SAFETY: C owes a struct that begins with its size.
+        let size = unsafe { stats.cast::<usize>().read() };
+        if size < LEAST_SIZE {
             return Err(Status::BadSize.into());
         }
-        place.put(db.stats().into());
-        Ok(())
+        let whole = CStats {
+            size,
+            ..CStats::from(db.stats())
+        };
+        // SAFETY: C owes as many bytes.
+        unsafe { write_sized(stats, &whole, size) }
     })
 }
 

@@ -51,7 +51,7 @@ pub enum Status {
     ReadOnly = 69,
     /// The database was closed.
     Closed = 70,
-    /// The process was forked behind the opening.
+    /// The process was forked after the opening.
     Forked = 71,
     /// An address is null.
     Null = 72,
@@ -111,6 +111,7 @@ impl From<&Error> for Status {
             Error::OtherOperator { .. } => Status::OtherOperator,
             Error::ReadOnly { .. } => Status::ReadOnly,
             Error::Closed => Status::Closed,
+            // A panic, and what a later crate may have.
             _ => Status::Internal,
         }
     }

@@ -4,41 +4,68 @@ use crate::error::Error;
 use crate::folder::Folder;
 use crate::gap;
 use crate::name::Name;
-use ucstore::{Batch, Operator, Store, View};
+use crate::partial::Partial;
+use crate::windows::Windows;
+use ucstore::{log_writes_at, Batch, Ended, LogPlace, Operator, Store, View};
+
+/// The contents of a base.
+#[derive(Clone, Copy, Debug, PartialEq, Eq)]
+struct Extent {
+    /// Its length in bytes.
+    length: u64,
+    /// How many writes: its rows, and one that takes the last sequence.
+    writes: u64,
+    /// The last sequence.
+    last: u64,
+}
 
 /// Writes a base with the rows of a view, for which the log of a number goes on. It ends at the view's last sequence, which its name
-/// has too. Returns how many bytes it has. It has its name once all is on the device. A check before each piece may end it.
+/// has too. Returns how many bytes it has. It has its name once all is on the device, and was read again. A check before each piece
+/// may end it. If it isn't written, the device has nothing of it.
 pub(crate) fn write(
     folder: &dyn Folder,
     number: u64,
     view: &View,
     check: impl Fn() -> Result<(), Error>,
 ) -> Result<u64, Error> {
-    let name = Name::Partial(number).text();
-    let mut file = folder.create(&name).map_err(Error::of_file(&name))?;
+    let mut file = Partial::create(folder, Name::Partial(number).text())?;
+    let written = write_rows(&mut file, view, &check)?;
+    file.sync()?;
+    verify(folder, number, written, &check)?;
+    file.rename(&Name::Base(number, Some(written.last)).text())?;
+    folder.sync().map_err(Error::of_file(""))?;
+    Ok(written.length)
+}
+
+/// Writes the rows of a view, and its last sequence.
+fn write_rows(
+    file: &mut Partial,
+    view: &View,
+    check: &impl Fn() -> Result<(), Error>,
+) -> Result<Extent, Error> {
     let mut checkpoint = view.checkpoint()?;
     let (mut length, mut rows, last) = (0, 0, view.last());
     while let Some(piece) = checkpoint.next_piece()? {
         check()?;
-        file.append(piece).map_err(Error::of_file(&name))?;
+        file.append(piece)?;
         rows = gap::last_of(piece, length).expect("a piece is a batch");
         length += piece.len() as u64;
     }
-    if rows < last {
+    let is_lower = rows < last;
+    if is_lower {
         let end = end_of(length, rows, last)?;
-        file.append(&end).map_err(Error::of_file(&name))?;
+        file.append(&end)?;
         length += end.len() as u64;
     }
-    file.sync().map_err(Error::of_file(&name))?;
-    let whole = Name::Base(number, Some(last)).text();
-    folder
-        .rename(&name, &whole)
-        .map_err(Error::of_file(&whole))?;
-    folder.sync().map_err(Error::of_file(""))?;
-    Ok(length)
+    let writes = rows + u64::from(is_lower);
+    Ok(Extent {
+        length,
+        writes,
+        last,
+    })
 }
 
-/// What stands behind the rows of a base of so many bytes: an operation that touches nothing, and takes the last sequence.
+/// What stands after the rows of a base of so many bytes: an operation that touches nothing, and takes the last sequence.
 fn end_of(length: u64, rows: u64, last: u64) -> Result<Vec<u8>, Error> {
     let mut batch = Batch::new();
     let mut bytes = batch.delete_range("", "")?.bytes();
@@ -46,4 +73,44 @@ fn end_of(length: u64, rows: u64, last: u64) -> Result<Vec<u8>, Error> {
     // How it is spelled depends on no operator.
     let store = Store::create(Operator::Append, &ucstore::Options::default())?;
     Ok(store.prepare_bytes(length, &gap::tell(&bytes, rows))?)
+}
+
+/// Reads a base again, before what it stands for goes: its records have their checksums, and are as many as were written.
+fn verify(
+    folder: &dyn Folder,
+    number: u64,
+    written: Extent,
+    check: &impl Fn() -> Result<(), Error>,
+) -> Result<(), Error> {
+    let name = Name::Partial(number);
+    let mut windows = Windows::of(folder, name)?;
+    let (mut place, mut writes) = (LogPlace::default(), 0);
+    let ended = loop {
+        check()?;
+        let begin = windows.begin();
+        let offset = place.offset - begin;
+        let mut found = log_writes_at(windows.bytes(), LogPlace { offset, ..place });
+        while let Some(write) = found.next_write()? {
+            place.last = write.sequence;
+            writes += 1;
+        }
+        place.offset = begin + found.offset();
+        let ended = found.ended().expect("no write is left");
+        if let Some(ended) = windows.go_on(place.offset, ended)? {
+            break ended;
+        }
+    };
+    let read = Extent {
+        length: place.offset,
+        writes,
+        last: place.last,
+    };
+    if ended == Ended::Clean && read == written && windows.length() == written.length {
+        return Ok(());
+    }
+    Err(Error::Damaged {
+        file: name.text(),
+        offset: place.offset,
+        fault: "what is read isn't what was written".into(),
+    })
 }

@@ -3,16 +3,20 @@
 use crate::base_file;
 use crate::error::Error;
 use crate::event::Event;
-use crate::folder::Folder;
+use crate::folder::{File, Folder};
 use crate::lock;
 use crate::log::Log;
 use crate::name::Name;
 use crate::shared::Shared;
 use std::sync::atomic::Ordering;
-use std::sync::Arc;
+use std::sync::{Arc, MutexGuard};
 use std::thread;
 use std::time::Instant;
 use ucstore::View;
+
+/// From how many bytes on a log is synced again before it is locked for that, and how often at most.
+const FEW_BYTES: u64 = 64 << 10;
+const MOST_SYNCS: usize = 3;
 
 /// What a checkpoint holds, and where.
 struct Begun {
@@ -20,8 +24,6 @@ struct Begun {
     /// The number of the log that goes on behind its last sequence.
     number: u64,
     view: View,
-    /// Whether it ends if the database is closed. Else that waits.
-    ends_with_it: bool,
 }
 
 impl Shared {
@@ -54,16 +56,17 @@ impl Shared {
         begin: impl FnOnce() -> Result<Option<Begun>, Error>,
     ) -> Result<(), Error> {
         let begun_at = Instant::now();
-        let mut due = lock(&self.checkpointing);
+        let _checkpointing = lock(&self.checkpointing);
         let Some(begun) = begin()? else {
             return Ok(());
         };
-        // Behind a failure it isn't tried again before as much more was logged.
-        *due = self
+        // After a failure it isn't tried again before as much more was logged.
+        let due = self
             .log_bytes()
             .saturating_add(self.options.checkpoint_least);
+        self.checkpoint_due.store(due, Ordering::Relaxed);
         let (number, last) = (begun.number, begun.view.last());
-        let check = || match begun.ends_with_it && self.is_closing.load(Ordering::Acquire) {
+        let check = || match self.is_closing.load(Ordering::Acquire) {
             true => Err(Error::Closed),
             false => Ok(()),
         };
@@ -71,7 +74,8 @@ impl Shared {
         if let Some(log) = &mut *lock(&self.log) {
             log.forget_before(number, last);
         }
-        *due = self.options.checkpoint_least;
+        self.checkpoint_due
+            .store(self.options.checkpoint_least, Ordering::Relaxed);
         self.counts.checkpoints.add(1);
         self.counts.base_bytes.add(bytes);
         let name = Name::Base(number, Some(last));
@@ -85,67 +89,88 @@ impl Shared {
 
     /// Goes on in a new log, and takes a view of what was logged before.
     fn begin_checkpoint(&self) -> Result<Option<Begun>, Error> {
-        let mut log = lock(&self.log);
-        self.check()?;
+        let mut log = self.switch_if(|_| true)?;
         let Some(log) = &mut *log else {
             return Ok(None);
         };
-        self.switch(log).map_err(|error| self.fail(error))?;
         Ok(Some(Begun {
             folder: Arc::clone(&log.folder),
             number: log.number,
             view: lock(&self.store).view()?,
-            ends_with_it: false,
         }))
     }
 
-    /// Goes on in a new log, unless this one begins behind the view: so a checkpoint lets it go. There is nothing to do if a base has
+    /// Goes on in a new log, unless this one begins after the view: so a checkpoint lets it go. There is nothing to do if a base has
     /// all of the view.
     fn begin_checkpoint_to(&self, view: &View) -> Result<Option<Begun>, Error> {
-        let mut log = lock(&self.log);
-        self.check()?;
-        let Some(log) = &mut *log else {
+        let last = view.last();
+        let is_needed = |log: &Log| log.number_behind(last).is_some() && log.before < last;
+        let log = self.switch_if(is_needed)?;
+        let Some(log) = &*log else {
             return Ok(None);
         };
-        if log.number_behind(view.last()).is_none() {
+        let Some(number) = log.number_behind(last) else {
             return Ok(None);
-        }
-        if log.before < view.last() {
-            self.switch(log)?;
-        }
-        let number = log.number_behind(view.last()).expect("it was there before");
+        };
         Ok(Some(Begun {
             folder: Arc::clone(&log.folder),
             number,
             view: view.again()?,
-            ends_with_it: true,
         }))
     }
 
     /// Goes on in a new log, unless nothing is in this one. In memory it does nothing.
     pub(crate) fn next_log(&self) -> Result<(), Error> {
-        let mut log = lock(&self.log);
-        self.check()?;
-        let outcome = match &mut *log {
-            Some(log) if log.length > 0 => self.switch(log),
-            _ => Ok(()),
-        };
-        drop(log);
+        let outcome = self.switch_if(|log| log.length > 0).map(drop);
         self.events.tell();
         outcome
     }
 
-    /// Goes on in a new log. If its file can't be made, as on a full device, the log goes on as it was.
-    fn switch(&self, log: &mut Log) -> Result<(), Error> {
-        log.get_ready().map_err(|error| self.fail(error))?;
-        let next = log.create_next()?;
-        let last = lock(&self.store).last();
-        log.switch(next, last).map_err(|error| self.fail(error))
+    /// Goes on in a new log, if that is needed. Returns the log that goes on, locked.
+    ///
+    /// It isn't locked while the next one's file is made, as long as most of its bytes are synced. If that file can't be made, as on a
+    /// full device, the log goes on as it was.
+    fn switch_if(
+        &self,
+        is_needed: impl Fn(&Log) -> bool,
+    ) -> Result<MutexGuard<'_, Option<Log>>, Error> {
+        let _switching = lock(&self.switching);
+        let mut guard = lock(&self.log);
+        self.check()?;
+        let (folder, number) = match &mut *guard {
+            Some(log) if is_needed(log) => {
+                log.get_ready()?;
+                (Arc::clone(&log.folder), log.number + 1)
+            }
+            _ => return Ok(guard),
+        };
+        drop(guard);
+        let next = create_log(&*folder, number)?;
+        let mut guard = self.sync_most()?;
+        if let Some(log) = &mut *guard {
+            let last = lock(&self.store).last();
+            log.switch(next, last)
+                .map_err(|refusal| self.refuse(refusal))?;
+        }
+        Ok(guard)
+    }
+
+    /// Syncs the log until few bytes are left, which came meanwhile. Returns it locked.
+    fn sync_most(&self) -> Result<MutexGuard<'_, Option<Log>>, Error> {
+        let mut guard = self.sync_log()?;
+        for _ in 0..MOST_SYNCS {
+            if guard.as_ref().is_none_or(|log| log.unsynced() < FEW_BYTES) {
+                break;
+            }
+            drop(guard);
+            guard = self.sync_log()?;
+        }
+        Ok(guard)
     }
 
     /// How many bytes the logs have that no base holds.
     pub(crate) fn log_bytes(&self) -> u64 {
-        lock(&self.log).as_ref().map_or(0, Log::bytes)
+        self.counts.log_bytes.get()
     }
 
     /// Asks for a checkpoint if the logs exceed the data by as much as the options say.
@@ -153,7 +178,7 @@ impl Shared {
         let Some(thread) = self.checkpointer.get() else {
             return;
         };
-        if log.bytes() >= self.long_log(self.options.checkpoint_least, data)
+        if log.bytes() >= self.long_log(data)
             && !self.is_checkpoint_due.swap(true, Ordering::AcqRel)
         {
             thread.unpark();
@@ -166,22 +191,37 @@ impl Shared {
             if !self.is_checkpoint_due.swap(false, Ordering::AcqRel) {
                 thread::park();
             } else if self.is_log_long() {
-                self.checkpoint().unwrap_or_else(|error| self.note(error));
+                match self.checkpoint() {
+                    Ok(()) => self.forget_noted(),
+                    // The close doesn't wait for the rest of it.
+                    Err(Error::Closed) => {}
+                    Err(error) => self.note(error),
+                }
             }
         }
     }
 
     /// Whether the logs are still as long as those who asked found them.
     fn is_log_long(&self) -> bool {
-        let least = *lock(&self.checkpointing);
-        let bytes = self.log_bytes();
-        bytes >= self.long_log(least, lock(&self.store).report().bytes)
+        self.log_bytes() >= self.long_log(lock(&self.store).report().bytes)
     }
 
     /// How many bytes the logs have at least when a checkpoint is made.
-    fn long_log(&self, least: u64, data: u64) -> u64 {
+    fn long_log(&self, data: u64) -> u64 {
+        let least = self.checkpoint_due.load(Ordering::Relaxed);
         least.max(data.saturating_mul(self.options.checkpoint_ratio))
     }
+}
+
+/// Makes the file of a log, whose name is on the device then. If that fails there is none, as far as that can be done.
+fn create_log(folder: &dyn Folder, number: u64) -> Result<Box<dyn File>, Error> {
+    let name = Name::Log(number).text();
+    let file = folder.create(&name).map_err(Error::of_file(&name))?;
+    if let Err(error) = folder.sync() {
+        let _ = folder.remove(&name);
+        return Err(Error::of_file("")(error));
+    }
+    Ok(file)
 }
 
 /// Removes the logs before a number, and bases before one.
@@ -190,7 +230,7 @@ fn remove_before(folder: &dyn Folder, number: u64, base: Name) -> Result<(), Err
         let is_older = match Name::of(&text) {
             Some(Name::Log(it) | Name::Partial(it)) => it < number,
             Some(other @ Name::Base(..)) => other < base,
-            None => false,
+            _ => false,
         };
         if is_older {
             folder.remove(&text).map_err(Error::of_file(&text))?;

@@ -29,8 +29,12 @@ pub(crate) struct Counts {
     pub(crate) user_bytes: Count,
     /// The bytes that were appended to logs.
     pub(crate) logged_bytes: Count,
+    /// The bytes that the logs have now and no base holds.
+    pub(crate) log_bytes: Count,
     /// The bytes of the bases that were written.
     pub(crate) base_bytes: Count,
+    /// The bytes that the opening cut off a log and set aside.
+    pub(crate) set_aside_bytes: Count,
 }
 
 /// A number that threads raise.
@@ -70,7 +74,9 @@ impl Default for Counts {
             lookups: Lookups::default(),
             user_bytes: Count::default(),
             logged_bytes: Count::default(),
+            log_bytes: Count::default(),
             base_bytes: Count::default(),
+            set_aside_bytes: Count::default(),
         }
     }
 }
@@ -79,6 +85,11 @@ impl Count {
     /// Raises it, and tells what it was.
     pub(crate) fn add(&self, more: u64) -> u64 {
         self.0.fetch_add(more, Ordering::Relaxed)
+    }
+
+    /// Sets it.
+    pub(crate) fn set(&self, number: u64) {
+        self.0.store(number, Ordering::Relaxed);
     }
 
     /// What it is now.

@@ -14,7 +14,7 @@ use std::cell::Cell;
 use std::fmt;
 use std::mem::MaybeUninit;
 use std::path::Path;
-use std::sync::Arc;
+use std::sync::{Arc, Weak};
 use ucstore::Batch;
 
 /// How many bytes a thread keeps for its next operation at most.
@@ -31,6 +31,43 @@ pub struct Db {
     workers: Arc<Workers>,
 }
 
+/// A database that this doesn't keep open, as for a [`Listener`](crate::Listener) that calls it.
+///
+/// ```
+/// # use std::sync::{Arc, OnceLock};
+/// # use ucstore_db::{Db, Event, Listener, Options, WeakDb};
+/// # fn main() -> Result<(), ucstore_db::Error> {
+/// let cell = Arc::new(OnceLock::<WeakDb>::new());
+/// let seen = Arc::clone(&cell);
+/// let events = Some(Listener::new(move |event: &Event| {
+///     if let Some(db) = seen.get().and_then(WeakDb::upgrade) {
+///         println!("{event:?} at {} runs", db.stats().runs);
+///     }
+/// }));
+/// let db = Db::in_memory(&Options { events, ..Default::default() })?;
+/// cell.set(db.downgrade()).unwrap();
+/// # Ok(())
+/// # }
+/// ```
+#[derive(Clone)]
+pub struct WeakDb {
+    workers: Weak<Workers>,
+}
+
+impl WeakDb {
+    /// Returns the database, unless its last clone was dropped.
+    pub fn upgrade(&self) -> Option<Db> {
+        let workers = self.workers.upgrade()?;
+        Some(Db { workers })
+    }
+}
+
+impl fmt::Debug for WeakDb {
+    fn fmt(&self, formatter: &mut fmt::Formatter<'_>) -> fmt::Result {
+        formatter.debug_struct("WeakDb").finish_non_exhaustive()
+    }
+}
+
 impl Db {
     /// The database of a folder, which is made if it isn't there.
     ///
@@ -39,7 +76,12 @@ impl Db {
     /// [`Error::Locked`], [`Error::OtherOperator`], [`Error::Damaged`], [`Error::Missing`] and [`Error::NotRecoverable`], which change
     /// nothing; [`Error::File`], [`Error::Store`].
     pub fn open(folder: impl AsRef<Path>, options: &Options) -> Result<Db, Error> {
-        Db::open_on(Arc::new(DiskFolder::open(folder)?), options)
+        options.check()?;
+        let folder = match options.must_exist {
+            true => DiskFolder::open_existing(folder),
+            false => DiskFolder::open(folder),
+        }?;
+        Db::open_on(Arc::new(folder), options)
     }
 
     /// The database of a folder on another device. Nothing else opens it meanwhile.
@@ -108,7 +150,8 @@ impl Db {
     ///
     /// # Errors
     ///
-    /// [`Error::Store`] if it is refused before it is logged. Then it, and what came with it, isn't taken.
+    /// [`Error::Store`] if it is refused before it is logged, and [`Error::File`] if its log has no room for it. Then it, and what came
+    /// with it, isn't taken, and later writes may be.
     ///
     /// [`Error::ReadOnly`] if its log fails, or has failed: it isn't taken. The one that failed may be there again, or
     /// not, when the folder is opened the next time. [`Error::Closed`].
@@ -125,7 +168,7 @@ impl Db {
         if batch.is_empty() {
             return self.shared().check();
         }
-        self.shared().write(batch.bytes(), is_synced)
+        self.shared().write(batch.try_bytes()?, is_synced)
     }
 
     /// Takes a batch that [`Batch::bytes`] or RocksDB wrote, as [`write_with`](Db::write_with) does, alone in its record. Its operations
@@ -292,15 +335,16 @@ impl Db {
     ///
     /// # Errors
     ///
-    /// [`Error::File`] and [`Error::Store`] if the base isn't written: then the logs stay, and the database goes on.
-    /// [`Error::ReadOnly`] if no new log can be begun. [`Error::Closed`].
+    /// [`Error::File`] and [`Error::Store`] if the base isn't written, or no new log can be made, and [`Error::Damaged`] if the base
+    /// isn't read as it was written: then the logs stay, the device has nothing of the base, and the database goes on.
+    /// [`Error::ReadOnly`] if the log can't be synced. [`Error::Closed`].
     pub fn checkpoint(&self) -> Result<(), Error> {
         self.shared().checkpoint()
     }
 
     /// Writes what a snapshot has to a base, and removes the logs that have nothing behind it. What came behind the snapshot stays in
     /// logs, so that it may be made again as a [mark](Options::marks). Others write meanwhile. In memory, or if a base has as much, it
-    /// does nothing. It ends if the database is closed, and the folder stays locked until then.
+    /// does nothing. It ends if the database is closed, which waits for that.
     ///
     /// # Errors
     ///
@@ -343,12 +387,20 @@ impl Db {
         self.shared().failure()
     }
 
-    /// Closes it, for all clones. What was acknowledged is on the device then. Reads still answer, from memory.
+    /// Returns a reference that doesn't keep it open.
+    pub fn downgrade(&self) -> WeakDb {
+        WeakDb {
+            workers: Arc::downgrade(&self.workers),
+        }
+    }
+
+    /// Closes it, for all clones. What was acknowledged is on the device then, and its folder may be opened again. Reads still
+    /// answer, from memory.
     ///
     /// # Errors
     ///
     /// What failed before: [`Error::ReadOnly`], or an error of a checkpoint in the background. [`Error::Closed`] if it
-    /// was closed.
+    /// was closed, once that is done.
     pub fn close(&self) -> Result<(), Error> {
         self.workers.close()
     }
@@ -396,7 +448,7 @@ fn bytes_of_one(
     // A thread that ends may have none any more.
     let mut batch = SINGLE.try_with(Cell::take).unwrap_or_default();
     add(&mut batch)?;
-    let bytes = batch.bytes();
+    let bytes = batch.try_bytes()?;
     if bytes.len() <= MOST_KEPT {
         batch.clear();
         let _ = SINGLE.try_with(|single| single.set(batch));

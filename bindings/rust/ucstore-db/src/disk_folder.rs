@@ -2,8 +2,9 @@
 
 use crate::error::Error;
 use crate::folder::{File, Folder};
+use crate::name::Name;
 use std::fs::{self, OpenOptions, TryLockError};
-use std::io::{self, Write};
+use std::io::{self, Read, Seek, SeekFrom, Write};
 use std::path::{Path, PathBuf};
 use std::process;
 
@@ -11,24 +12,60 @@ use std::process;
 const LOCK: &str = "LOCK";
 
 /// A folder of the file system, which is locked until this is dropped.
+///
+/// Its path is made absolute, so that it stays the same if the process goes to another directory.
 #[derive(Debug)]
 pub struct DiskFolder {
     path: PathBuf,
+    /// The directory itself, so that syncing its names needs no descriptor.
+    directory: fs::File,
     lock: fs::File,
     /// The process that has locked it.
     process: u32,
 }
 
 impl DiskFolder {
-    /// Locks a folder, which is made if it isn't there.
+    /// Locks a folder, which is made if it isn't there. Its own name is on the device then.
     ///
     /// # Errors
     ///
     /// [`Error::Locked`], [`Error::File`].
     pub fn open(path: impl AsRef<Path>) -> Result<DiskFolder, Error> {
-        let path = path.as_ref().to_path_buf();
+        let path = path.as_ref();
+        let made = make_directory(path).and_then(|()| fs::canonicalize(path));
+        DiskFolder::lock(made.map_err(Error::of_file(&path.display().to_string()))?)
+    }
+
+    /// Locks a folder in which there is a database. It makes none.
+    ///
+    /// # Errors
+    ///
+    /// [`Error::Missing`] if there is none, and those of [`open`](DiskFolder::open).
+    pub fn open_existing(path: impl AsRef<Path>) -> Result<DiskFolder, Error> {
+        let file = path.as_ref().display().to_string();
+        let path = match fs::canonicalize(path) {
+            Ok(path) => path,
+            Err(error) if error.kind() == io::ErrorKind::NotFound => {
+                return Err(Error::Missing { file });
+            }
+            Err(error) => return Err(Error::of_file(&file)(error)),
+        };
+        match names_of(&path) {
+            Ok(names) if names.iter().any(|name| is_database(name)) => DiskFolder::lock(path),
+            Ok(_) => Err(Error::Missing { file }),
+            Err(error) => Err(Error::of_file(&file)(error)),
+        }
+    }
+
+    /// Locks a folder of an absolute path.
+    fn lock(path: PathBuf) -> Result<DiskFolder, Error> {
+        let name = path.display().to_string();
+        let directory = fs::File::open(&path).map_err(Error::of_file(&name))?;
         let file = path.join(LOCK).display().to_string();
-        make_folder(&path).map_err(Error::of_file(&path.display().to_string()))?;
+        if !path.join(LOCK).exists() {
+            // Where there is one, this was done before.
+            sync_name(&path).map_err(Error::of_file(&name))?;
+        }
         let lock = OpenOptions::new()
             .write(true)
             .create(true)
@@ -38,6 +75,7 @@ impl DiskFolder {
         match lock.try_lock() {
             Ok(()) => Ok(DiskFolder {
                 path,
+                directory,
                 lock,
                 process: process::id(),
             }),
@@ -57,26 +95,50 @@ impl Drop for DiskFolder {
     }
 }
 
-/// Makes a folder and those above it, and waits until their names are on the device.
-fn make_folder(path: &Path) -> io::Result<()> {
+/// Makes a directory and those above it, and waits until the names of those are on the device.
+fn make_directory(path: &Path) -> io::Result<()> {
     if path.as_os_str().is_empty() || path.is_dir() {
         return Ok(());
     }
     let above = path.parent().unwrap_or(Path::new(""));
-    make_folder(above)?;
+    make_directory(above)?;
     match fs::create_dir(path) {
         Err(error) if error.kind() == io::ErrorKind::AlreadyExists => {}
         outcome => outcome?,
     }
-    // A name without a folder is one of the folder in which the process runs.
+    // A name without a directory is one of the directory in which the process runs.
     fs::File::open(Path::new(".").join(above))?.sync_all()
+}
+
+/// Waits until the name of a directory is on the device: who made it may have ended before that. So may be those of the ones above it,
+/// where that can be asked for.
+fn sync_name(path: &Path) -> io::Result<()> {
+    let mut above = path.ancestors().skip(1);
+    if let Some(parent) = above.next() {
+        fs::File::open(parent)?.sync_all()?;
+    }
+    for directory in above {
+        // What isn't this user's wasn't made by this user.
+        let _ = fs::File::open(directory).and_then(|directory| directory.sync_all());
+    }
+    Ok(())
+}
+
+/// The names of the files of a directory.
+fn names_of(path: &Path) -> io::Result<Vec<String>> {
+    fs::read_dir(path)?
+        .map(|entry| Ok(entry?.file_name().to_string_lossy().into_owned()))
+        .collect()
+}
+
+/// Whether a file is a log or a base.
+fn is_database(name: &str) -> bool {
+    matches!(Name::of(name), Some(Name::Log(_) | Name::Base(..)))
 }
 
 impl Folder for DiskFolder {
     fn names(&self) -> io::Result<Vec<String>> {
-        fs::read_dir(&self.path)?
-            .map(|entry| Ok(entry?.file_name().to_string_lossy().into_owned()))
-            .collect()
+        names_of(&self.path)
     }
 
     fn length(&self, name: &str) -> io::Result<u64> {
@@ -85,6 +147,14 @@ impl Folder for DiskFolder {
 
     fn read(&self, name: &str) -> io::Result<Vec<u8>> {
         fs::read(self.path.join(name))
+    }
+
+    fn read_at(&self, name: &str, offset: u64, length: usize) -> io::Result<Vec<u8>> {
+        let mut file = fs::File::open(self.path.join(name))?;
+        file.seek(SeekFrom::Start(offset))?;
+        let mut bytes = Vec::with_capacity(length);
+        file.take(length as u64).read_to_end(&mut bytes)?;
+        Ok(bytes)
     }
 
     fn create(&self, name: &str) -> io::Result<Box<dyn File>> {
@@ -105,7 +175,7 @@ impl Folder for DiskFolder {
     }
 
     fn sync(&self) -> io::Result<()> {
-        fs::File::open(&self.path)?.sync_all()
+        self.directory.sync_all()
     }
 }
 
@@ -115,7 +185,9 @@ impl File for fs::File {
     }
 
     fn cut(&mut self, length: u64) -> io::Result<()> {
-        self.set_len(length)
+        self.set_len(length)?;
+        // One that was made anew goes on where it was: here.
+        self.seek(SeekFrom::Start(length)).map(drop)
     }
 
     fn sync(&mut self) -> io::Result<()> {

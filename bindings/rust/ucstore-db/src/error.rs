@@ -62,6 +62,11 @@ pub enum Error {
     },
     /// The database was closed.
     Closed,
+    /// One of the database's own threads panicked: the library has a fault.
+    Internal {
+        /// The thread's name.
+        thread: String,
+    },
 }
 
 impl Error {
@@ -73,7 +78,7 @@ impl Error {
         }
     }
 
-    /// What later writes are told behind this one.
+    /// What later writes are told after this one.
     pub(crate) fn into_cause(self) -> Error {
         match self {
             Error::ReadOnly { .. } | Error::Closed => self,
@@ -117,6 +122,7 @@ impl fmt::Display for Error {
             ),
             Error::ReadOnly { cause } => write!(formatter, "nothing can be written: {cause}"),
             Error::Closed => formatter.write_str("the database is closed"),
+            Error::Internal { thread } => write!(formatter, "the {thread} thread panicked"),
         }
     }
 }

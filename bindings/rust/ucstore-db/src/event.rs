@@ -4,6 +4,7 @@ use crate::error::Error;
 use crate::lock;
 use std::fmt;
 use std::mem;
+use std::panic::{catch_unwind, AssertUnwindSafe};
 use std::sync::{Arc, Mutex};
 use std::time::Duration;
 
@@ -43,8 +44,17 @@ pub enum Event {
     },
     /// A log or a checkpoint in the background failed.
     Failed {
-        /// Why. Behind [`Error::ReadOnly`] nothing can be written any more.
+        /// Why. Behind [`Error::ReadOnly`] nothing can be written any more. A log that refuses records, as on a full device, is told
+        /// once, until it takes one.
         error: Error,
+    },
+    /// The opening cut bytes off the end of the last log, which a crash had left there and which are no whole batch, and set them aside.
+    /// It is told before the opening returns.
+    SetAside {
+        /// The name of the file in which they are. It is never read again.
+        file: String,
+        /// Their length in bytes.
+        bytes: u64,
     },
 }
 
@@ -61,8 +71,10 @@ pub struct Progress {
 
 /// A function of the owner's that is told things. A clone is the same one.
 ///
-/// It is called by the thread that did something, which holds no lock: the function may call the database, also to close it.
-/// What the thread does next waits for it.
+/// It is called by the thread that did something, or by one of the database's own, which holds no lock: the function may call the
+/// database, even to close it. What the thread does next waits for it. A panic of the function ends there.
+///
+/// A function that owns a [`Db`](crate::Db) keeps it open for ever: it takes a [`WeakDb`](crate::WeakDb).
 ///
 /// ```
 /// # use ucstore_db::{Db, Event, Listener, Options};
@@ -80,9 +92,9 @@ impl<T> Listener<T> {
         Listener(Arc::new(function))
     }
 
-    /// Tells it something.
+    /// Calls the function. A panic ends there: the threads that call it keep the database's promises.
     pub(crate) fn tell(&self, told: &T) {
-        (self.0)(told);
+        let _ = catch_unwind(AssertUnwindSafe(|| (self.0)(told)));
     }
 }
 
@@ -128,6 +140,11 @@ impl Events {
         if self.listener.is_some() {
             lock(&self.waiting).push(event);
         }
+    }
+
+    /// Whether there are any that wait.
+    pub(crate) fn are_waiting(&self) -> bool {
+        self.listener.is_some() && !lock(&self.waiting).is_empty()
     }
 
     /// Tells what waits. The thread holds no lock.

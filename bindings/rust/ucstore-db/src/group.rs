@@ -33,7 +33,7 @@ pub(crate) enum Role {
     Leads,
     /// It waits for the leader.
     Follows(Arc<Outcome>),
-    /// The group is full: it waits until that is written, and joins with its batch again.
+    /// The group can't take the batch: the writer waits until it is written, and joins again.
     Waits(Arc<Outcome>, Vec<u8>),
 }
 
@@ -71,9 +71,10 @@ impl Groups {
 }
 
 impl Group {
-    /// How many bytes a store gathers for it at most: 8 for each operation's sequence, and its texts.
+    /// The most bytes that a store gathers for it: 8 for each operation's sequence, and its keys and values. In the batch each
+    /// operation has a tag and at least one length beside these.
     pub(crate) fn memory(&self) -> u64 {
-        self.batch.len() as u64 + 8 * u64::from(count_of(&self.batch))
+        (self.batch.len() - HEADER_SIZE) as u64 + (8 - 2) * u64::from(count_of(&self.batch))
     }
 
     /// Tells the writers that wait what became of it, once it is written or refused.
@@ -83,7 +84,7 @@ impl Group {
         }
     }
 
-    /// Adds a batch, and tells whether there was room.
+    /// Adds a batch, and returns whether that was possible: the group may be full, or an allocation may fail.
     fn add(&mut self, batch: &[u8]) -> bool {
         let (Some(count), true) = (
             count_of(&self.batch).checked_add(count_of(batch)),
@@ -91,6 +92,9 @@ impl Group {
         ) else {
             return false;
         };
+        if self.batch.try_reserve(batch.len()).is_err() {
+            return false;
+        }
         self.batch[8..HEADER_SIZE].copy_from_slice(&count.to_le_bytes());
         self.batch.extend_from_slice(&batch[HEADER_SIZE..]);
         self.batches += 1;

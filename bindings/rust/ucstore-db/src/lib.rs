@@ -22,8 +22,8 @@
 //!
 //! A batch is taken whole or not at all. It is judged first, and all memory that it needs is taken; its record is
 //! appended to a log, and synced as [`Sync`] says; then it is seen. Writers that come together share one record and one
-//! sync. If a log's write or sync fails, the batch isn't taken, and the database refuses all later writes: what the
-//! file holds isn't known until it is opened again.
+//! sync. If a log's write fails, the batch isn't taken, and what is there of it is cut off. If its sync fails, the database refuses all
+//! later writes: what the file holds isn't known until it is opened again.
 //!
 //! # Reads
 //!
@@ -32,8 +32,9 @@
 //! is looked up in the store, which is locked meanwhile. Where that isn't free soon, the thread renews its view. The writer has shown
 //! the next view by then, if the last one was used; else the first reader makes it, which locks the store for the time of a share.
 //! While nothing is written, threads look keys up without a lock in common. A writer shows what there is before a flush: so no
-//! read waits for a flush, a compaction or a checkpoint. Only behind 64 range deletions the store flushes by itself,
-//! and then the first read may wait. Views are let go of when the runs change, so threads that read no more keep nothing.
+//! lookup waits for a flush, a compaction or a checkpoint. Only after 64 range deletions the store flushes by itself,
+//! and then the first read may wait. A scan flushes what is gathered, from 32 KiB on, and sorts less than that. Views are let go of when
+//! the runs change, so threads that read no more keep nothing.
 //!
 //! # What it tells
 //!
@@ -45,8 +46,8 @@
 //! `LOCK` is locked by the process that has the database open. `OPERATOR` names the operator that the folder was made
 //! with. `000001.log` and those behind it are write-ahead logs as
 //! RocksDB writes them. A checkpoint `000007-1234.base` is such a log too. It holds what was written up to sequence 1234, where it ends:
-//! all of the logs before `000007.log`, and of that one what comes up to there. A [`Folder`] of another device may stand for
-//! the file system.
+//! all of the logs before `000007.log`, and of that one what comes up to there. `000007.log.lost` has what an opening cut off that log,
+//! where a crash had left it. A [`Folder`] of another device may stand for the file system.
 //!
 //! # Parts of something greater
 //!
@@ -59,27 +60,33 @@
 mod alone;
 mod base_file;
 mod checkpoint;
+mod checksum;
 mod compactor;
 mod counts;
 mod db;
 mod disk_folder;
+mod ending;
 mod error;
 mod event;
+mod flushes;
 mod folder;
 mod front;
 mod gap;
 mod group;
 mod header;
 mod holder;
+mod kept;
 mod lanes;
 mod log;
 mod lookups;
+mod mark;
 mod moments;
 mod name;
 mod newest;
 mod operator_file;
 mod options;
 mod padded;
+mod partial;
 mod patience;
 mod reading;
 mod record;
@@ -88,13 +95,16 @@ mod replay;
 mod shared;
 mod shown;
 mod snapshot;
+mod stalls;
 mod stats;
 mod sync_times;
+mod syncing;
 mod touched;
 mod unready;
+mod windows;
 mod workers;
 
-pub use db::Db;
+pub use db::{Db, WeakDb};
 pub use disk_folder::DiskFolder;
 pub use error::Error;
 pub use event::{Event, Listener, Progress};
@@ -107,7 +117,7 @@ pub use ucstore::{Batch, Operator};
 
 use std::sync::{Mutex, MutexGuard, PoisonError, TryLockError};
 
-/// Locks, also behind a thread that panicked: what is locked here is whole between two calls.
+/// Locks, also after a thread that panicked: what is locked here is whole between two calls.
 fn lock<T>(mutex: &Mutex<T>) -> MutexGuard<'_, T> {
     mutex.lock().unwrap_or_else(PoisonError::into_inner)
 }

@@ -3,7 +3,8 @@
 use crate::error::Error;
 use crate::name::Name;
 use crate::options::Options;
-use ucstore::{log_writes, Store, View};
+use crate::windows::Windows;
+use ucstore::{log_writes_at, LogPlace, Store, View};
 
 /// The sequences at which a replay makes snapshots, and the one at which it ends. Each has to be the end of a batch.
 pub(crate) struct Moments {
@@ -48,7 +49,7 @@ impl Moments {
         self.due().is_some_and(|due| due < next)
     }
 
-    /// Makes a snapshot of a store, if there is a mark. Tells whether the replay ends here, behind the batch that ends at the offset.
+    /// Makes a snapshot of a store, if there is a mark. Tells whether the replay ends here, after the batch that ends at the offset.
     pub(crate) fn reach(&mut self, store: &Store, offset: u64) -> Result<bool, Error> {
         let last = store.last();
         if let Some(due) = self.due().filter(|due| *due < last) {
@@ -75,23 +76,29 @@ impl Moments {
         }
     }
 
-    /// Checks a log of which batches are given up: none of these begins behind the sequence up to which they may.
-    pub(crate) fn check_given_up(&self, name: Name, log: &[u8]) -> Result<(), Error> {
+    /// Checks a log of which batches are given up: none of these begins after the sequence up to which they may.
+    pub(crate) fn check_given_up(&self, name: Name, windows: &mut Windows) -> Result<(), Error> {
         let most = self.give_up_until.max(self.end.unwrap_or(0));
-        let mut writes = log_writes(log);
+        let mut at = LogPlace::default();
+        windows.seek(0)?;
         loop {
-            let (offset, begins) = (writes.offset(), writes.is_between_batches());
-            match writes.next_write()? {
-                Some(write) if begins && write.sequence > most => {
-                    let begin = write.sequence;
-                    let fault = format!(
-                        "a batch begins at sequence {begin}, so that {} was acknowledged",
-                        begin - 1
-                    );
-                    return Err(refusal(name, offset, fault));
+            let begin = windows.begin();
+            let offset = at.offset - begin;
+            let mut writes = log_writes_at(windows.bytes(), LogPlace { offset, ..at });
+            loop {
+                let (offset, begins) = (begin + writes.offset(), writes.is_between_batches());
+                let Some(write) = writes.next_write()? else {
+                    break;
+                };
+                at.last = write.sequence;
+                if begins && at.last > most {
+                    return Err(was_acknowledged(name, offset, at.last));
                 }
-                Some(_) => {}
-                None => return Ok(()),
+            }
+            at.offset = begin + writes.offset();
+            let ended = writes.ended().expect("no write is left");
+            if windows.go_on(at.offset, ended)?.is_some() {
+                return Ok(());
             }
         }
     }
@@ -105,6 +112,13 @@ impl Moments {
     fn refusal(&self, offset: u64, fault: String) -> Error {
         refusal(self.name, offset, fault)
     }
+}
+
+/// What says that a batch that begins at a sequence can't be given up.
+fn was_acknowledged(name: Name, offset: u64, begin: u64) -> Error {
+    let before = begin - 1;
+    let fault = format!("a batch begins at sequence {begin}, so that {before} was acknowledged");
+    refusal(name, offset, fault)
 }
 
 /// What says that a file can't be recovered to a sequence.

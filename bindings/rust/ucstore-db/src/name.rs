@@ -10,6 +10,12 @@ pub(crate) enum Name {
     Base(u64, Option<u64>),
     /// A checkpoint that was being written.
     Partial(u64),
+    /// A log that was being written anew.
+    NewLog(u64),
+    /// What an opening has cut off a log and set aside, from 1 on.
+    Lost(u64, u64),
+    /// The same while it was being written.
+    NewLost(u64),
 }
 
 impl Name {
@@ -25,6 +31,9 @@ impl Name {
             ("log", None) => Name::Log(number),
             ("base", sequence) => Name::Base(number, sequence),
             ("base.new", None) => Name::Partial(number),
+            ("log.new", None) => Name::NewLog(number),
+            ("log.lost", count) => Name::Lost(number, count.unwrap_or(1)),
+            ("log.lost.new", None) => Name::NewLost(number),
             _ => return None,
         };
         (found.text() == name).then_some(found)
@@ -37,6 +46,10 @@ impl Name {
             Name::Base(number, None) => format!("{number:06}.base"),
             Name::Base(number, Some(sequence)) => format!("{number:06}-{sequence}.base"),
             Name::Partial(number) => format!("{number:06}.base.new"),
+            Name::NewLog(number) => format!("{number:06}.log.new"),
+            Name::Lost(number, 1) => format!("{number:06}.log.lost"),
+            Name::Lost(number, count) => format!("{number:06}-{count}.log.lost"),
+            Name::NewLost(number) => format!("{number:06}.log.lost.new"),
         }
     }
 }
@@ -53,6 +66,10 @@ mod tests {
             Name::Base(1, Some(0)),
             Name::Base(2, Some(u64::MAX)),
             Name::Partial(0),
+            Name::NewLog(7),
+            Name::Lost(7, 1),
+            Name::Lost(7, 2),
+            Name::NewLost(7),
         ] {
             assert_eq!(Name::of(&name.text()), Some(name));
         }
@@ -68,6 +85,8 @@ mod tests {
             "000001-02.base",
             "000001-.base",
             "000001--2.base",
+            "000001-1.log.lost",
+            "000001-2.log.new",
         ] {
             assert_eq!(Name::of(text), None);
         }

@@ -65,7 +65,7 @@ struct Slot {
 }
 
 impl Slot {
-    /// Whether the store may be asked behind so many groups. Then it is counted.
+    /// Whether the store may be asked after so many groups. Then it is counted.
     fn may_ask(&mut self, taken: u64) -> bool {
         if self.asked_at != taken {
             (self.asked, self.asked_at) = (0, taken);
@@ -110,8 +110,15 @@ impl Newest {
         if !held.shown.as_ref().is_some_and(has_key) {
             let ask = || Patience::Short.look(|| try_lock(store));
             if let Some(store) = held.may_ask(least).then(ask).flatten() {
+                let old = held.shown.as_ref().map(|shown| shown.taken);
                 drop(held);
-                return Ok(read(Holder::Store(&store))?);
+                let value = read(Holder::Store(&store));
+                drop(store);
+                // The slot was locked here when others may have let go of old views.
+                if let Some(taken) = old {
+                    self.end_use(taken, || self.let_go_of(slot));
+                }
+                return Ok(value?);
             }
             held.shown = None;
             held.shown = Some(self.shown(least, store)?);
@@ -133,9 +140,14 @@ impl Newest {
     pub(crate) fn sorted_view(&self, store: &Mutex<Store>) -> Result<View, Error> {
         let least = self.taken();
         self.count_scan();
-        if let Some(shown) = lock(&self.sorted).as_ref().filter(|it| it.taken >= least) {
-            return Ok(shown.view.again()?);
+        let sorted = lock(&self.sorted);
+        if let Some(shown) = sorted.as_ref().filter(|it| it.taken >= least) {
+            let (view, taken) = (shown.view.again(), shown.taken);
+            drop(sorted);
+            self.end_use(taken, || self.let_go_of_sorted());
+            return Ok(view?);
         }
+        drop(sorted);
         let mut shown = self.shown(least, store)?;
         shown.sort()?;
         let (taken, again) = (shown.taken, shown.again()?);
@@ -225,7 +237,7 @@ impl Newest {
         Ok(shown)
     }
 
-    /// Whether there were many scans behind the last group, or change of the runs.
+    /// Whether there were many scans after the last group, or change of the runs.
     pub(crate) fn is_scanned(&self) -> bool {
         self.scans.0.load(Ordering::Relaxed) >= MANY_SCANS
     }
@@ -246,7 +258,7 @@ impl Newest {
     }
 
     /// Counts what the store has taken, and shows it if the shown view was used. Who reads in the next one finds that it is counted:
-    /// so nobody who reads behind that sees less.
+    /// so nobody who reads after that sees less.
     fn tell<'a>(&self, store: &Store, shown: impl FnOnce() -> Option<MutexGuard<'a, Front>>) {
         let is_scanned = self.scans.0.swap(0, Ordering::Relaxed) >= MANY_SCANS
             && store.report().gathered <= MOST_TO_SORT;

@@ -2,6 +2,7 @@
 
 use crate::error::Error;
 use crate::folder::Folder;
+use crate::partial::Partial;
 use ucstore::Operator;
 
 /// The file, and what it is called until it is on the device.
@@ -46,12 +47,9 @@ pub(crate) fn check(folder: &dyn Folder, asked: Operator) -> Result<(), Error> {
 
 /// Writes the file of a folder, and waits until it is on the device.
 pub(crate) fn write(folder: &dyn Folder, operator: Operator) -> Result<(), Error> {
-    let mut file = folder.create(NEW).map_err(Error::of_file(NEW))?;
-    file.append(line(operator).as_bytes())
-        .and_then(|()| file.sync())
-        .map_err(Error::of_file(NEW))?;
-    folder
-        .rename(NEW, OPERATOR)
-        .map_err(Error::of_file(OPERATOR))?;
+    let mut file = Partial::create(folder, NEW.into())?;
+    file.append(line(operator).as_bytes())?;
+    file.sync()?;
+    file.rename(OPERATOR)?;
     folder.sync().map_err(Error::of_file(""))
 }

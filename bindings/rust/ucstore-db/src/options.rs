@@ -1,14 +1,15 @@
 //! [`Options`] and [`Sync`]: how a database is kept.
 
+use crate::error::Error;
 use crate::event::{Event, Listener, Progress};
-use ucstore::Operator;
+use ucstore::{Operator, Store};
 
 /// When a write is on the device.
 #[derive(Clone, Copy, Debug, PartialEq, Eq)]
 pub enum Sync {
     /// When it is acknowledged.
     Always,
-    /// About so many milliseconds after it was acknowledged.
+    /// About as many milliseconds after it was acknowledged, at least 1.
     EveryMs(u64),
     /// When the operating system puts it there, or a log ends. A process that ends loses nothing by it.
     Never,
@@ -31,7 +32,7 @@ pub struct Options {
     /// How the store in memory is kept. It flushes and compacts by itself if there are no `compactors`; else it gathers at
     /// least two memtables.
     pub store: ucstore::Options,
-    /// How many threads flush and compact.
+    /// How many threads compact; one more is kept for flushes. With 0, writes flush and compact.
     pub compactors: usize,
     /// From how many runs on writes are slowed, by a millisecond each time.
     pub slow_trigger: u32,
@@ -39,9 +40,11 @@ pub struct Options {
     pub checkpoint_ratio: u64,
     /// How many bytes the logs have at least when a checkpoint is made. With [`u64::MAX`] none is made by itself.
     pub checkpoint_least: u64,
+    /// Refuses to make a database: there has to be one in the folder. Nothing is made there then.
+    pub must_exist: bool,
     /// Opens a damaged folder up to the damage. Nothing can be written then.
     pub recover_to_fault: bool,
-    /// Gives up what the files have behind this sequence, whatever it is: to be called when another log says which batches were
+    /// Gives up what the files have after this sequence, whatever it is: to be called when another log says which batches were
     /// acknowledged. It has to be the end of a batch; those of writers that come together are one. What is given up is cut off
     /// before the first write. Until then the folder stays as it was, also if the database is closed.
     pub recover_to: Option<u64>,
@@ -51,13 +54,22 @@ pub struct Options {
     /// Sequences at which snapshots are made while the folder is read, which [`Db::take_mark`](crate::Db::take_mark) gives out. Each
     /// has to be the end of a batch, and no base goes beyond it.
     pub marks: Vec<u64>,
-    /// Is told how far the opening of a folder is: behind each MiB, and each file.
+    /// Is told how far the opening of a folder is: after each MiB, and each file.
     pub progress: Option<Listener<Progress>>,
     /// Is told what the database does.
     pub events: Option<Listener<Event>>,
 }
 
 impl Options {
+    /// Checks that each option is in its range, before anything is made.
+    pub(crate) fn check(&self) -> Result<(), Error> {
+        if self.sync == Sync::EveryMs(0) {
+            return Err(ucstore::Error::BadOption.into());
+        }
+        Store::create(self.operator, &self.to_store())?;
+        Ok(())
+    }
+
     /// The options of the store in memory.
     pub(crate) fn to_store(&self) -> ucstore::Options {
         let compacts_itself = self.compactors == 0;
@@ -70,7 +82,12 @@ impl Options {
         }
     }
 
-    /// How many bytes are gathered when a write flushes them itself.
+    /// From how many gathered bytes on writes are slowed while a flush is under way.
+    pub(crate) fn much_gathered(&self) -> u64 {
+        self.most_gathered() - self.store.write_buffer_size / 4
+    }
+
+    /// How many bytes are gathered at most: a write that finds more waits for a flush.
     pub(crate) fn most_gathered(&self) -> u64 {
         let store = self.to_store();
         store
@@ -89,6 +106,7 @@ impl Default for Options {
             slow_trigger: 20,
             checkpoint_ratio: 2,
             checkpoint_least: 64 << 20,
+            must_exist: false,
             recover_to_fault: false,
             recover_to: None,
             give_up_until: u64::MAX,

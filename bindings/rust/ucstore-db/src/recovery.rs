@@ -1,8 +1,10 @@
 //! [`Recovery`]: a database as its folder has it.
 
 use crate::counts::Counts;
+use crate::ending::{ending_of, Ending};
 use crate::error::Error;
 use crate::folder::Folder;
+use crate::kept::SetAside;
 use crate::log::{Log, Older};
 use crate::moments::Moments;
 use crate::name::Name;
@@ -11,6 +13,7 @@ use crate::options::Options;
 use crate::reading::Reading;
 use crate::replay::{Begin, Replay};
 use crate::unready::Unready;
+use crate::windows::Windows;
 use std::mem;
 use std::sync::Arc;
 use ucstore::{Operator, Store, View};
@@ -19,7 +22,7 @@ use ucstore::{Operator, Store, View};
 struct Files {
     /// The newest one: its number, and the sequence that its name has.
     base: Option<(u64, Option<u64>)>,
-    /// The numbers of the logs behind the base, one by one.
+    /// The numbers of the logs after the base, one by one.
     logs: Vec<u64>,
     /// What holds nothing that isn't elsewhere.
     spent: Vec<Name>,
@@ -30,7 +33,7 @@ struct Files {
 /// A store as its folder has it. Nothing is changed there before [`Recovery::into_log`].
 pub(crate) struct Recovery {
     store: Store,
-    /// The damage behind which nothing was read.
+    /// The damage after which nothing was read.
     pub(crate) fault: Option<Error>,
     operator: Operator,
     files: Files,
@@ -43,14 +46,22 @@ pub(crate) struct Recovery {
     before: u64,
     /// Where they end.
     length: u64,
-    /// How many bytes it has behind them, which a crash left.
-    rest: u64,
+    /// What is after them.
+    ending: Ending,
     /// The logs before it.
     older: Vec<Older>,
     /// The last sequence of the base.
     based: u64,
     /// Where the next log begins.
     begin: Begin,
+}
+
+/// The result of an opening.
+pub(crate) struct Opened {
+    pub(crate) store: Store,
+    /// The snapshots at the marks.
+    pub(crate) marks: Vec<View>,
+    pub(crate) set_aside: Option<SetAside>,
 }
 
 impl Files {
@@ -71,6 +82,7 @@ impl Files {
             match name {
                 Name::Log(number) if number >= first => logs.push(number),
                 Name::Base(number, sequence) if Some((number, sequence)) == base => {}
+                Name::Lost(..) => {}
                 _ => spent.push(name),
             }
         }
@@ -104,6 +116,10 @@ impl Recovery {
     /// Reads a folder.
     pub(crate) fn read(folder: &dyn Folder, options: &Options) -> Result<Recovery, Error> {
         let files = Files::of(folder)?;
+        if options.must_exist && files.base.is_none() && files.logs.is_empty() {
+            let file = Name::Log(1).text();
+            return Err(Error::Missing { file });
+        }
         let mut recovery = Recovery {
             store: Store::create(options.operator, &options.to_store())?,
             fault: None,
@@ -114,7 +130,7 @@ impl Recovery {
             files,
             before: 0,
             length: 0,
-            rest: 0,
+            ending: Ending::Whole,
             older: vec![],
             based: 0,
             begin: Begin::Behind,
@@ -151,20 +167,21 @@ impl Recovery {
         let mut name = Name::Log(self.number);
         if let Some((number, sequence)) = self.files.base {
             name = Name::Base(number, sequence);
-            self.replay_base(name, &read(folder, name)?, sequence, reading)?;
+            self.replay_base(name, &mut Windows::of(folder, name)?, sequence, reading)?;
         }
         self.moments.begin(Name::Log(self.number));
         for number in self.files.logs.clone() {
-            let log = read(folder, Name::Log(number))?;
+            let mut windows = Windows::of(folder, Name::Log(number))?;
             if self.is_enough {
-                self.moments.check_given_up(Name::Log(number), &log)?;
-            } else if !log.is_empty() {
+                self.moments
+                    .check_given_up(Name::Log(number), &mut windows)?;
+            } else if windows.length() > 0 {
                 self.check_whole(name)?;
                 name = Name::Log(number);
                 self.go_on(number);
-                self.replay(name, &log, reading)?;
+                self.replay(name, &mut windows, reading)?;
                 if self.is_enough {
-                    self.moments.check_given_up(name, &log)?;
+                    self.moments.check_given_up(name, &mut windows)?;
                 }
             }
         }
@@ -175,7 +192,7 @@ impl Recovery {
     fn replay_base(
         &mut self,
         name: Name,
-        base: &[u8],
+        base: &mut Windows,
         sequence: Option<u64>,
         reading: &mut Reading,
     ) -> Result<(), Error> {
@@ -217,35 +234,32 @@ impl Recovery {
     }
 
     /// Writes what a file has to the store, up to its first fault.
-    fn replay(&mut self, name: Name, log: &[u8], reading: &mut Reading) -> Result<(), Error> {
+    fn replay(
+        &mut self,
+        name: Name,
+        windows: &mut Windows,
+        reading: &mut Reading,
+    ) -> Result<(), Error> {
         let begin = mem::replace(&mut self.begin, Begin::Behind);
         self.moments.begin(name);
         let tell = |offset| reading.tell(name, offset);
-        let replay = Replay::of(&self.store, log, begin, &mut self.moments, tell)?;
-        reading.end(name, log.len() as u64);
+        let replay = Replay::of(&self.store, windows, begin, &mut self.moments, tell)?;
+        reading.end(name, windows.length());
         self.length = replay.end;
-        self.rest = log.len() as u64 - replay.end;
         self.is_enough = replay.is_enough();
-        match replay.fault(log, self.store.last()) {
-            None => Ok(()),
-            Some((offset, fault)) => Err(Error::Damaged {
-                file: name.text(),
-                offset,
-                fault,
-            }),
+        self.ending = ending_of(windows, &replay, self.store.last())?;
+        match self.ending.clone() {
+            Ending::Damaged(offset, fault) => Err(damaged(name, offset, fault)),
+            _ => Ok(()),
         }
     }
 
     /// Checks that nothing was left behind the batches of the file that was read last.
     fn check_whole(&self, name: Name) -> Result<(), Error> {
-        if self.rest == 0 {
-            return Ok(());
+        match self.ending.clone() {
+            Ending::Left(offset, fault) => Err(damaged(name, offset, fault)),
+            _ => Ok(()),
         }
-        Err(Error::Damaged {
-            file: name.text(),
-            offset: self.length,
-            fault: "it ends within a batch".into(),
-        })
     }
 
     /// The store, and its snapshots at the marks.
@@ -253,45 +267,49 @@ impl Recovery {
         (self.store, self.moments.marks)
     }
 
-    /// The store, its snapshots at the marks, and the log that goes on. The folder is made ready for writes: what a crash left is cut
-    /// off, and what isn't needed removed. If something is given up, that waits for the first write.
+    /// The store, its snapshots at the marks, the log that goes on, and what was set aside. The folder is made ready for writes: what a
+    /// crash left is cut off, and what isn't needed removed. For a part of something greater that waits for the first write.
     pub(crate) fn into_log(
         self,
         folder: Arc<dyn Folder>,
-        is_given_up: bool,
+        is_part: bool,
         counts: &Arc<Counts>,
-    ) -> Result<(Store, Vec<View>, Log), Error> {
+    ) -> Result<(Opened, Log), Error> {
         let is_new = self.files.logs.is_empty();
         let unready = Unready {
             operator: (!self.files.has_operator).then_some(self.operator),
             number: self.number,
             is_new,
-            length: (self.rest > 0).then_some(self.length),
+            length: self.length,
+            ending: self.ending,
             logs: self.files.logs,
             spent: self.files.spent,
         };
-        let waits = is_given_up && !is_new;
-        if !waits {
-            unready.get_ready(&*folder)?;
+        let last = Older {
+            number: self.number,
+            before: self.before,
+            length: self.length,
+        };
+        let (older, based) = (self.older, self.based);
+        let mut log = Log::of(folder, last, older, based, unready, is_part, counts);
+        let mut set_aside = None;
+        if is_new || !is_part {
+            set_aside = log.get_ready()?;
         }
-        let log = Log::open(
-            folder,
-            Older {
-                number: self.number,
-                before: self.before,
-                length: self.length,
-            },
-            self.older,
-            self.based,
-            waits.then_some(unready),
-            Arc::clone(counts),
-        )?;
-        Ok((self.store, self.moments.marks, log))
+        let opened = Opened {
+            store: self.store,
+            marks: self.moments.marks,
+            set_aside,
+        };
+        Ok((opened, log))
     }
 }
 
-/// The bytes of a file.
-fn read(folder: &dyn Folder, name: Name) -> Result<Vec<u8>, Error> {
-    let name = name.text();
-    folder.read(&name).map_err(Error::of_file(&name))
+/// The error of a damaged file.
+fn damaged(name: Name, offset: u64, fault: String) -> Error {
+    Error::Damaged {
+        file: name.text(),
+        offset,
+        fault,
+    }
 }

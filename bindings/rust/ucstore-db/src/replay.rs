@@ -2,14 +2,20 @@
 
 use crate::error::Error;
 use crate::gap;
+use crate::header::{numbers_of, HEADER_SIZE};
+use crate::mark;
 use crate::moments::Moments;
-use crate::record::has_batch;
-use ucstore::{log_writes, Ended, LogWrites, Replayed, Store};
+use crate::record::head_of;
+use crate::windows::Windows;
+use ucstore::{log_writes_at, BatchFault, Ended, LogPlace, Replayed, Store};
+
+/// The most bytes of the record that a close writes, which may stand in two blocks.
+const MOST_CLOSING: u64 = 64;
 
 /// Where a log begins.
 #[derive(Clone, Copy, PartialEq, Eq)]
 pub(crate) enum Begin {
-    /// Right behind the last write.
+    /// Right after the last write.
     Behind,
     /// Within the log: what comes up to the last write is in the base.
     InBase,
@@ -21,90 +27,172 @@ pub(crate) enum Begin {
 pub(crate) struct Replay {
     /// Where the last whole batch ends.
     pub(crate) end: u64,
-    stop: Stop,
+    pub(crate) stop: Stop,
 }
 
 /// Why nothing more was read.
-#[derive(Clone, Copy, PartialEq, Eq)]
-enum Stop {
+#[derive(Clone, Copy, Debug, PartialEq, Eq)]
+pub(crate) enum Stop {
     /// No batch may follow.
     Ended(Ended),
     /// The sequence of the next batch isn't the one behind it.
     Gap,
     /// What is behind it is given up.
     Enough,
+    /// Nothing but a record follows that says that all before it is on the device.
+    Closed,
+}
+
+/// A replay that is under way.
+struct Walk<'a, 'b> {
+    store: &'a Store,
+    windows: &'a mut Windows<'b>,
+    moments: &'a mut Moments,
+    /// Where the next batch begins.
+    offset: u64,
+    /// The number of batches before the window.
+    batches: u64,
+    may_skip_first: bool,
 }
 
 impl Replay {
-    /// Writes the batches of a log to a store, with the sequences that they had: those behind the store's last one, but for gaps that
-    /// batches tell, up to a moment at which that ends. Tells the offset before each batch.
-    pub(crate) fn of(
-        store: &Store,
-        log: &[u8],
-        begin: Begin,
-        moments: &mut Moments,
-        mut tell: impl FnMut(u64),
-    ) -> Result<Replay, Error> {
-        let mut writes = log_writes(log);
-        if begin == Begin::InBase && !pass_over(&mut writes, log, store.last())? {
-            let (end, stop) = (writes.offset(), Stop::Gap);
-            return Ok(Replay { end, stop });
-        }
-        let mut replay = writes.replay(store);
-        loop {
-            let (end, last) = (replay.offset(), replay.last());
-            tell(end);
-            if moments.are_due(last + 1) && moments.reach(store, end)? {
-                let stop = Stop::Enough;
-                return Ok(Replay { end, stop });
-            }
-            let may_skip = begin == Begin::Anywhere && end == 0;
-            let mut replayed = replay.write_next(may_skip)?;
-            if replayed == Replayed::Gap && gap::is_told(log, end, last) {
-                replayed = replay.write_next(true)?;
-            }
-            let stop = match replayed {
-                Replayed::Batch => continue,
-                Replayed::Gap => Stop::Gap,
-                Replayed::Ended(ended) => Stop::Ended(ended),
-            };
-            return Ok(Replay { end, stop });
-        }
-    }
-
-    /// Whether what is behind the last batch is given up.
+    /// Whether what is after the last batch is given up.
     pub(crate) fn is_enough(&self) -> bool {
         self.stop == Stop::Enough
     }
 
-    /// Where a file is damaged and what is wrong there, if it is. It may end as a crash leaves it: within a batch, or
-    /// before zeros. Its last sequence is given.
-    pub(crate) fn fault(&self, log: &[u8], last: u64) -> Option<(u64, String)> {
-        match self.stop {
-            Stop::Enough => None,
-            Stop::Gap => Some((self.end, "writes before this are missing".into())),
-            Stop::Ended(ended @ Ended::LogFault { offset, .. }) => {
-                Some((offset, ended.to_string()))
+    /// Writes the batches of a log to a store, with the sequences that they had: those after the store's last one, but for gaps that
+    /// batches tell, up to a moment at which that ends. Tells the offset before each batch.
+    pub(crate) fn of(
+        store: &Store,
+        windows: &mut Windows,
+        begin: Begin,
+        moments: &mut Moments,
+        mut tell: impl FnMut(u64),
+    ) -> Result<Replay, Error> {
+        let passed = match begin {
+            Begin::InBase => pass_over(windows, store.last())?,
+            Begin::Behind | Begin::Anywhere => Some(0),
+        };
+        let Some(offset) = passed else {
+            let (end, stop) = (0, Stop::Gap);
+            return Ok(Replay { end, stop });
+        };
+        windows.seek(offset)?;
+        let mut walk = Walk {
+            store,
+            windows,
+            moments,
+            offset,
+            batches: 0,
+            may_skip_first: begin == Begin::Anywhere,
+        };
+        loop {
+            if let Some(stop) = walk.write_window(&mut tell)? {
+                let end = walk.offset;
+                return Ok(Replay { end, stop });
             }
-            Stop::Ended(ended @ Ended::BatchFault { .. }) => Some((self.end, ended.to_string())),
-            Stop::Ended(_) if has_batch(&log[self.end as usize..], last) => {
-                Some((self.end, "a batch is behind one that isn't whole".into()))
-            }
-            Stop::Ended(_) => None,
         }
     }
 }
 
-/// Passes over what a log has up to a sequence, if it begins there or before it. Tells whether a batch ends at the sequence then.
-fn pass_over(writes: &mut LogWrites, log: &[u8], last: u64) -> Result<bool, Error> {
-    let first = log_writes(log).next().transpose()?;
-    if first.is_none_or(|write| write.sequence > last) {
-        return Ok(true);
+impl Walk<'_, '_> {
+    /// Writes the batches of a window. Tells why nothing more is read, unless another window follows.
+    fn write_window(&mut self, tell: &mut impl FnMut(u64)) -> Result<Option<Stop>, Error> {
+        let begin = self.windows.begin();
+        let place = LogPlace {
+            offset: self.offset - begin,
+            last: self.store.last(),
+        };
+        let mut replay = log_writes_at(self.windows.bytes(), place).replay(self.store);
+        let mut batches = 0;
+        let ended = loop {
+            let (end, last) = (begin + replay.offset(), replay.last());
+            self.offset = end;
+            tell(end);
+            if self.moments.are_due(last + 1) && self.moments.reach(self.store, end)? {
+                return Ok(Some(Stop::Enough));
+            }
+            if let Some(sequence) = closing_sequence(self.windows, end)? {
+                let is_next = sequence == last + 1;
+                return Ok(Some(if is_next { Stop::Closed } else { Stop::Gap }));
+            }
+            let may_skip = self.may_skip_first && end == 0;
+            let mut replayed = replay.write_next(may_skip)?;
+            if replayed == Replayed::Gap && gap::is_told(self.windows.rest(end), end, last) {
+                replayed = replay.write_next(true)?;
+            }
+            match replayed {
+                Replayed::Batch => batches += 1,
+                Replayed::Gap => return Ok(Some(Stop::Gap)),
+                Replayed::Ended(ended) => break ended,
+            }
+        };
+        let ended = numbered(ended, self.batches);
+        self.batches += batches;
+        let stop = self.windows.go_on(self.offset, ended)?;
+        Ok(stop.map(Stop::Ended))
     }
-    while let Some(write) = writes.next_write()? {
-        if write.sequence >= last {
-            return Ok(write.sequence == last && writes.is_between_batches());
+}
+
+/// The sequence of the record at an offset by which a close ended a log, if that is all that the file has there, and is in the window.
+pub(crate) fn closing_sequence(windows: &Windows, offset: u64) -> Result<Option<u64>, Error> {
+    let left = windows.length() - offset;
+    let rest = windows.rest(offset);
+    if left == 0 || left > MOST_CLOSING || rest.len() as u64 != left {
+        return Ok(None);
+    }
+    let head = head_of(rest, offset, HEADER_SIZE);
+    let is_mark = mark::synced_before(rest, offset) == Some(offset);
+    let Some((sequence, 0)) = numbers_of(&head).filter(|_| is_mark) else {
+        return Ok(None);
+    };
+    let place = LogPlace {
+        offset: offset - windows.begin(),
+        last: 0,
+    };
+    let whole = (windows.bytes().len() as u64, Ended::Clean);
+    let is_whole = log_writes_at(windows.bytes(), place).end()? == whole;
+    Ok(is_whole.then_some(sequence))
+}
+
+/// Passes over what a log has up to a sequence, if it begins there or before it. Returns where that ends; none if no batch ends there:
+/// then what the log has isn't what the base was made of.
+fn pass_over(windows: &mut Windows, last: u64) -> Result<Option<u64>, Error> {
+    let (mut offset, mut before, mut is_first) = (0, 0, true);
+    loop {
+        let begin = windows.begin();
+        let place = LogPlace {
+            offset: offset - begin,
+            last: before,
+        };
+        let mut writes = log_writes_at(windows.bytes(), place);
+        while let Some(write) = writes.next_write()? {
+            let sequence = write.sequence;
+            if is_first && sequence > last {
+                return Ok(Some(0));
+            }
+            (is_first, before) = (false, sequence);
+            if sequence >= last {
+                let is_found = sequence == last && writes.is_between_batches();
+                return Ok(is_found.then_some(begin + writes.offset()));
+            }
+        }
+        offset = begin + writes.offset();
+        let ended = writes.ended().expect("no write is left");
+        if windows.go_on(offset, ended)?.is_some() {
+            return Ok(is_first.then_some(offset));
         }
     }
-    Ok(false)
+}
+
+/// How a log ends, in a part after so many of its batches.
+fn numbered(ended: Ended, batches: u64) -> Ended {
+    match ended {
+        Ended::BatchFault { payload, fault } if fault != BatchFault::OutOfMemory => {
+            let payload = payload + batches;
+            Ended::BatchFault { payload, fault }
+        }
+        other => other,
+    }
 }

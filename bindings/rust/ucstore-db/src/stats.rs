@@ -32,6 +32,8 @@ pub struct Stats {
     pub logged_bytes: u64,
     /// The bytes of the bases that were written.
     pub base_bytes: u64,
+    /// The bytes that the opening cut off the end of a log, where a crash had left them, and [set aside](crate::Event::SetAside).
+    pub set_aside_bytes: u64,
     /// How many keys were looked up, in it and in its snapshots.
     pub lookups: u64,
     /// About how many of the lookups the memtables answered, as
@@ -89,6 +91,7 @@ impl Stats {
             user_bytes: counts.user_bytes.get(),
             logged_bytes: counts.logged_bytes.get(),
             base_bytes: counts.base_bytes.get(),
+            set_aside_bytes: counts.set_aside_bytes.get(),
             lookups: counts.lookups.count(),
             lookups_by_memtable: counts.lookups.estimate(LookupSource::Memtable),
             lookups_by_filters: counts.lookups.estimate(LookupSource::Filters),
@@ -169,7 +172,7 @@ impl fmt::Display for Millis {
 
 impl fmt::Display for Stats {
     fn fmt(&self, formatter: &mut fmt::Formatter<'_>) -> fmt::Result {
-        let rows: [(&str, &dyn fmt::Display); 29] = [
+        let rows: [(&str, &dyn fmt::Display); 30] = [
             ("last sequence", &self.last),
             ("runs", &self.runs),
             ("bytes of runs", &Bytes(self.bytes)),
@@ -181,6 +184,7 @@ impl fmt::Display for Stats {
             ("bytes of batches", &Bytes(self.user_bytes)),
             ("bytes written to logs", &Bytes(self.logged_bytes)),
             ("bytes written to bases", &Bytes(self.base_bytes)),
+            ("bytes set aside", &Bytes(self.set_aside_bytes)),
             (
                 "write amplification",
                 &format!("{:.2}", self.write_amplification()),

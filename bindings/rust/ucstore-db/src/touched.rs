@@ -15,13 +15,16 @@ const DELETION: u8 = 0;
 const VALUE: u8 = 1;
 const MERGE: u8 = 2;
 
+/// The tag of log data, which touches no key.
+const LOG_DATA: u8 = 3;
+
 /// Which group wrote a key last, so that a reader knows whether an older view has the key as it is now.
 ///
 /// Each key has a cell, which has the number of the last group that wrote such a key. Keys share cells: so one that wasn't written may
 /// be taken for one that was, and never the other way round.
 ///
 /// One thread at a time notes and counts, the one that writes a group. What it has noted is seen by those who see what it releases
-/// behind that.
+/// after that.
 pub(crate) struct Touched {
     /// How many groups were taken.
     groups: Padded<AtomicU64>,
@@ -66,7 +69,7 @@ impl Touched {
         self.groups.0.store(self.groups() + 1, Ordering::Relaxed);
     }
 
-    /// Whether no group behind so many has written a key, among those that the caller has seen.
+    /// Whether no group after so many has written a key, among those that the caller has seen.
     pub(crate) fn is_as_of(&self, key: &[u8], groups: u64) -> bool {
         self.cell(key).load(Ordering::Relaxed) <= groups
             && self.all.load(Ordering::Relaxed) <= groups
@@ -99,7 +102,7 @@ struct Keys<'a> {
 }
 
 impl<'a> Keys<'a> {
-    /// Those behind the header of a batch.
+    /// Those after the header of a batch.
     fn of(batch: &'a [u8]) -> Keys<'a> {
         Keys {
             rest: &batch[HEADER_SIZE..],
@@ -114,6 +117,17 @@ impl<'a> Keys<'a> {
             DELETION => Some(key),
             VALUE | MERGE => self.text().and(Some(key)),
             _ => None,
+        }
+    }
+
+    /// Skips log data before the next operation.
+    fn skip_log_data(&mut self) {
+        while let [LOG_DATA, rest @ ..] = self.rest {
+            let mut after = Keys { rest };
+            if after.text().is_none() {
+                break;
+            }
+            *self = after;
         }
     }
 
@@ -148,6 +162,7 @@ impl<'a> Iterator for Keys<'a> {
     type Item = Option<&'a [u8]>;
 
     fn next(&mut self) -> Option<Option<&'a [u8]>> {
+        self.skip_log_data();
         (!self.rest.is_empty()).then(|| self.key())
     }
 }

@@ -1,12 +1,15 @@
-//! [`Unready`]: what is done to a folder before it is written to.
+//! [`Unready`]: what is done to a directory before it is written to.
 
+use crate::ending::Ending;
 use crate::error::Error;
 use crate::folder::Folder;
+use crate::kept::{self, SetAside};
 use crate::name::Name;
 use crate::operator_file;
+use std::io;
 use ucstore::Operator;
 
-/// What is done to a folder before it is written to.
+/// What is done to a directory before it is written to.
 pub(crate) struct Unready {
     /// The one to be named in a file.
     pub(crate) operator: Option<Operator>,
@@ -14,17 +17,21 @@ pub(crate) struct Unready {
     pub(crate) number: u64,
     /// Whether it has to be made.
     pub(crate) is_new: bool,
-    /// How long it is, if something behind that is cut off.
-    pub(crate) length: Option<u64>,
-    /// The logs that are there, in their order. Those behind this one go.
+    /// How much of it is kept.
+    pub(crate) length: u64,
+    /// What is after that.
+    pub(crate) ending: Ending,
+    /// The logs that are there, in their order. Those after this one go.
     pub(crate) logs: Vec<u64>,
     /// What holds nothing that isn't elsewhere.
     pub(crate) spent: Vec<Name>,
 }
 
 impl Unready {
-    /// Cuts off what a crash left, or what is given up, and removes what isn't needed. It may be done again behind a crash.
-    pub(crate) fn get_ready(&self, folder: &dyn Folder) -> Result<(), Error> {
+    /// Cuts off what a crash left, or what is given up, and removes what isn't needed. Returns what was set aside. It may be done again,
+    /// also after a crash: after each of its steps the directory has the same batches, but for those that are given up, of which the
+    /// first ones may be there.
+    pub(crate) fn get_ready(&self, folder: &dyn Folder) -> Result<Option<SetAside>, Error> {
         if let Some(operator) = self.operator {
             operator_file::write(folder, operator)?;
         }
@@ -32,8 +39,8 @@ impl Unready {
         if self.is_new {
             folder.create(&name).map_err(Error::of_file(&name))?;
         }
-        // The names that were read stay behind a crash, before others go: those of logs from the last one on, and what is cut off
-        // behind them. So the folder always has the batches up to one of them.
+        // The names that were read stay after a crash, before others go: those of logs from the last one on, and what is cut off
+        // after them. So the directory always has the batches up to one of them.
         folder.sync().map_err(Error::of_file(""))?;
         for number in self.logs.iter().rev() {
             if *number > self.number {
@@ -41,20 +48,31 @@ impl Unready {
                 folder.sync().map_err(Error::of_file(""))?;
             }
         }
-        if let Some(length) = self.length {
-            let mut file = folder.open(&name).map_err(Error::of_file(&name))?;
-            file.cut(length).map_err(Error::of_file(&name))?;
-            file.sync().map_err(Error::of_file(&name))?;
-        }
+        let set_aside = self.renew_log(folder)?;
         for name in &self.spent {
             remove(folder, *name)?;
         }
-        folder.sync().map_err(Error::of_file(""))
+        folder.sync().map_err(Error::of_file(""))?;
+        Ok(set_aside)
+    }
+
+    /// Writes what is kept of the log to a new file, unless the log says itself that it is on the device.
+    fn renew_log(&self, folder: &dyn Folder) -> Result<Option<SetAside>, Error> {
+        let set_aside = match self.ending {
+            Ending::Closed => return Ok(None),
+            Ending::Left(..) => kept::set_aside(folder, self.number, self.length)?,
+            _ => None,
+        };
+        kept::renew(folder, self.number, self.length)?;
+        Ok(set_aside)
     }
 }
 
-/// Removes a file.
+/// Removes a file, if it is there.
 fn remove(folder: &dyn Folder, name: Name) -> Result<(), Error> {
     let name = name.text();
-    folder.remove(&name).map_err(Error::of_file(&name))
+    match folder.remove(&name) {
+        Err(error) if error.kind() == io::ErrorKind::NotFound => Ok(()),
+        outcome => outcome.map_err(Error::of_file(&name)),
+    }
 }

@@ -6,8 +6,10 @@ use crate::options::Sync;
 use crate::shared::Shared;
 use std::cell::Cell;
 use std::mem;
+use std::panic::{catch_unwind, AssertUnwindSafe};
+use std::process;
 use std::sync::atomic::Ordering;
-use std::sync::{Arc, Mutex};
+use std::sync::{Arc, Mutex, PoisonError};
 use std::thread::{self, JoinHandle, Thread, ThreadId};
 use std::time::Duration;
 
@@ -16,10 +18,13 @@ thread_local! {
     static WORKER: Cell<Option<ThreadId>> = const { Cell::new(None) };
 }
 
-/// The threads that compact, make checkpoints, and sync. They end where this is dropped.
+/// The threads that flush, compact, make checkpoints, and sync. They end where this is dropped.
 pub(crate) struct Workers {
     pub(crate) shared: Arc<Shared>,
+    /// Locked by the first close until all of them have ended.
     threads: Mutex<Vec<JoinHandle<()>>>,
+    /// The process that has started them. A forked child has none of them.
+    process: u32,
 }
 
 impl Workers {
@@ -28,9 +33,12 @@ impl Workers {
         let workers = Workers {
             shared: Arc::new(shared),
             threads: Mutex::default(),
+            process: process::id(),
         };
         let shared = &workers.shared;
-        for _ in 0..shared.options.compactors {
+        // Of one thread more than there may be compactions at once, one is always free for a flush.
+        let compactors = shared.options.compactors;
+        for _ in 0..compactors.saturating_add(compactors.min(1)) {
             workers.spawn("compactor", Shared::compact_until_closed)?;
         }
         if lock(&shared.log).is_some() {
@@ -47,7 +55,7 @@ impl Workers {
     /// Starts a thread.
     fn spawn(
         &self,
-        name: &str,
+        name: &'static str,
         work: impl FnOnce(&Shared) + Send + 'static,
     ) -> Result<Thread, Error> {
         let shared = Arc::clone(&self.shared);
@@ -55,7 +63,14 @@ impl Workers {
             .name(format!("ucstore-{name}"))
             .spawn(move || {
                 WORKER.set(Some(thread::current().id()));
-                work(&shared);
+                let outcome = catch_unwind(AssertUnwindSafe(|| work(&shared)));
+                if outcome.is_err() {
+                    // Without the thread the database can't keep its promises.
+                    shared.fail(Error::Internal {
+                        thread: name.into(),
+                    });
+                    shared.events.tell();
+                }
             })
             .map_err(Error::of_file(""))?;
         let thread = handle.thread().clone();
@@ -63,30 +78,53 @@ impl Workers {
         Ok(thread)
     }
 
-    /// Ends the threads and the log. Returns what failed before.
+    /// Ends the threads, the checkpoint that is under way, and the log. Returns what failed before. A later call waits for the first
+    /// one, unless it is made by one of the threads, for which the first one waits.
     pub(crate) fn close(&self) -> Result<(), Error> {
-        if self.shared.is_closing.swap(true, Ordering::AcqRel) {
+        if self.process != process::id() {
+            // A forked child has neither the threads nor the folder.
             return Err(Error::Closed);
         }
+        let worker = WORKER.get();
+        if self.shared.is_closing.swap(true, Ordering::AcqRel) {
+            if worker.is_none() {
+                drop(lock(&self.threads));
+            }
+            return Err(Error::Closed);
+        }
+        let mut threads = lock(&self.threads);
         let store = lock(&self.shared.store);
         self.shared.work.notify_all();
         drop(store);
-        let threads = mem::take(&mut *lock(&self.threads));
-        for thread in threads {
+        for thread in threads.drain(..) {
             thread.thread().unpark();
-            // One that tells an event may close the database, and ends behind that.
-            if WORKER.get() != Some(thread.thread().id()) {
-                // One that panicked has said so.
+            // One that reports an event may close the database, and ends after that.
+            if worker != Some(thread.thread().id()) {
+                // A panic was caught in it.
                 let _ = thread.join();
             }
         }
-        self.shared.close_log()
+        let outcome = self.shared.close_log();
+        if worker.is_none() {
+            // A checkpoint of another thread finds that the database is closed, and gives the folder up.
+            drop(lock(&self.shared.checkpointing));
+        }
+        outcome
     }
 }
 
 impl Drop for Workers {
     fn drop(&mut self) {
-        // What fails here is known to those alone who close it.
-        let _ = self.close();
+        if self.process == process::id() {
+            // An error is reported by `close` alone.
+            let _ = self.close();
+        } else {
+            // The handles of threads that the child doesn't have.
+            mem::forget(mem::take(
+                self.threads
+                    .get_mut()
+                    .unwrap_or_else(PoisonError::into_inner),
+            ));
+        }
     }
 }

@@ -1,15 +1,17 @@
 //! Logs that end anywhere, and files with a damaged byte.
+//!
+//! A log that was closed ends with a record that says that all before it is on the device.
 
 mod common;
 
 use common::{map_of, open, Call, Device, Map, Numbers};
 use std::collections::BTreeMap;
 use std::sync::Arc;
-use ucstore_db::{Db, Error, Options};
+use ucstore_db::{Batch, Db, Error, Options};
 
 type Files = BTreeMap<String, Vec<u8>>;
 
-/// What a database holds behind each batch, and how many bytes its last log has then.
+/// What a database holds after each batch, and how many bytes its last log has then.
 struct Story {
     device: Device,
     maps: Vec<Map>,
@@ -25,12 +27,12 @@ impl Story {
         }
     }
 
-    /// Writes batches behind one another.
+    /// Writes batches after one another.
     fn write(&mut self, keys: &str) {
         self.write_to(&open(&self.device).unwrap(), keys);
     }
 
-    /// Writes batches to a new log, behind one that stays.
+    /// Writes batches to a new log, after one that stays.
     fn write_behind(&mut self, keys: &str) {
         let db = open(&self.device).unwrap();
         self.device.fail(Some(Call::Rename), 0, false);
@@ -42,8 +44,19 @@ impl Story {
     }
 
     fn write_to(&mut self, db: &Db, keys: &str) {
+        self.write_all(db, keys, false);
+    }
+
+    /// Writes batches that are on the device when they are acknowledged.
+    fn write_synced_to(&mut self, db: &Db, keys: &str) {
+        self.write_all(db, keys, true);
+    }
+
+    fn write_all(&mut self, db: &Db, keys: &str, is_synced: bool) {
         for key in keys.chars() {
-            db.merge(key.to_string(), "some text").unwrap();
+            let mut batch = Batch::new();
+            batch.merge(key.to_string(), "some text").unwrap();
+            db.write_with(&batch, is_synced).unwrap();
             self.maps.push(map_of(db));
             let logs = self.device.logs();
             self.lengths.push(logs.values().last().unwrap().len());
@@ -82,7 +95,17 @@ fn a_log_may_end_at_any_byte() {
             .rposition(|end| *end <= length)
             .unwrap();
         assert_eq!(map_of(&db), story.maps[whole]);
-        assert_eq!(device.files()[name], log[..story.lengths[whole]]);
+        // One that was closed stays as it is.
+        let kept = match length == log.len() {
+            true => length,
+            false => story.lengths[whole],
+        };
+        let (kept, rest) = log[..length].split_at(kept);
+        let files = device.files();
+        assert_eq!(files[name], kept);
+        let lost = files.get("000001.log.lost").map_or(&[][..], |lost| lost);
+        assert!(lost == rest || (lost.is_empty() && rest.iter().all(|byte| *byte == 0)));
+        assert_eq!(db.stats().set_aside_bytes, lost.len() as u64);
         db.put("z", "more").unwrap();
         drop(db);
         assert_eq!(
@@ -104,19 +127,24 @@ fn a_log_may_end_before_zeros() {
     assert_eq!(device.files(), story.device.files());
 }
 
-/// Damages each byte. The folder isn't opened, or else only what could be a torn end is lost: the last batch.
-fn damage_each_byte(story: &Story) {
+/// Damages each byte. The folder isn't opened, or else only what could be a torn end is lost: what is after so many batches.
+fn damage_each_byte(story: &Story, kept: usize) {
     let (files, logs) = (story.device.files(), story.device.logs());
-    let (last_name, last_log) = logs.iter().next_back().unwrap();
-    let last_batch = story.lengths[story.lengths.len() - 2];
+    let last_name = logs.keys().next_back().unwrap();
     for (name, bytes) in &files {
         for place in 0..bytes.len() {
             for flipped in [0x01, 0x80, 0xff] {
                 let mut damaged = files.clone();
                 damaged.get_mut(name).unwrap()[place] ^= flipped;
                 let device = Device::of(&damaged);
-                let is_end = name == last_name && place >= last_batch && place < last_log.len();
-                check_damaged(story, &device, &damaged, (name, place), is_end);
+                let is_end = name == last_name && place >= story.lengths[kept];
+                check_damaged(
+                    story,
+                    &device,
+                    &damaged,
+                    (name, place),
+                    is_end.then_some(kept),
+                );
             }
         }
     }
@@ -128,7 +156,7 @@ fn check_damaged(
     device: &Device,
     files: &Files,
     place: (&String, usize),
-    is_end: bool,
+    kept: Option<usize>,
 ) {
     match open(device) {
         Err(Error::Damaged { file, offset, .. }) => {
@@ -143,8 +171,8 @@ fn check_damaged(
             assert_eq!(&device.files(), files);
         }
         Ok(db) => {
-            assert!(is_end, "{place:?} isn't noticed");
-            assert_eq!(map_of(&db), story.maps[story.maps.len() - 2]);
+            let kept = kept.unwrap_or_else(|| panic!("{place:?} isn't noticed"));
+            assert_eq!(map_of(&db), story.maps[kept]);
         }
         Err(error) => panic!("{place:?}: {error}"),
     }
@@ -157,7 +185,49 @@ fn a_damaged_byte_of_a_base_or_a_log_is_named() {
     open(&story.device).unwrap().checkpoint().unwrap();
     assert_eq!(story.device.logs().len(), 2);
     story.write("dea");
-    damage_each_byte(&story);
+    damage_each_byte(&story, 7);
+}
+
+/// Without a closing record the last batch may be one that was still being written.
+#[test]
+fn a_damaged_byte_that_was_synced_is_named_after_a_killed_process() {
+    let mut story = Story::new();
+    let db = open(&story.device).unwrap();
+    story.write_synced_to(&db, "abcadea");
+    story.device = story.device.restarted();
+    drop(db);
+    assert_eq!(story.device.logs()["000001.log"].len(), story.lengths[7]);
+    damage_each_byte(&story, 6);
+}
+
+#[test]
+fn a_damaged_length_of_a_long_batch_is_named() {
+    let mut story = Story::new();
+    let db = open(&story.device).unwrap();
+    let mut ends = vec![0];
+    for number in 0..4u8 {
+        let mut batch = Batch::new();
+        batch.put([number], vec![7; 50_000]).unwrap();
+        db.write_with(&batch, true).unwrap();
+        ends.push(story.device.logs()["000001.log"].len());
+    }
+    story.device = story.device.restarted();
+    drop(db);
+    let files = story.device.files();
+    // The headers of the records of all batches but the last one.
+    let blocks = (0..ends[3]).step_by(32_768);
+    let begins = ends[..3].iter().copied().chain(blocks);
+    for header in begins.filter(|place| *place < ends[3]) {
+        for (place, flipped) in (header..header + 7).flat_map(|place| [(place, 1), (place, 0x80)]) {
+            let mut damaged = files.clone();
+            damaged.get_mut("000001.log").unwrap()[place] ^= flipped;
+            let refused = open(&Device::of(&damaged)).unwrap_err();
+            assert!(
+                matches!(refused, Error::Damaged { .. }),
+                "{place}: {refused}"
+            );
+        }
+    }
 }
 
 #[test]
@@ -167,7 +237,7 @@ fn a_damaged_byte_of_an_older_log_is_named() {
     story.write_behind("dea");
     let names: Vec<_> = story.device.files().into_keys().collect();
     assert_eq!(names, ["000001.log", "000002.log", "OPERATOR"]);
-    damage_each_byte(&story);
+    damage_each_byte(&story, 7);
 }
 
 #[test]

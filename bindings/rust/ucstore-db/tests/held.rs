@@ -6,6 +6,7 @@ use common::{map_of, Temporary};
 use std::io;
 use std::sync::{Arc, Barrier};
 use std::thread;
+use std::time::Duration;
 use ucstore_db::{Db, DiskFolder, Error, File, Folder, Options};
 
 /// A folder of the file system, where one file gets its name once that is let.
@@ -62,7 +63,8 @@ impl Folder for Held {
     }
 }
 
-/// Closes a database while a file of a base wants its name. Tells whether there is one then, and what the call says.
+/// Closes a database while a file of a base wants its name: the close waits for it, and the directory may be opened then. Tells whether
+/// there is a base then, and the outcome of the checkpoint.
 fn close_while_held(name: &'static str) -> (bool, Result<(), Error>) {
     let temporary = Temporary::new(name);
     let gate = Arc::new((Barrier::new(2), Barrier::new(2)));
@@ -80,19 +82,22 @@ fn close_while_held(name: &'static str) -> (bool, Result<(), Error>) {
     });
     gate.0.wait();
     db.put("b", "2").unwrap();
-    db.close().unwrap();
+    let closing = thread::spawn(move || db.close());
+    thread::sleep(Duration::from_millis(100));
     let open = || Db::open(temporary.path(), &Options::default());
+    assert!(!closing.is_finished());
     assert!(matches!(open(), Err(Error::Locked { .. })));
     gate.1.wait();
-    let outcome = base.join().unwrap();
+    closing.join().unwrap().unwrap();
     assert_eq!(map_of(&open().unwrap()).len(), 2);
+    let outcome = base.join().unwrap();
     let base = temporary.path().join("000002-1.base");
     assert!(!temporary.path().join("000002.base.new").exists());
     (base.exists(), outcome)
 }
 
 #[test]
-fn a_folder_stays_locked_while_a_base_is_written() {
+fn a_close_waits_for_the_name_of_a_base() {
     assert!(matches!(close_while_held(".base"), (true, Ok(()))));
 }
 

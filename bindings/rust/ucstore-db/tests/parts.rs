@@ -48,9 +48,9 @@ fn bytes_at(history: &History, place: usize, first: u64) -> (Vec<u8>, u64) {
 /// What is done to a part.
 #[derive(Clone, Copy, Debug)]
 enum Step {
-    /// The next batch, so far behind the last one.
+    /// The next batch, so far after the last one.
     Write(u64),
-    /// A batch that isn't acknowledged, behind which the part is opened again.
+    /// A batch that isn't acknowledged, after which the part is opened again.
     Lose(u64),
     Keep,
     /// One of the snapshots, if there are any.
@@ -80,7 +80,7 @@ impl Step {
 /// How far a part came, and what another log says of it.
 #[derive(Default)]
 struct Part {
-    /// The last sequence behind each batch that was acknowledged; first behind none.
+    /// The last sequence after each batch that was acknowledged; first after none.
     lasts: Vec<u64>,
     /// Behind how many batches each snapshot is.
     kept: Vec<usize>,
@@ -259,10 +259,12 @@ fn a_fault_of_the_device_is_told_and_loses_nothing() {
                 if device.calls().1 == 0 {
                     break;
                 }
-                assert!(error.is_some(), "{call:?} {left}");
+                // A log without a second handle, or without its closing record, has all that it needs.
+                let is_passed_over = matches!(call, Call::Open | Call::Append | Call::Cut);
+                assert!(error.is_some() || is_passed_over, "{call:?} {left}");
                 part.db = None;
                 part.snapshots.clear();
-                part.check(&history, &Device::of(&device.files()));
+                part.check(&history, &device.restarted());
                 part.check(&history, &device.crash(&mut numbers));
             }
         }

@@ -5,6 +5,7 @@ mod common;
 use common::{is_long, seed, Numbers, Temporary};
 use std::collections::HashMap;
 use std::env;
+use std::fs;
 use std::io::{self, BufRead, BufReader, Write};
 use std::path::Path;
 use std::process::{Child, Command, Stdio};
@@ -147,6 +148,78 @@ fn a_second_process_is_refused() {
     Db::open(folder.path(), &options()).unwrap();
 }
 
+/// What a process of its own does in another directory. On its own it does nothing.
+#[test]
+#[ignore]
+fn wanderer() {
+    let Some(folder) = env::var_os(FOLDER) else {
+        return;
+    };
+    let by_hand = Options {
+        checkpoint_least: u64::MAX,
+        ..options()
+    };
+    let folder = Path::new(&folder);
+    for (place, key) in [("there", "other"), ("here", "mine")] {
+        let db = Db::open(folder.join(place).join("data"), &by_hand).unwrap();
+        db.put(key, 1u64.to_le_bytes()).unwrap();
+        db.close().unwrap();
+    }
+    env::set_current_dir(folder.join("here")).unwrap();
+    let db = Db::open("data", &by_hand).unwrap();
+    env::set_current_dir(folder.join("there")).unwrap();
+    db.checkpoint().unwrap();
+    db.put("more", 2u64.to_le_bytes()).unwrap();
+    db.checkpoint().unwrap();
+    db.close().unwrap();
+}
+
+#[test]
+fn a_relative_path_stays_the_same_folder() {
+    let folder = Temporary::new("wanders");
+    let ended = Command::new(env::current_exe().unwrap())
+        .args(["--exact", "wanderer", "--ignored", "--nocapture"])
+        .env(FOLDER, folder.path())
+        .stdout(Stdio::null())
+        .status()
+        .unwrap();
+    assert!(ended.success());
+    let keys = |place: &str| -> Vec<Vec<u8>> {
+        let db = Db::open(folder.path().join(place).join("data"), &options()).unwrap();
+        db.iter().unwrap().map(|row| row.unwrap().0).collect()
+    };
+    assert_eq!(keys("here"), [b"mine".to_vec(), b"more".to_vec()]);
+    assert_eq!(keys("there"), [b"other".to_vec()]);
+}
+
+#[test]
+fn a_database_that_must_exist_is_not_made() {
+    let above = Temporary::new("must-exist");
+    let folder = above.path().join("data");
+    let must_exist = Options {
+        must_exist: true,
+        ..options()
+    };
+    let refused = Db::open(&folder, &must_exist).unwrap_err();
+    assert!(matches!(refused, Error::Missing { .. }), "{refused}");
+    assert!(!above.path().exists());
+    // A directory without a database, also if it had one.
+    fs::create_dir_all(&folder).unwrap();
+    for name in ["notes.txt", "OPERATOR"] {
+        let refused = Db::open(&folder, &must_exist).unwrap_err();
+        assert!(matches!(refused, Error::Missing { .. }), "{refused}");
+        assert!(!folder.join("LOCK").exists());
+        fs::write(folder.join(name), "counter\n").unwrap();
+    }
+    let refused = Db::open(&folder, &must_exist).unwrap_err();
+    assert!(matches!(refused, Error::Missing { .. }), "{refused}");
+    Db::open(&folder, &options()).unwrap().close().unwrap();
+    // One without its lock, as of a backup, is there.
+    fs::remove_file(folder.join("LOCK")).unwrap();
+    let db = Db::open(&folder, &must_exist).unwrap();
+    db.put("k", 1u64.to_le_bytes()).unwrap();
+}
+
 #[test]
 fn the_folders_above_are_made() {
     let above = Temporary::new("above");
@@ -156,4 +229,56 @@ fn the_folders_above_are_made() {
     db.close().unwrap();
     let db = Db::open(&folder, &options()).unwrap();
     assert_eq!(db.get("k").unwrap(), Some(b"v".to_vec()));
+}
+
+extern "C" {
+    fn fork() -> i32;
+    fn waitpid(process: i32, status: *mut i32, options: i32) -> i32;
+    fn _exit(status: i32) -> !;
+}
+
+/// The status of a child that does something with what its parent has, or none if it isn't done in time.
+fn status_of_child(work: impl FnOnce() -> bool) -> Option<i32> {
+    const NO_WAIT: i32 = 1;
+    // SAFETY: The child calls nothing but the database, and ends.
+    let child = unsafe { fork() };
+    if child == 0 {
+        let status = i32::from(!work());
+        // SAFETY: It has no other thread.
+        unsafe { _exit(status) }
+    }
+    let begun = Instant::now();
+    let mut status = 0;
+    // SAFETY: It is this process's child.
+    while unsafe { waitpid(child, &mut status, NO_WAIT) } == 0 {
+        if begun.elapsed() > Duration::from_secs(10) {
+            let _ = Command::new("kill")
+                .args(["-9", &child.to_string()])
+                .status();
+            return None;
+        }
+        thread::sleep(Duration::from_millis(1));
+    }
+    Some(status)
+}
+
+#[test]
+fn a_forked_child_drops_what_its_parent_has() {
+    let folder = Temporary::new("forked");
+    let db = Db::open(folder.path(), &options()).unwrap();
+    db.merge("a0", 1u64.to_le_bytes()).unwrap();
+    let child = db.clone();
+    let closed = status_of_child(|| matches!(child.close(), Err(Error::Closed)));
+    assert_eq!(closed, Some(0));
+    drop(child);
+    let mut owned = Some(db);
+    let dropped = status_of_child(|| owned.take().is_some());
+    assert_eq!(dropped, Some(0));
+    // The parent's goes on, and is locked.
+    let db = owned.unwrap();
+    db.merge("a0", 1u64.to_le_bytes()).unwrap();
+    assert_eq!(number(db.get("a0").unwrap()), 2);
+    let refused = Db::open(folder.path(), &options());
+    assert!(matches!(refused, Err(Error::Locked { .. })));
+    db.close().unwrap();
 }

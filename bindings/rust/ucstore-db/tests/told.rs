@@ -59,7 +59,7 @@ fn flushes_compactions_and_checkpoints_are_told() {
                 told.take()[..],
                 [Event::Flushed {
                     runs: 1,
-                    bytes: 24..=64,
+                    bytes: 10..=64,
                     ..
                 }]
             ));
@@ -101,6 +101,7 @@ fn a_stall_is_told_when_it_begins() {
     for _ in 0..3 {
         db.put("k", "v").unwrap();
     }
+    told.wait_for(|event| matches!(event, Event::Stalled { .. }));
     assert!(matches!(told.take()[..], [Event::Stalled { runs: 1 }]));
     let stats = db.stats();
     assert_eq!((stats.stalls, stats.slowed, stats.flushes), (1, 3, 1));

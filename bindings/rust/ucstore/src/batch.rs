@@ -39,7 +39,7 @@ impl Batch {
     ///
     /// # Errors
     ///
-    /// [`Error::TooLong`] if a text has 2^32 bytes or more, [`Error::BatchFull`] behind 2^32 - 1 operations,
+    /// [`Error::TooLong`] if a text has 2^32 bytes or more, [`Error::BatchFull`] after 2^32 - 1 operations,
     /// [`Error::OutOfMemory`]. The batch has the operations that it had.
     pub fn put(
         &mut self,
@@ -111,12 +111,24 @@ impl Batch {
     /// The batch as RocksDB writes it: 8 bytes for the sequence of the first operation, 4 for the count, and the
     /// operations.
     ///
-    /// A sequence is set by writing it over the 8 bytes, low byte first. It is 0, which stands for the one behind the
+    /// A sequence is set by writing it over the 8 bytes, low byte first. It is 0, which stands for the one after the
     /// store's last one.
     pub fn bytes(&self) -> Vec<u8> {
         let mut bytes = Vec::new();
         self.bytes_into(&mut bytes);
         bytes
+    }
+
+    /// The [`bytes`](Batch::bytes) of a batch that may be too large for the memory that is left.
+    ///
+    /// # Errors
+    ///
+    /// [`Error::OutOfMemory`].
+    pub fn try_bytes(&self) -> Result<Vec<u8>, Error> {
+        let mut bytes = Vec::new();
+        bytes.try_reserve_exact(self.size())?;
+        self.bytes_into(&mut bytes);
+        Ok(bytes)
     }
 
     /// Puts the [`bytes`](Batch::bytes) into a vector, instead of what that has. Its memory is used again.

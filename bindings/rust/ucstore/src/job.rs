@@ -31,20 +31,19 @@ use std::ptr;
 #[must_use = "the runs of a job are never compacted again if it doesn't end"]
 pub struct Job {
     handle: sys::ucstore_job,
-    /// The number of its store.
-    pub(crate) store: u64,
 }
 
 // The library lets handles go from thread to thread, and jobs be run beside their store.
 unsafe impl Send for Job {}
 
 impl Job {
-    /// No job yet, of a store with a number.
-    pub(crate) fn closed(store: u64) -> Job {
-        let handle = sys::ucstore_job {
-            at: ptr::null_mut(),
-        };
-        Job { handle, store }
+    /// No job yet.
+    pub(crate) fn closed() -> Job {
+        Job {
+            handle: sys::ucstore_job {
+                at: ptr::null_mut(),
+            },
+        }
     }
 
     /// Sorts the writes, or merges the runs. It touches no store. One that was run isn't run again.

@@ -48,10 +48,9 @@
 //!
 //! # Why the calls are sound
 //!
-//! Addresses are those of references and slices, which live behind the call; none is null where its length isn't 0.
+//! Addresses are those of references and slices, which outlive the call; none is null where its length isn't 0.
 //! What is written is borrowed mutably, so it overlaps nothing. A handle is in a type that no two threads share, and no
-//! call calls back into one. It is closed where its owner is dropped. A job carries the number of its store, so that it
-//! ends on no other.
+//! call calls back into one. It is closed where its owner is dropped. A store refuses the jobs of others.
 #![warn(missing_docs)]
 
 mod batch;
@@ -61,6 +60,7 @@ mod error;
 mod job;
 mod log;
 mod lookup_source;
+mod memory;
 mod options;
 mod reads;
 mod record;
@@ -79,7 +79,7 @@ pub use checkpoint::Checkpoint;
 pub use ended::{BatchFault, Ended, LogFault};
 pub use error::Error;
 pub use job::{EndedJob, Job};
-pub use log::{log_writes, LogWrites, Operation, Write};
+pub use log::{log_writes, log_writes_at, LogPlace, LogWrites, Operation, Write};
 pub use lookup_source::LookupSource;
 pub use options::{Operator, Options};
 pub use replay::{Replay, Replayed};

@@ -34,7 +34,7 @@ pub enum Operation<T = Vec<u8>> {
     DeleteRange {
         /// The first key.
         begin: T,
-        /// The key behind the last one.
+        /// The key after the last one.
         end: T,
     },
 }
@@ -106,9 +106,43 @@ pub struct LogWrites<'a> {
 /// # }
 /// ```
 pub fn log_writes(log: &[u8]) -> LogWrites<'_> {
+    log_writes_at(log, LogPlace::default())
+}
+
+/// A place in a log, where a batch may begin. A walk begins at the default one.
+#[derive(Clone, Copy, Debug, Default, PartialEq, Eq, Hash)]
+pub struct LogPlace {
+    /// The bytes before it.
+    pub offset: u64,
+    /// The last sequence before it; 0 if there is none.
+    pub last: u64,
+}
+
+/// The writes of a log from a place on. The log may be given from the start of any of its blocks, of 32,768 bytes, on: the place is
+/// one of what is given then.
+///
+/// ```
+/// # use ucstore::{log_writes_at, Batch, LogPlace, Operator, Options, Store};
+/// # fn main() -> Result<(), ucstore::Error> {
+/// let store = Store::create(Operator::Append, &Options::default())?;
+/// let mut log = store.prepare(0, Batch::new().put("colour", "blue")?)?;
+/// store.commit();
+/// let place = LogPlace { offset: log.len() as u64, last: 1 };
+/// log.extend(store.prepare(place.offset, Batch::new().put("size", "small")?)?);
+/// let mut writes = log_writes_at(&log, place);
+/// assert_eq!(writes.next().unwrap()?.sequence, 2);
+/// assert!(writes.next().is_none());
+/// # Ok(())
+/// # }
+/// ```
+pub fn log_writes_at(log: &[u8], place: LogPlace) -> LogWrites<'_> {
     LogWrites {
         log,
-        place: sys::ucstore_log_place::default(),
+        place: sys::ucstore_log_place {
+            offset: place.offset,
+            last: place.last,
+            batches: 0,
+        },
         room: Vec::new(),
         at: 0,
         left: 0,
@@ -125,7 +159,7 @@ impl<'a> LogWrites<'a> {
 }
 
 impl LogWrites<'_> {
-    /// The next write, lent until the next call; none behind the last one.
+    /// The next write, lent until the next call; none after the last one.
     ///
     /// # Errors
     ///
@@ -143,7 +177,7 @@ impl LogWrites<'_> {
         self.ended
     }
 
-    /// Where the log goes on behind the batches that were fetched.
+    /// Where the log goes on after the batches that were fetched.
     pub fn offset(&self) -> u64 {
         self.place.offset
     }
@@ -155,7 +189,7 @@ impl LogWrites<'_> {
 
     /// Passes over what is left. It returns where the log goes on, and how it ends.
     ///
-    /// A log's file is cut to this length before more is appended to it: what is behind may be a torn record, or zeros
+    /// A log's file is cut to this length before more is appended to it: what is after may be a torn record, or zeros
     /// that a crash left.
     ///
     /// # Errors

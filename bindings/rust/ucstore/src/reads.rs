@@ -2,6 +2,8 @@
 
 use crate::error::{check, Error};
 use crate::lookup_source::LookupSource;
+use crate::memory::{copy, zeros};
+use crate::source::Buffer;
 use crate::sys;
 use std::mem::MaybeUninit;
 use std::slice;
@@ -101,7 +103,7 @@ impl<H> Reads<H> {
                 unsafe { value.set_len(size) };
                 return Ok(true);
             }
-            value.reserve(size);
+            value.try_reserve(size)?;
         }
         Ok(false)
     }
@@ -162,11 +164,14 @@ impl<H> Reads<H> {
     ) -> Result<Vec<Option<Vec<u8>>>, Error> {
         let (mut bytes, mut key_lengths) = (Vec::new(), Vec::new());
         for key in keys {
-            bytes.extend_from_slice(key.as_ref());
-            key_lengths.push(key.as_ref().len() as u64);
+            let key = key.as_ref();
+            bytes.try_reserve(key.len())?;
+            bytes.extend_from_slice(key);
+            key_lengths.try_reserve(1)?;
+            key_lengths.push(key.len() as u64);
         }
-        let mut value_lengths = vec![0; key_lengths.len()];
-        let (mut room, mut size) = (vec![0; USUAL_SHARE * key_lengths.len()], 0);
+        let mut value_lengths = zeros(key_lengths.len())?;
+        let (mut room, mut size) = (zeros(USUAL_SHARE * key_lengths.len())?, 0);
         loop {
             check(unsafe {
                 (self.functions.get_many)(
@@ -183,21 +188,21 @@ impl<H> Reads<H> {
                 )
             })?;
             if size <= room.len() {
-                return Ok(cut_values(&room, &value_lengths));
+                return cut_values(&room, &value_lengths);
             }
-            room.resize(size, 0);
+            room = zeros(size)?;
         }
     }
 
     /// The first rows of a range, as many as fit the room: how many these are, and the size of all.
-    pub(crate) fn rows(&self, range: &Range<'_>, room: &mut [u8]) -> Result<(u64, usize), Error> {
+    pub(crate) fn rows(&self, range: &Range<'_>, room: Buffer<'_>) -> Result<(u64, usize), Error> {
         let (mut size, mut rows) = (0, 0);
         let (low, high) = (range.low, range.high.unwrap_or(&[]));
         let (low, low_length) = (low.as_ptr(), low.len());
         let (high, high_length) = (high.as_ptr(), high.len());
         let (is_bounded, limit) = (range.high.is_some(), range.limit);
         let (functions, store) = (self.functions, self.handle);
-        let (place, length) = (room.as_mut_ptr(), room.len());
+        let (place, length) = (room.as_mut_ptr().cast(), room.len());
         check(match range.at {
             None => unsafe {
                 (functions.scan)(
@@ -254,9 +259,10 @@ fn value_by(
     if size <= USUAL_VALUE {
         // SAFETY: So many bytes were copied there.
         let value = unsafe { slice::from_raw_parts(room.as_ptr().cast::<u8>(), size) };
-        return Ok(Some(value.to_vec()));
+        return copy(value).map(Some);
     }
-    let mut value = Vec::with_capacity(size);
+    let mut value = Vec::new();
+    value.try_reserve_exact(size)?;
     let again = lookup(value.spare_capacity_mut())?;
     assert_eq!(again, Some(size), "nothing is written meanwhile");
     // SAFETY: So many bytes were copied there.
@@ -264,15 +270,18 @@ fn value_by(
     Ok(Some(value))
 }
 
-/// The values of a room, which stand one behind the other.
-fn cut_values(mut room: &[u8], lengths: &[u64]) -> Vec<Option<Vec<u8>>> {
-    let mut cut = |length: u64| {
-        let (value, rest) = room.split_at(length as usize);
-        room = rest;
-        value.to_vec()
-    };
-    lengths
-        .iter()
-        .map(|length| (*length != NO_VALUE).then(|| cut(*length)))
-        .collect()
+/// The values of a buffer, one after the other.
+fn cut_values(mut buffer: &[u8], lengths: &[u64]) -> Result<Vec<Option<Vec<u8>>>, Error> {
+    let mut values = Vec::new();
+    values.try_reserve_exact(lengths.len())?;
+    for length in lengths {
+        if *length == NO_VALUE {
+            values.push(None);
+            continue;
+        }
+        let (value, rest) = buffer.split_at(*length as usize);
+        buffer = rest;
+        values.push(Some(copy(value)?));
+    }
+    Ok(values)
 }

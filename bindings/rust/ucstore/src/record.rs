@@ -14,7 +14,8 @@ pub(crate) fn record_by(
     mut prepare: impl FnMut(&mut [MaybeUninit<u8>], &mut usize) -> i32,
 ) -> Result<Vec<u8>, Error> {
     // Room for a header in each block, and for the end of the block before.
-    let mut record = Vec::with_capacity(size + HEADER_SIZE * (size / MOST_FRAGMENT + 3));
+    let mut record = Vec::new();
+    record.try_reserve_exact(size + HEADER_SIZE * (size / MOST_FRAGMENT + 3))?;
     loop {
         let mut size = 0;
         let status = prepare(record.spare_capacity_mut(), &mut size);
@@ -24,6 +25,6 @@ pub(crate) fn record_by(
             unsafe { record.set_len(size) };
             return Ok(record);
         }
-        record.reserve(size);
+        record.try_reserve_exact(size)?;
     }
 }

@@ -1,6 +1,7 @@
 //! [`Scan`]: the rows of a range of keys.
 
 use crate::error::Error;
+use crate::memory::copy;
 use crate::reads::Range;
 use crate::source::Source;
 use std::iter::FusedIterator;
@@ -12,7 +13,8 @@ const FIRST_ROWS: u64 = 16;
 /// How many rows a page has at most.
 const PAGE_ROWS: u64 = 512;
 
-/// The bytes of a page at first.
+/// The bytes of the first page, and of later ones at first.
+const FIRST_BYTES: usize = 4 * 1024;
 const PAGE_BYTES: usize = 16 * 1024;
 
 /// A key and its value, lent.
@@ -44,6 +46,8 @@ pub struct Scan<S> {
     /// Where the next page begins.
     low: Vec<u8>,
     high: Option<Vec<u8>>,
+    /// An error of the scan's making, for the first row.
+    failure: Option<Error>,
     page: Vec<u8>,
     /// Where the next row begins in the page.
     place: usize,
@@ -51,9 +55,7 @@ pub struct Scan<S> {
     left: u64,
     /// How many rows the next page has at most.
     limit: u64,
-    /// How many rows a page may ask for: all of them fitted so far.
-    most: u64,
-    /// Whether no page comes behind this one.
+    /// Whether no page comes after this one.
     is_last: bool,
 }
 
@@ -65,27 +67,45 @@ pub(crate) fn end_of_prefix(prefix: &[u8]) -> Option<Vec<u8>> {
     Some(end)
 }
 
+/// The bytes of as many rows: each is two byte strings, which follow their lengths.
+///
+/// # Safety
+///
+/// They are at the address.
+unsafe fn size_of_rows(page: *const u8, rows: u64) -> usize {
+    let mut size = 0;
+    for _ in 0..2 * rows {
+        // SAFETY: A length begins there.
+        let length = unsafe { page.add(size).cast::<[u8; 8]>().read() };
+        size += 8 + u64::from_le_bytes(length) as usize;
+    }
+    size
+}
+
 impl<S: Source> Scan<S> {
     pub(crate) fn of(source: S, low: &[u8], high: Option<&[u8]>, at: Option<u64>) -> Scan<S> {
+        let bounds = copy(low).and_then(|low| Ok((low, high.map(copy).transpose()?)));
+        let failure = bounds.as_ref().err().copied();
+        let (low, high) = bounds.unwrap_or_default();
         Scan {
             source,
             at,
-            low: low.to_vec(),
-            high: high.map(<[u8]>::to_vec),
+            low,
+            high,
+            failure,
             page: Vec::new(),
             place: 0,
             left: 0,
             limit: FIRST_ROWS,
-            most: PAGE_ROWS,
             is_last: false,
         }
     }
 
-    /// The next key and its value, lent until the next call; none behind the last row.
+    /// The next key and its value, lent until the next call; none after the last row.
     ///
     /// # Errors
     ///
-    /// Those of the scan. No row comes behind one.
+    /// Those of the scan. No row comes after one.
     pub fn next_row(&mut self) -> Result<Option<Row<'_>>, Error> {
         if self.left == 0 && !self.is_last {
             self.fetch().inspect_err(|_| self.is_last = true)?;
@@ -94,15 +114,35 @@ impl<S: Source> Scan<S> {
             return Ok(None);
         }
         let (key, value) = self.row();
+        if self.left == 0 && !self.is_last {
+            self.go_on_after(key.clone())
+                .inspect_err(|_| self.is_last = true)?;
+        }
         Ok(Some((&self.page[key], &self.page[value])))
     }
 
-    /// Fetches the next page. Behind one whose rows don't all fit, none asks for more rows than did. The page grows only
-    /// if its first row doesn't fit.
+    /// Lets the next page begin after a key of this one: no key is between it and itself with a zero byte.
+    fn go_on_after(&mut self, key: ops::Range<usize>) -> Result<(), Error> {
+        let key = &self.page[key];
+        self.low.clear();
+        self.low.try_reserve(key.len() + 1)?;
+        self.low.extend_from_slice(key);
+        self.low.push(0);
+        Ok(())
+    }
+
+    /// Fetches the next page. After one whose rows don't all fit, the next one asks for no more rows than did; after one that is less
+    /// than half full it asks for twice as many. The page grows only if its first row doesn't fit.
     fn fetch(&mut self) -> Result<(), Error> {
-        if self.page.is_empty() {
-            self.page.resize(PAGE_BYTES, 0);
+        if let Some(failure) = self.failure.take() {
+            return Err(failure);
         }
+        self.page.clear();
+        let least = match self.page.capacity() {
+            0 => FIRST_BYTES,
+            _ => PAGE_BYTES,
+        };
+        self.page.try_reserve_exact(least)?;
         loop {
             let range = Range {
                 low: &self.low,
@@ -110,19 +150,22 @@ impl<S: Source> Scan<S> {
                 at: self.at,
                 limit: self.limit,
             };
-            let (rows, size) = self.source.rows(&range, &mut self.page)?;
-            let all_fit = size <= self.page.len();
+            let (rows, size) = self.source.rows(&range, self.page.spare_capacity_mut())?;
+            let all_fit = size <= self.page.capacity();
             if all_fit || rows > 0 {
+                // SAFETY: As many rows were copied there.
+                unsafe { self.page.set_len(size_of_rows(self.page.as_ptr(), rows)) };
                 self.is_last = all_fit && rows < self.limit;
                 if !all_fit {
-                    self.most = rows;
+                    self.limit = rows;
+                } else if 2 * size <= PAGE_BYTES {
+                    self.limit = PAGE_ROWS.min(2 * self.limit);
                 }
-                self.limit = self.most.min(self.limit * 2);
                 (self.left, self.place) = (rows, 0);
                 return Ok(());
             }
             if self.limit == 1 {
-                self.page.resize(size, 0);
+                self.page.try_reserve_exact(size)?;
             }
             self.limit = 1;
         }
@@ -138,15 +181,8 @@ impl<S: Source> Scan<S> {
 
     /// Where the next row of the page is.
     fn row(&mut self) -> (ops::Range<usize>, ops::Range<usize>) {
-        let row = (self.text(), self.text());
         self.left -= 1;
-        if self.left == 0 {
-            // No key is between the last one and this.
-            self.low.clear();
-            self.low.extend_from_slice(&self.page[row.0.clone()]);
-            self.low.push(0);
-        }
-        row
+        (self.text(), self.text())
     }
 }
 
@@ -154,10 +190,87 @@ impl<S: Source> Iterator for Scan<S> {
     type Item = Result<(Vec<u8>, Vec<u8>), Error>;
 
     fn next(&mut self) -> Option<Self::Item> {
-        self.next_row()
-            .map(|row| row.map(|(key, value)| (key.to_vec(), value.to_vec())))
-            .transpose()
+        let row = self.next_row().transpose()?;
+        Some(row.and_then(|(key, value)| Ok((copy(key)?, copy(value)?))))
     }
 }
 
 impl<S: Source> FusedIterator for Scan<S> {}
+
+#[cfg(test)]
+mod tests {
+    use super::*;
+    use crate::source::{sealed, Buffer};
+    use std::cell::Cell;
+
+    /// Values of some lengths under the keys from 0 on, and how often rows were asked for.
+    #[derive(Debug)]
+    struct Values {
+        lengths: Vec<usize>,
+        asked: Cell<usize>,
+    }
+
+    impl Source for &Values {}
+
+    impl sealed::Rows for &Values {
+        #[allow(private_interfaces)]
+        fn rows(&self, range: &Range<'_>, buffer: Buffer<'_>) -> Result<(u64, usize), Error> {
+            self.asked.set(self.asked.get() + 1);
+            let (mut rows, mut size) = (0, 0);
+            let keys = (0u64..).map(u64::to_be_bytes).zip(&self.lengths);
+            let above = keys.skip_while(|(key, _)| key[..] < *range.low);
+            for (key, length) in above.take(range.limit as usize) {
+                let row = [
+                    &8u64.to_le_bytes()[..],
+                    &key,
+                    &(*length as u64).to_le_bytes(),
+                    &vec![7; *length],
+                ]
+                .concat();
+                let end = size + row.len();
+                if let Some(place) = buffer.get_mut(size..end) {
+                    for (at, byte) in place.iter_mut().zip(row) {
+                        at.write(byte);
+                    }
+                    rows += 1;
+                }
+                size = end;
+            }
+            Ok((rows, size))
+        }
+    }
+
+    /// How often a scan asks for rows whose values have these lengths.
+    fn asked(lengths: Vec<usize>) -> usize {
+        let values = Values {
+            lengths,
+            asked: Cell::new(0),
+        };
+        let mut scan = Scan::of(&values, b"", None, None);
+        let mut key = 0u64;
+        while let Some((found, value)) = scan.next_row().unwrap() {
+            assert_eq!(found, key.to_be_bytes());
+            assert_eq!(value, vec![7; values.lengths[key as usize]]);
+            key += 1;
+        }
+        assert_eq!(key as usize, values.lengths.len());
+        values.asked.get()
+    }
+
+    #[test]
+    fn a_scan_asks_for_more_rows_each_time() {
+        // 16, 32, 64, 128, 256 and 512 rows of 25 bytes: the last ones are more than half a page.
+        let small = asked(vec![1; 10_000]);
+        assert!(small < 40, "{small}");
+        assert_eq!(asked(vec![]), 1);
+    }
+
+    #[test]
+    fn one_large_row_makes_no_small_pages() {
+        let mut lengths = vec![1; 10_000];
+        let small = asked(lengths.clone());
+        lengths[3] = 100_000;
+        let large = asked(lengths);
+        assert!(large <= small + 15, "{large} and {small}");
+    }
+}

@@ -5,18 +5,22 @@ use crate::reads::Range;
 use crate::store::Store;
 use crate::view::View;
 use std::fmt;
+use std::mem::MaybeUninit;
+
+/// A page's memory, which has no values before rows are copied there.
+pub(crate) type Buffer<'a> = &'a mut [MaybeUninit<u8>];
 
 /// What a [`Scan`](crate::Scan) reads: a store, or a view.
 pub trait Source: sealed::Rows + fmt::Debug {}
 
 pub(crate) mod sealed {
-    use super::{Error, Range};
+    use super::{Buffer, Error, Range};
 
     /// The rows of a range. No type outside this crate has them.
     pub trait Rows {
         /// The first rows, as many as fit the room: how many these are, and the size of all.
         #[allow(private_interfaces)]
-        fn rows(&self, range: &Range<'_>, room: &mut [u8]) -> Result<(u64, usize), Error>;
+        fn rows(&self, range: &Range<'_>, room: Buffer<'_>) -> Result<(u64, usize), Error>;
     }
 }
 
@@ -26,21 +30,21 @@ impl Source for View {}
 
 impl sealed::Rows for &Store {
     #[allow(private_interfaces)]
-    fn rows(&self, range: &Range<'_>, room: &mut [u8]) -> Result<(u64, usize), Error> {
+    fn rows(&self, range: &Range<'_>, room: Buffer<'_>) -> Result<(u64, usize), Error> {
         self.reads().rows(range, room)
     }
 }
 
 impl sealed::Rows for &View {
     #[allow(private_interfaces)]
-    fn rows(&self, range: &Range<'_>, room: &mut [u8]) -> Result<(u64, usize), Error> {
+    fn rows(&self, range: &Range<'_>, room: Buffer<'_>) -> Result<(u64, usize), Error> {
         self.reads().rows(range, room)
     }
 }
 
 impl sealed::Rows for View {
     #[allow(private_interfaces)]
-    fn rows(&self, range: &Range<'_>, room: &mut [u8]) -> Result<(u64, usize), Error> {
+    fn rows(&self, range: &Range<'_>, room: Buffer<'_>) -> Result<(u64, usize), Error> {
         self.reads().rows(range, room)
     }
 }

@@ -19,10 +19,6 @@ use std::cell::UnsafeCell;
 use std::fmt;
 use std::mem::MaybeUninit;
 use std::ptr;
-use std::sync::atomic::{AtomicU64, Ordering};
-
-/// The number of the next store.
-static NEXT_NUMBER: AtomicU64 = AtomicU64::new(0);
 
 /// The functions that read a store.
 const READS: Functions<sys::ucstore> = Functions {
@@ -49,8 +45,6 @@ const READS: Functions<sys::ucstore> = Functions {
 /// its own.
 pub struct Store {
     handle: UnsafeCell<sys::ucstore>,
-    /// Its own among all stores of the process, which its jobs carry.
-    number: u64,
 }
 
 // The library lets handles go from thread to thread. What is behind this one is reached through it alone.
@@ -95,7 +89,7 @@ impl Store {
     }
 
     /// Writes the batches of a log to the store again, one at a call of [`Replay::write_next`]. [`open`](Store::open) reads one
-    /// log whole; this one reads logs that lie in several files, or behind a checkpoint.
+    /// log whole; this one reads logs that lie in several files, or after a checkpoint.
     ///
     /// ```
     /// # use ucstore::{Batch, Operator, Options, Replayed, Store};
@@ -113,7 +107,7 @@ impl Store {
         log_writes(log).replay(self)
     }
 
-    /// Writes the operations of a batch, with the sequences behind the last one.
+    /// Writes the operations of a batch, with the sequences after the last one.
     ///
     /// # Errors
     ///
@@ -124,7 +118,7 @@ impl Store {
     }
 
     /// Writes a batch that [`Batch::bytes`] or RocksDB wrote. The operations get its sequence and those behind it, or
-    /// the ones behind the last one if it is 0: there may be gaps.
+    /// the ones after the last one if it is 0: there may be gaps.
     ///
     /// # Errors
     ///
@@ -424,24 +418,26 @@ impl Store {
     ///
     /// [`Error::OutOfMemory`].
     pub fn take_job(&self) -> Result<Option<Job>, Error> {
-        let (mut job, mut taken) = (Job::closed(self.number), false);
+        let (mut job, mut taken) = (Job::closed(), false);
         check(unsafe { sys::ucstore_job(self.handle(), job.handle(), &mut taken) })?;
         Ok(taken.then_some(job))
     }
 
     /// Ends a job: if it was run, its run takes the place of what it had. What one had that wasn't run may be flushed or
-    /// compacted again. It frees nothing of that: the ended job does, where it is dropped.
+    /// compacted again. It frees neither runs nor memtables: the ended job does, where it is dropped.
     ///
     /// # Errors
     ///
     /// A job of another store comes back.
     pub fn end_job(&self, mut job: Job) -> Result<EndedJob, Job> {
-        if job.store != self.number {
-            return Err(job);
-        }
         let mut installed = false;
-        self.certain(unsafe { sys::ucstore_job_end(self.handle(), job.handle(), &mut installed) });
-        Ok(EndedJob::new(job, installed))
+        match unsafe { sys::ucstore_job_end(self.handle(), job.handle(), &mut installed) } {
+            sys::UCSTORE_NOT_OF_STORE => Err(job),
+            status => {
+                self.certain(status);
+                Ok(EndedJob::new(job, installed))
+            }
+        }
     }
 
     /// What the store holds, in numbers.
@@ -516,7 +512,6 @@ impl Store {
             handle: UnsafeCell::new(sys::ucstore {
                 at: ptr::null_mut(),
             }),
-            number: NEXT_NUMBER.fetch_add(1, Ordering::Relaxed),
         }
     }
 

@@ -1,9 +1,10 @@
 //! Which views readers share, and when.
 
 use super::*;
+use crate::flushes;
 use crate::lanes::own_place;
 use crate::options::Options;
-use crate::shared::{self, Shared};
+use crate::shared::Shared;
 use std::thread;
 use ucstore::Batch;
 
@@ -211,7 +212,7 @@ fn a_writer_flushes_for_scans() {
     put(&shared, 1);
     shared
         .gathered
-        .store(shared::MOST_SORTED, Ordering::Relaxed);
+        .store(flushes::MOST_SORTED, Ordering::Relaxed);
     put(&shared, 2);
     assert_eq!(runs(), 0);
     scan_often(&shared);

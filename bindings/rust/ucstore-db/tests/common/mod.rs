@@ -1,10 +1,12 @@
 //! What the tests share: a device that crashes and fails, and drawn histories beside a map.
 #![allow(dead_code, unused_imports)]
 
+mod around;
 mod device;
 mod history;
 
-pub use device::{Call, Device};
+pub use around::{Around, Over};
+pub use device::{Call, Device, Extent};
 pub use history::{map_of, open, Histories, History, Map, Run};
 
 use std::env;
@@ -24,7 +26,7 @@ impl Numbers {
     }
 }
 
-/// A folder of the file system, which is removed behind a test.
+/// A folder of the file system, which is removed after a test.
 pub struct Temporary(PathBuf);
 
 impl Temporary {

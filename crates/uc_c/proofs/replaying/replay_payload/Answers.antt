@@ -4,6 +4,7 @@ use Rattle.uc_batch.specs.Batch.{writes_in}
 use Rattle.uc_batch.specs.Rising.{IsRising}
 use Rattle.uc_batch.proofs.Rises.{rising-batch}
 use Rattle.uc_live.specs.Going.{GoesOn}
+use Rattle.uc_live.specs.LiveFlushes.{HadRoom}
 use Rattle.uc_engine.specs.Engines.{meaning_of}
 use Rattle.uc_c.proofs.Again.{comes_next, count_is}
 use Rattle.uc_c.proofs.replaying.replay_payload.Goals as goal
@@ -35,4 +36,5 @@ returns-clause-ok c = λ log lies. record {
     goes_on = subst (λ (ws : List Write). GoesOn (meaning_of c.args.engine.now.kind) c.args.engine.now.live c.write_all.new.self.live ws) c.judged.ensures c.in_ok-write_all.ensures.ok;
     none_prepared = c.in_ok-write_all.ensures.none;
   };
+  room = subst (HadRoom c.write_all.new.self.live) c.judged.ensures c.in_ok-write_all.ensures.room;
 }

@@ -39,7 +39,7 @@ returns-clause-goes_on g c s log bytes old new laid piece =
     let text : bytes ≡ payload_text (length log) (numbered_text (n + 1) ops) =
     piece.text ∙ ap (λ (k : ℕ). payload_text (length log) (numbered_text (k + 1) ops)) laid.counted in
     let recorded = recorded_behind (last_of 0 (writes_that_put rows)) n (length log) ops bytes last (c.gathered_batch_is_read.ensures.read n ops piece.fit below) text in
-    let recovered = c.recorded_batch_is_recovered.ensures log (length log) (writes_that_put rows) (batch_text 0 ops) bytes laid.batches recorded in
+    let recovered = c.recorded_batch_is_recovered.ensures log (length log) (last_of 0 (writes_that_put rows)) (writes_that_put rows) (batch_text 0 ops) bytes laid.batches (omega arith) recorded in
     let whole = sym (put_behind rows more) in
     let longer = subst (λ (bs : List ℕ). HasBatches bs (length log + length bytes) (writes_that_put rows ++ numbered (n + 1) ops)) (added log bytes) recovered.goes_on in
     let ends = subst (λ (k : ℕ). HasBatches (log ++ bytes) k (writes_that_put rows ++ numbered (n + 1) ops)) (sym (length-append log bytes)) longer in

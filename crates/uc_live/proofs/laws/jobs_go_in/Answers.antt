@@ -1,7 +1,8 @@
-use Rattle.std.proofs.Common.{subst}
+use Rattle.std.proofs.Common.{[], subst}
 use Rattle.uc_compact.specs.Inputs.{Compaction}
 use Rattle.uc_version.specs.Installing.{IsRefused, stretch_of}
-use Rattle.uc_live.specs.Lives.{owner_in}
+use Rattle.uc_live.specs.Lives.{committed, owner_in, unprepared}
+use Rattle.uc_live.proofs.Going.{commit_on, given_up_on}
 use Rattle.uc_live.proofs.JobsOut.{out_first, out_run, out_on, out_snapshot, out_release, out_beside, out_apart, out_past, out_own, out_stands}
 use Rattle.uc_live.proofs.laws.jobs_go_in.Goals as goal
 
@@ -20,6 +21,12 @@ returns-clause-snapshot g c old new seq job out takes = out_snapshot g.O.Operato
 
 pub returns-clause-release : goal.returns-clause-release
 returns-clause-release g c l seq job out there = out_release g.O.Operator.meaning job l seq out there
+
+pub returns-clause-committed : goal.returns-clause-committed
+returns-clause-committed g c l job out = out_on g.O.Operator.meaning job l (committed l) l.prepared out (commit_on g.O.Operator.meaning l)
+
+pub returns-clause-given_up : goal.returns-clause-given_up
+returns-clause-given_up g c l job out = out_on g.O.Operator.meaning job l (unprepared l) [] out (given_up_on g.O.Operator.meaning l)
 
 pub returns-clause-beside_a_start : goal.returns-clause-beside_a_start
 returns-clause-beside_a_start g c old new job other owner out starts =

@@ -1,6 +1,7 @@
-use Rattle.std.proofs.Common.{ap}
-use Rattle.uc_live.specs.Lives.{Live, owner_in}
-use Rattle.uc_live.proofs.Taken.{taken_on, taken_snapshot, taken_release}
+use Rattle.std.proofs.Common.{[], ap}
+use Rattle.uc_live.specs.Lives.{Live, committed, owner_in, unprepared}
+use Rattle.uc_live.proofs.Going.{commit_on, given_up_on}
+use Rattle.uc_live.proofs.Taken.{same_writes, taken_on, taken_snapshot, taken_release}
 use Rattle.uc_live.proofs.JobsOut.{out_stands, ended_taken, started_taken}
 use Rattle.uc_live.proofs.laws.taken_writes_add_up.Goals as goal
 
@@ -12,6 +13,16 @@ returns-clause-snapshot g c = taken_snapshot g.O.Operator.meaning
 
 pub returns-clause-release : goal.returns-clause-release
 returns-clause-release g c = taken_release g.O.Operator.meaning
+
+pub returns-clause-committed : goal.returns-clause-committed
+returns-clause-committed g c l before taken =
+    let m = g.O.Operator.meaning in
+    taken_on m l (committed l) before l.prepared taken (commit_on m l)
+
+pub returns-clause-given_up : goal.returns-clause-given_up
+returns-clause-given_up g c l before taken =
+    let m = g.O.Operator.meaning in
+    same_writes m (unprepared l) before (taken_on m l (unprepared l) before [] taken (given_up_on m l))
 
 pub returns-clause-started : goal.returns-clause-started
 returns-clause-started g c old new before job taken starts = started_taken g.O.Operator.meaning job old new before taken starts

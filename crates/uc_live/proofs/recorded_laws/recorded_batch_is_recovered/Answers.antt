@@ -6,14 +6,15 @@ use Rattle.uc_batch.specs.Log.{batches_of, kept}
 use Rattle.uc_live.specs.Writing.{numbered}
 use Rattle.uc_batch.specs.Rising.{last_of}
 use Rattle.uc_live.proofs.Recorded.{text_of_one, batches_known, whole}
+use Rattle.uc_live.proofs.Later.{comes_after}
 use Rattle.uc_live.proofs.recorded_laws.recorded_batch_is_recovered.Goals as goal
 
 pub returns : goal.returns
-returns c log offset writes batch bytes has recorded =
-    let payload = numbered (last_of 0 writes) batch in
+returns c log offset last writes batch bytes has behind recorded =
+    let payload = numbered last batch in
     let more = recorded.read.writes in
     let continued = cut_and_added log offset bytes in
-    let known = batches_known has.payloads payload writes more has.read recorded.read.is in
+    let known = batches_known has.payloads payload writes more has.read (comes_after (last_of 0 writes) last payload more behind recorded.read.is) in
     let on = c.log_goes_on.ensures log has.payloads offset has.walked (payload ∷ []) in
     let text = text_of_one offset payload ∙ sym recorded.text in
     let payloads : payloads_of continued ≡ has.payloads ++ payload ∷ [] = ap (λ (bs : List ℕ). payloads_of (cut_and_added log offset bs)) (sym text) ∙ on.same in

@@ -11,8 +11,8 @@ use Rattle.std.proofs.alloc.Global.TheSendSync as allocator
 use Rattle.std.specs.Global.{Global}
 use Rattle.std.specs.Prelude.{Option, Some, None}
 use Rattle.std_alloc.proofs.SendSync.{quiet, lies}
-use Rattle.uc_engine.specs.contracts.TakenJob.{the_row as R}
-use Rattle.uc_engine.proofs.TakenJob.TheSendSync.{the_send as job}
+use Rattle.uc_engine.specs.contracts.StoreJob.{the_row as R}
+use Rattle.uc_engine.proofs.StoreJob.TheSendSync.{the_send as job}
 use Rattle.uc_handle.specs.Address.{address_owns}
 use Rattle.uc_handle.specs.contracts.job_handle.JobHandle.{the_row, the_type}
 

@@ -21,7 +21,7 @@ use Rattle.std.proofs.raw_atomic.Walks.{proved_at, leaves}
 use Rattle.std.specs.Prelude.{None}
 use Rattle.uc_handle.proofs.Values.{both}
 use Rattle.uc_handle.proofs.Addresses.{Z, al, handle_good, handle_in}
-use Rattle.uc_engine.specs.contracts.TakenJob.{the_row as R}
+use Rattle.uc_engine.specs.contracts.StoreJob.{the_row as R}
 use Rattle.uc_handle.specs.contracts.job_handle.JobHandle.{the_row as JobHandle, the_type}
 use Rattle.uc_handle.specs.contracts.job_handle.JobHandle.empty as f
 use Rattle.uc_handle.specs.contracts.job_handle.JobHandle.empty.Key.{name as #self}

@@ -22,7 +22,7 @@ use Rattle.std.specs.Prelude.{Some}
 use Rattle.std.specs.contracts.impls.GlobalAllocator.TheImpl.{ghosts}
 use Rattle.uc_handle.proofs.Values.{both, Loose, loose_good, loose_out}
 use Rattle.uc_handle.proofs.Addresses.{Z, handle_good, handle_in}
-use Rattle.uc_engine.specs.contracts.TakenJob.{the_row as R}
+use Rattle.uc_engine.specs.contracts.StoreJob.{the_row as R}
 use Rattle.uc_handle.specs.contracts.job_handle.JobHandle.{the_row as JobHandle, the_type}
 use Rattle.uc_handle.specs.contracts.job_handle.JobHandle.from_loose as f
 use Rattle.uc_handle.specs.contracts.job_handle.JobHandle.from_loose.Key.{name as #self}

@@ -29,7 +29,7 @@ use Rattle.std.specs.contracts.impls.GlobalAllocator.TheImpl.{ghosts}
 use Rattle.std_alloc.proofs.ResultValues.{and_tt}
 use Rattle.uc_handle.proofs.Values.{both, Loose, loose_good, loose_in}
 use Rattle.uc_handle.proofs.Addresses.{Z, handle_good, handle_out, either}
-use Rattle.uc_engine.specs.contracts.TakenJob.{the_row as R}
+use Rattle.uc_engine.specs.contracts.StoreJob.{the_row as R}
 use Rattle.uc_handle.specs.contracts.job_handle.JobHandle.{the_row as JobHandle, the_type}
 use Rattle.uc_handle.specs.contracts.job_handle.JobHandle.into_loose as f
 use Rattle.uc_handle.specs.contracts.job_handle.JobHandle.into_loose.Key.{name as #self}

@@ -1,0 +1,165 @@
+//! [`Windows`]: a file that is read piece by piece, so that an opening takes no memory for all of it.
+
+use crate::error::Error;
+use crate::folder::Folder;
+use crate::name::Name;
+use crate::record::{block_of, header_place, Header, BLOCK_SIZE, HEADER_SIZE};
+use std::io;
+use ucstore::{Ended, LogFault};
+
+/// The length of a window in bytes at first. One that a batch doesn't fit in grows.
+pub(crate) const WINDOW_SIZE: usize = 1 << 20;
+
+/// A file that is read piece by piece. A window begins with a block.
+pub(crate) struct Windows<'a> {
+    folder: &'a dyn Folder,
+    name: String,
+    /// The file's length in bytes.
+    length: u64,
+    /// Where the window begins.
+    begin: u64,
+    bytes: Vec<u8>,
+}
+
+impl<'a> Windows<'a> {
+    /// Those of a file.
+    pub(crate) fn of(folder: &'a dyn Folder, name: Name) -> Result<Windows<'a>, Error> {
+        let name = name.text();
+        let length = folder.length(&name).map_err(Error::of_file(&name))?;
+        let mut windows = Windows {
+            folder,
+            name,
+            length,
+            begin: 0,
+            bytes: vec![],
+        };
+        windows.read(WINDOW_SIZE)?;
+        Ok(windows)
+    }
+
+    /// The file's length in bytes.
+    pub(crate) fn length(&self) -> u64 {
+        self.length
+    }
+
+    /// Where the window begins.
+    pub(crate) fn begin(&self) -> u64 {
+        self.begin
+    }
+
+    /// The window's bytes.
+    pub(crate) fn bytes(&self) -> &[u8] {
+        &self.bytes
+    }
+
+    /// What the window has from an offset on, which is in it.
+    pub(crate) fn rest(&self, offset: u64) -> &[u8] {
+        &self.bytes[(offset - self.begin) as usize..]
+    }
+
+    /// What the file has from an offset on: as many bytes as asked for, or fewer at its end. At most a block's are asked for.
+    pub(crate) fn at(&mut self, offset: u64, length: usize) -> Result<&[u8], Error> {
+        let offset = offset.min(self.length);
+        let most = (self.length - offset).min(length as u64);
+        if offset < self.begin || offset + most > self.end() {
+            self.seek(offset)?;
+        }
+        Ok(&self.rest(offset)[..most as usize])
+    }
+
+    /// The header of a record that may begin at an offset.
+    pub(crate) fn header_at(&mut self, offset: u64) -> Result<Option<Header>, Error> {
+        Ok(Header::of(self.at(offset, HEADER_SIZE)?))
+    }
+
+    /// Goes on to the window that begins with the block of an offset.
+    pub(crate) fn seek(&mut self, offset: u64) -> Result<(), Error> {
+        let begin = block_of(offset);
+        if begin != self.begin {
+            self.begin = begin;
+            self.bytes.clear();
+            self.bytes.shrink_to(WINDOW_SIZE);
+        }
+        self.read(WINDOW_SIZE)
+    }
+
+    /// Makes the window twice as long.
+    pub(crate) fn grow(&mut self) -> Result<(), Error> {
+        self.read(2 * self.bytes.len().max(WINDOW_SIZE))
+    }
+
+    /// Where a walk goes on that ended in the window after the batches before an offset; none if it has ended with the file, and how.
+    pub(crate) fn go_on(&mut self, offset: u64, ended: Ended) -> Result<Option<Ended>, Error> {
+        let is_over = self.end() == self.length;
+        if is_over || !matches!(ended, Ended::Clean | Ended::Torn { .. }) {
+            return Ok(Some(behind(self.begin, ended)));
+        }
+        let place = header_place(offset);
+        if block_of(place) > self.begin {
+            self.seek(place)?;
+        } else if ended == Ended::Clean {
+            let is_clean = self.is_zero_from(place)?;
+            let fault = LogFault::BadChecksum;
+            return Ok(Some(match is_clean {
+                true => Ended::Clean,
+                // Zeros before other bytes.
+                false => Ended::LogFault {
+                    offset: place,
+                    fault,
+                },
+            }));
+        } else {
+            self.grow()?;
+        }
+        Ok(None)
+    }
+
+    /// Whether the file has nothing but zeros from an offset on.
+    pub(crate) fn is_zero_from(&mut self, offset: u64) -> Result<bool, Error> {
+        let mut place = offset;
+        while place < self.length {
+            let piece = self.at(place, BLOCK_SIZE as usize)?;
+            if piece.iter().any(|byte| *byte != 0) {
+                return Ok(false);
+            }
+            place += piece.len() as u64;
+        }
+        Ok(true)
+    }
+
+    fn end(&self) -> u64 {
+        self.begin + self.bytes.len() as u64
+    }
+
+    /// Reads on until the window has as many bytes, or all of the file's.
+    fn read(&mut self, most: usize) -> Result<(), Error> {
+        let most = (self.length - self.begin).min(most as u64) as usize;
+        while self.bytes.len() < most {
+            let lacks = (most - self.bytes.len()).min(WINDOW_SIZE);
+            let piece = self
+                .folder
+                .read_at(&self.name, self.end(), lacks)
+                .map_err(Error::of_file(&self.name))?;
+            if piece.is_empty() {
+                let error = io::Error::from(io::ErrorKind::UnexpectedEof);
+                return Err(Error::of_file(&self.name)(error));
+            }
+            self.bytes.extend_from_slice(&piece);
+        }
+        Ok(())
+    }
+}
+
+/// How a log ends of which a part that begins at an offset ends so.
+fn behind(begin: u64, ended: Ended) -> Ended {
+    match ended {
+        Ended::Torn { offset } => Ended::Torn {
+            offset: begin + offset,
+        },
+        Ended::LogFault { offset, fault } => Ended::LogFault {
+            offset: begin + offset,
+            fault,
+        },
+        other => other,
+    }
+}

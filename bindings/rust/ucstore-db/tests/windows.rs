@@ -1,0 +1,131 @@
+//! Files are read piece by piece: an opening takes little memory beside its data's.
+
+mod common;
+
+use common::{map_of, open, Around, Device, Map, Over};
+use std::io;
+use std::sync::atomic::{AtomicUsize, Ordering};
+use std::sync::Arc;
+use ucstore_db::{Batch, Db, Folder, Options, Sync};
+
+/// A device that is asked for pieces, and notes the greatest.
+#[derive(Clone, Default)]
+struct Pieces {
+    device: Device,
+    greatest: Arc<AtomicUsize>,
+}
+
+impl Around for Pieces {
+    fn device(&self) -> &Device {
+        &self.device
+    }
+
+    fn read(&self, name: &str) -> io::Result<Vec<u8>> {
+        assert_eq!(name, "OPERATOR");
+        self.device.read(name)
+    }
+
+    fn read_at(&self, name: &str, offset: u64, length: usize) -> io::Result<Vec<u8>> {
+        self.greatest.fetch_max(length, Ordering::SeqCst);
+        self.device.read_at(name, offset, length)
+    }
+}
+
+fn options() -> Options {
+    Options {
+        compactors: 0,
+        sync: Sync::Never,
+        checkpoint_least: u64::MAX,
+        ..Default::default()
+    }
+}
+
+/// A base of some MiB and a log of as many, whose process is killed.
+fn filled() -> (Device, Map) {
+    let device = Device::default();
+    let db = Db::open_on(Arc::new(device.clone()), &options()).unwrap();
+    let put = |from: u32, to: u32, length: usize| {
+        for row in from..to {
+            let mut batch = Batch::new();
+            batch
+                .put(row.to_be_bytes(), vec![row as u8; length])
+                .unwrap();
+            db.write_with(&batch, row % 50 == 0).unwrap();
+        }
+    };
+    put(0, 3000, 1000);
+    db.checkpoint().unwrap();
+    put(3000, 3400, 10_000);
+    put(3400, 3402, 1_500_000);
+    put(3402, 3410, 40_000);
+    let map = map_of(&db);
+    (device.restarted(), map)
+}
+
+#[test]
+fn a_file_is_read_in_pieces_of_a_mebibyte() {
+    let (device, map) = filled();
+    let sizes: usize = device.logs().values().map(Vec::len).sum();
+    assert!(sizes > 9 << 20);
+    let pieces = Pieces {
+        device,
+        ..Default::default()
+    };
+    let db = Db::open_on(Arc::new(Over(pieces.clone())), &options()).unwrap();
+    assert_eq!(map_of(&db), map);
+    db.checkpoint().unwrap();
+    drop(db);
+    assert_eq!(pieces.greatest.load(Ordering::SeqCst), 1 << 20);
+    assert_eq!(map_of(&open(&pieces.device).unwrap()), map);
+}
+
+/// Faults are found in each window as in the first one.
+#[test]
+fn a_log_may_end_in_any_window() {
+    let (device, map) = filled();
+    let files = device.files();
+    let length = files["000002.log"].len();
+    let ends: Vec<usize> = (0..length).step_by(397_001).collect();
+    let mut rows = 3000;
+    for end in ends {
+        for is_zero in [false, true] {
+            let mut torn = files.clone();
+            let log = torn.get_mut("000002.log").unwrap();
+            match is_zero {
+                false => log.truncate(end),
+                true => log[end..].fill(0),
+            }
+            let found = map_of(&open(&Device::of(&torn)).unwrap());
+            assert!(found.len() >= rows && found.len() <= map.len());
+            assert!(found.iter().all(|(key, value)| map[key] == *value));
+            rows = found.len();
+        }
+    }
+    assert!(rows > 3300);
+}
+
+/// A hole of many windows, and a batch behind it that was synced. It is found by the record before it, at the start of its block.
+#[test]
+fn a_batch_after_a_long_hole_tells_damage() {
+    let device = Device::default();
+    let db = open(&device).unwrap();
+    db.put("a", "1").unwrap();
+    let begin = device.files()["000001.log"].len();
+    db.put("long", vec![7; 3 << 20]).unwrap();
+    let end = device.files()["000001.log"].len();
+    let end = end - end % 32_768;
+    let mut batch = Batch::new();
+    for _ in 0..2 {
+        db.write_with(batch.put("b", "2").unwrap(), true).unwrap();
+    }
+    let mut files = device.files();
+    files.get_mut("000001.log").unwrap()[begin + 9..end].fill(0);
+    let refused = open(&Device::of(&files)).unwrap_err().to_string();
+    assert!(refused.starts_with("000001.log is damaged at"), "{refused}");
+    files.get_mut("000001.log").unwrap()[begin..end].fill(0);
+    let refused = open(&Device::of(&files)).unwrap_err().to_string();
+    assert!(refused.starts_with("000001.log is damaged at"), "{refused}");
+    // Without the last two it is what a crash leaves.
+    files.get_mut("000001.log").unwrap()[end..].fill(0);
+    assert_eq!(map_of(&open(&Device::of(&files)).unwrap()).len(), 1);
+}

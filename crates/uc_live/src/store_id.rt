@@ -1,0 +1,22 @@
+//! [`StoreId`]: which store it is.
+ghost use Rattle.std.specs.Prelude.{◌≡◌, ◌↔◌, IsTrue};
+
+/// Which store it is: a number by which the jobs of a store are told from those of others. Who makes stores that exchange
+/// jobs gives each another one; 0 is for those that don't.
+#[derive(Clone, Copy, Debug, PartialEq, Eq)]
+pub struct StoreId {
+    /// The number.
+    pub number: u64,
+}
+
+impl StoreId {
+    /// The id of stores that exchange no jobs.
+    pub const NONE: StoreId = StoreId { number: 0 };
+
+    /// Whether both are the same.
+    pub fn is(&self, other: &StoreId) -> bool
+        ensures { IsTrue result ↔ (self.now ≡ other.now) }
+    {
+        self.number == other.number
+    }
+}

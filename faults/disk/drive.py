@@ -1,0 +1,115 @@
+"""Writes numbered batches to a store in a process of its own, and marks in its trace what was acknowledged.
+
+    drive.py STORE FOLDER MODE SEED STEPS
+
+Batch N puts a value under a key of its own, and N under one key. The marks are `try N`, `ack N SYNCED`, `refused N FINAL`,
+`synced` once all that was acknowledged is on the device, and `opened N..` with the batches that an opening found.
+"""
+
+from __future__ import annotations
+
+import ctypes
+import os
+import random
+import sys
+from pathlib import Path
+from typing import Callable, Dict, List
+
+from stores import STORES, Refused
+
+LAST = b"last"
+
+
+def rows_of(seed: int, number: int) -> Dict[bytes, bytes]:
+    """The rows of a batch. Few are long."""
+    drawn = random.Random(f"{seed} {number}")
+    most = drawn.choices((200, 5_000, 70_000), (14, 5, 1))[0]
+    text = b"%d." % number
+    size = drawn.randint(1, most)
+    return {b"k%06d" % number: (text * (size // len(text) + 1))[:size], LAST: b"%d" % number}
+
+
+def batches_of(seed: int, rows: Dict[bytes, bytes]) -> List[int]:
+    """The batches that rows are of. Raises ValueError if they are of parts."""
+    numbers = sorted(int(key[1:]) for key in rows if key != LAST)
+    wanted: Dict[bytes, bytes] = {}
+    for number in numbers:
+        wanted.update(rows_of(seed, number))
+    if wanted != rows:
+        raise ValueError("the rows are of no batches")
+    return numbers
+
+
+def mark_function() -> Callable[[bytes], object]:
+    """What marks the trace: record.c, or the file of block.c that DISK_MARKS names."""
+    if "DISK_MARKS" in os.environ:
+        marks = os.open(os.environ["DISK_MARKS"], os.O_WRONLY)
+        return lambda text: os.write(marks, text + b"\n")
+    return ctypes.CDLL(None).disk_mark  # type: ignore[no-any-return]
+
+
+class Drive:
+    """A store that is driven."""
+
+    def __init__(self, store: str, folder: Path, mode: str, seed: int) -> None:
+        self._mark_in_trace = mark_function()
+        self._kind, self._folder, self._mode, self._seed = STORES[store], folder, mode, seed
+        self._next = 1
+        self._open()
+
+    def _mark(self, text: str) -> None:
+        self._mark_in_trace(text.encode())
+
+    def _open(self) -> None:
+        self._store = self._kind(self._folder, self._mode)
+        found = batches_of(self._seed, self._store.rows())
+        self._next = max(self._next, *found, 0) + 1 if found else self._next
+        self._mark(f"opened {','.join(map(str, found))}")
+
+    def _reopen(self) -> None:
+        if self._store.close():
+            self._mark("synced")
+        self._open()
+
+    def _write(self, is_synced: bool) -> None:
+        number = self._next
+        self._next += 1
+        self._mark(f"try {number}")
+        try:
+            self._store.write(rows_of(self._seed, number), is_synced)
+        except Refused as refused:
+            self._mark(f"refused {number} {int(refused.is_final)}")
+            if refused.is_final:
+                self._reopen()
+        else:
+            self._mark(f"ack {number} {int(is_synced or self._mode == 'always')}")
+
+    def _sync(self) -> None:
+        if self._store.sync():
+            self._mark("synced")
+
+    def run(self, steps: int, drawn: random.Random) -> None:
+        """Takes so many steps, and closes the store."""
+        for _ in range(steps):
+            step = drawn.random()
+            if step < 0.03:
+                self._reopen()
+            elif step < 0.06:
+                self._store.checkpoint()
+            elif step < 0.08:
+                self._store.next_log()
+            elif step < 0.11:
+                self._sync()
+            else:
+                self._write(drawn.random() < 0.3)
+        if self._store.close():
+            self._mark("synced")
+
+
+def main() -> None:
+    store, folder, mode, seed, steps = sys.argv[1:]
+    Drive(store, Path(folder), mode, int(seed)).run(int(steps), random.Random(f"{seed} {steps} steps"))
+
+
+if __name__ == "__main__":
+    main()
