@@ -11,7 +11,7 @@
 //!
 //! An `Err(AllocError)`, or a variant `Memory`, comes only if an allocation fails.
 //!
-//! Tests: `uc_tests_formats`.
+//! Tests: `bindings/c/test.c`, `faults/damage.rs`, `crates/ucstore/cases/run`.
 #![tactic(auto)]
 
 mod batch_reader;

@@ -9,7 +9,7 @@
 //!
 //! An `Err(AllocError)` comes only if an allocation fails.
 //!
-//! Tests: `uc_tests_base`.
+//! Tests: `tests/base.py`.
 #![tactic(auto)]
 
 mod bytes;

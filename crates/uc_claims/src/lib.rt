@@ -10,7 +10,7 @@
 //!
 //! An `Err(AllocError)` comes only if an allocation fails.
 //!
-//! Tests: `uc_tests_base`.
+//! Tests: `tests/slots.py`, `uc_tests_threads`.
 #![tactic(auto)]
 
 mod busy;

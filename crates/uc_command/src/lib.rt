@@ -7,7 +7,7 @@
 //!
 //! An `Err(AllocError)` comes only if an allocation fails.
 //!
-//! Tests: `uc_tests_program`.
+//! Tests: `crates/ucstore/cases/run`.
 #![tactic(auto)]
 
 mod ask_numbers;

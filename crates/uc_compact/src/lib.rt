@@ -18,7 +18,7 @@
 //!
 //! An `Err(AllocError)` comes only if an allocation fails.
 //!
-//! Tests: `uc_tests_parts`, `uc_tests_runs`, `uc_tests_drawn_runs`.
+//! Tests: `tests/runs.py`, `tests/drawn.py`.
 #![tactic(auto)]
 
 mod checking;

@@ -23,7 +23,7 @@
 //!
 //! An `Err(AllocError)` comes only if an allocation fails.
 //!
-//! Tests: `uc_tests_formats`.
+//! Tests: `bindings/c/test.c`, `faults/damage.rs`, `crates/ucstore/cases/run`.
 #![tactic(auto)]
 
 mod checksum;

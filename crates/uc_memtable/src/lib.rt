@@ -13,7 +13,7 @@
 //! writes whose labels share a bucket are in one chain, from the newest on. `specs/Labels.antt` and `specs/Linked.antt`
 //! define them.
 //!
-//! Tests: `uc_tests_memtable`.
+//! Tests: `tests/memtables.py`.
 //!
 //! An `Err(AllocError)` comes only if an allocation fails.
 #![tactic(auto)]

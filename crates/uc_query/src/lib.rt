@@ -11,7 +11,7 @@
 //!
 //! An `Err(AllocError)` or `Memory` comes only if an allocation fails.
 //!
-//! Tests: `uc_tests_store`.
+//! Tests: `tests/owner.py`.
 #![tactic(auto)]
 
 mod ask_turn;

@@ -11,7 +11,7 @@
 //!
 //! An `Err(AllocError)` comes only if an allocation fails.
 //!
-//! Tests: `uc_tests_base`, `uc_tests_store`.
+//! Tests: `tests/base.py`, `tests/owner.py`.
 #![tactic(auto)]
 
 mod answer;

@@ -12,7 +12,7 @@
 //!
 //! An `Err(AllocError)`, or an error `Memory`, comes only if an allocation fails.
 //!
-//! Tests: `uc_tests_share`, `uc_tests_threads`.
+//! Tests: `tests/shared.py`, `uc_tests_threads`.
 #![tactic(auto)]
 
 mod answers;

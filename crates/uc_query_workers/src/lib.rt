@@ -16,7 +16,7 @@
 //!
 //! An `Err(AllocError)`, or a variant `Memory`, comes only if an allocation fails.
 //!
-//! Tests: `uc_tests_store`, `uc_tests_threads`.
+//! Tests: `tests/owner.py`, `uc_tests_threads`.
 #![tactic(auto)]
 
 mod answered;

@@ -13,7 +13,7 @@
 //!
 //! An `Err(AllocError)` comes only if an allocation fails.
 //!
-//! Tests: `uc_tests_runs`, `uc_tests_drawn_runs`.
+//! Tests: `tests/runs.py`, `tests/drawn.py`.
 #![tactic(auto)]
 
 mod common_front;

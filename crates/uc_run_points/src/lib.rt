@@ -8,7 +8,7 @@
 //!
 //! An `Err(AllocError)` comes only if an allocation fails.
 //!
-//! Tests: `uc_tests_runs`.
+//! Tests: `tests/runs.py`, `tests/drawn.py`.
 #![tactic(auto)]
 
 mod number;

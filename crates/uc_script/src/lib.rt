@@ -25,7 +25,7 @@
 //!
 //! An `Err(AllocError)`, or a variant `Memory`, comes only if an allocation fails.
 //!
-//! Tests: `uc_tests_scripts`.
+//! Tests: `crates/ucstore/cases/lines/run`.
 #![tactic(auto)]
 
 mod call;

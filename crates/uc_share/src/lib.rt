@@ -28,7 +28,7 @@
 //! (`Shown`); a [`Reader`] pins it, and a `Publisher` shows the next one. Read `specs/Fronts.antt` first, then `rule.rt`,
 //! `front.rt`, `book.rt`, `reader.rt` and `publisher.rt`.
 //!
-//! Tests: `uc_tests_share`, `uc_tests_threads`.
+//! Tests: `tests/shared.py`, `uc_tests_threads`.
 #![tactic(auto)]
 
 mod book;

@@ -28,17 +28,6 @@ pub(crate) fn three() -> [OpRef<'static>; 3] {
     ]
 }
 
-/// A put and a merge of `k`, a put of `l`, a range deletion from `k` to below `l`, and a merge of `k`.
-pub(crate) fn five() -> [OpRef<'static>; 5] {
-    [
-        OpRef::put(b"k", b"a"),
-        OpRef::merge(b"k", b"b"),
-        OpRef::put(b"l", b"x"),
-        OpRef::delete_range(b"k", b"l"),
-        OpRef::merge(b"k", b"c"),
-    ]
-}
-
 /// Whether a run printed the three joined, ended well and made so many installs.
 fn joins_three(run: Option<Run>, installs: usize) -> bool {
     match run {

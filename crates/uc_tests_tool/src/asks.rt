@@ -71,18 +71,3 @@ pub(crate) fn run_later<O: Operator + Send + Sync>(
         beside,
     })
 }
-
-/// Whether this is printed of an input, and the run ends so.
-pub(crate) fn prints<O: Operator + Send + Sync>(
-    rt: &(impl Threads + Wait + Sync),
-    alloc: Global,
-    options: &Options,
-    input: &[u8],
-    plan: Plan,
-    (text, done): (&[u8], Done),
-) -> bool {
-    match run_of::<O>(rt, alloc, options, input, plan) {
-        None => false,
-        Some(run) => run.text.as_slice() == text && run.done == done,
-    }
-}

@@ -1,5 +1,4 @@
 //! Scripts under first ids of runs at the end of their range, which no option of the program sets.
-use crate::plays::plays;
 use std::alloc::Global;
 use std::marker::Sync;
 use std::process::Abort;
@@ -7,6 +6,7 @@ use std::test::Fail;
 use std::thread::Threads;
 use testkit_draws::options::small;
 use uc_oper::Append;
+use uc_tool::play;
 use uc_tool_io::Done;
 use uc_version_state::{GREATEST_FIRST_ID, Options};
 
@@ -34,9 +34,10 @@ fn prints(
         first_id,
         ..small()
     };
-    let (text, done) = plays::<Append<b','>>(rt, alloc, &options, script);
+    let (mut reader, mut text) = (script, Vec::new(alloc));
+    let outcome = play::<Append<b','>, &[u8], Vec<u8>>(rt, alloc, &mut reader, &mut text, &options);
     assert_eq!(rt; text.as_slice(), want.as_bytes());
-    assert_eq!(rt; done, ended);
+    assert_eq!(rt; outcome.done, ended);
 }
 
 #[test]

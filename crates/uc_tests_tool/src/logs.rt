@@ -3,7 +3,7 @@ use std::alloc::Global;
 use std::slice;
 use std::test::Fail;
 use uc_batch::{fits_batch, write_batch};
-use uc_bytes::{Op, OpRef};
+use uc_bytes::Op;
 use uc_logrec::LogWriter;
 
 /// The log of changes, numbered from 1, each a batch.
@@ -17,20 +17,6 @@ pub(crate) fn log_of(alloc: Global, ops: &[Op]) -> Result<Vec<u8>, Fail> {
         log.add(&write_batch(alloc, seq, slice::from_ref(op))?)?;
         seq = seq.saturating_add(1);
     }
-    Ok(log.finish())
-}
-
-/// The log of changes, numbered from 1, all in one batch.
-pub(crate) fn batch_log_of(alloc: Global, refs: &[OpRef<'_>]) -> Result<Vec<u8>, Fail> {
-    let mut ops = Vec::new(alloc);
-    for op in refs {
-        ops.push(op.to_op(alloc)?)?;
-    }
-    if !fits_batch(1, &ops) {
-        return Err("the changes are too long for a batch")?;
-    }
-    let mut log = LogWriter::new(alloc);
-    log.add(&write_batch(alloc, 1, &ops)?)?;
     Ok(log.finish())
 }
 

@@ -23,7 +23,7 @@
 //! Opening, refusing and the lines of replies and reports stand in `uc_tool_opening`. An `Err(AllocError)` or `Memory` comes
 //! only if an allocation fails.
 //!
-//! Tests: `uc_tests_tool`, `uc_tests_program`, `uc_examples`.
+//! Tests: `crates/ucstore/cases/run`, `examples/run`.
 #![tactic(auto)]
 
 mod buffered;

@@ -13,7 +13,7 @@
 //! [`TurnGate`](uc_share::TurnGate). Recovering, refusing and the lines of answers stand in `uc_tool_opening`, batches in
 //! `uc_query_shared`, and the store with a compactor's turn in `uc_share`.
 //!
-//! Tests: `uc_tests_tool`.
+//! Tests: `crates/ucstore/cases/run`, `uc_tests_tool`.
 #![tactic(auto)]
 
 mod answers;

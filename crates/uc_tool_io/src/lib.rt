@@ -25,7 +25,7 @@
 //!
 //! It stands on the formats alone, and not on the store, so that what prints logs doesn't wait for it.
 //!
-//! Tests: `uc_tests_formats`, `uc_tests_scripts`, `uc_tests_program`, `uc_tests_tool`.
+//! Tests: `crates/ucstore/cases/run`, `crates/ucstore/cases/lines/run`.
 #![tactic(auto)]
 
 mod digits;

@@ -19,7 +19,7 @@
 //! A reply is printed as one line or several whole ones, each a stated function of what it prints. Read `uc_tool_io`'s
 //! `specs/Line.antt`, then `specs/ReplyLines.antt` and `replies.rt`.
 //!
-//! Tests: `uc_tests_program`.
+//! Tests: `crates/ucstore/cases/run`.
 #![tactic(auto)]
 
 mod answers;

@@ -1,0 +1,53 @@
+//! Queries and their answers, as calls spell them.
+use crate::input::Input;
+use crate::out::Out;
+use crate::said;
+use std::alloc::{AllocError, Global};
+use uc_bytes::Bytes;
+use uc_query_read::{Answer, Query, Rows};
+
+/// A query: 0, a key and a sequence, or 1, the ends of a scan, its sequence and the most rows.
+pub(crate) fn query(alloc: Global, call: &mut Input<'_>) -> Result<Query, AllocError> {
+    if call.number() == 0 {
+        let key = Bytes::from_slice(alloc, call.bytes())?;
+        return Ok(Query::Get {
+            key,
+            at: call.number(),
+        });
+    }
+    let low = Bytes::from_slice(alloc, call.bytes())?;
+    Ok(Query::Scan {
+        low,
+        high: said::value(alloc, call)?,
+        at: call.number(),
+        limit: call.number(),
+    })
+}
+
+/// Writes rows: how many they are, and of each its key and value.
+fn write_rows(out: &mut Out, rows: &Rows) {
+    out.place(rows.len());
+    for (key, value) in rows.iter() {
+        out.bytes(key);
+        out.bytes(value);
+    }
+}
+
+/// Writes an answer: 0 if there is no value, 1 and a value, 2 and rows, or 3 and the sequence that isn't protected.
+pub(crate) fn write_answer(out: &mut Out, answer: &Answer) {
+    match answer {
+        Answer::Value(None) => out.number(0),
+        Answer::Value(Some(value)) => {
+            out.number(1);
+            out.bytes(value.as_slice());
+        }
+        Answer::Rows(rows) => {
+            out.number(2);
+            write_rows(out, rows);
+        }
+        Answer::NotProtected(at) => {
+            out.number(3);
+            out.number(*at);
+        }
+    }
+}

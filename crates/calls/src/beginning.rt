@@ -1,0 +1,53 @@
+//! [`Beginning`]: what a store of one owner is opened from.
+use crate::input::Input;
+use crate::{said, versions};
+use std::alloc::{AllocError, Global};
+use uc_bytes::Write;
+use uc_version_state::Options;
+
+/// What a store is opened from: a log, the writes behind it, and the snapshots that it keeps.
+pub(crate) struct Beginning<'a> {
+    pub(crate) way: u64,
+    pub(crate) options: Options,
+    pub(crate) keeps: Vec<u64>,
+    pub(crate) log: &'a [u8],
+    pub(crate) writes: Vec<Write>,
+}
+
+impl<'a> Drop for Beginning<'a> {
+    fn drop(self) {
+        let Beginning {
+            way: _,
+            options: _,
+            keeps: _,
+            log: _,
+            writes: _,
+        } = self;
+    }
+}
+
+impl<'a> Beginning<'a> {
+    /// What a store without a log is opened from.
+    pub(crate) fn into_parts(self) -> (Options, Vec<u64>, Vec<Write>) {
+        let Beginning {
+            way: _,
+            options,
+            keeps,
+            log: _,
+            writes,
+        } = self;
+        (options, keeps, writes)
+    }
+}
+
+/// A way, options, snapshots, a log, and writes. In the way 0 there is no log. In the others one thread
+/// reads it (5), or threads flush its last memtables (1) or the first ones (2), or it comes in pieces (3), or as its first writes (4).
+pub(crate) fn given<'a>(alloc: Global, call: &mut Input<'a>) -> Result<Beginning<'a>, AllocError> {
+    Ok(Beginning {
+        way: call.number(),
+        options: versions::options(call),
+        keeps: call.numbers(alloc)?,
+        log: call.bytes(),
+        writes: said::writes(alloc, call)?,
+    })
+}

@@ -1,0 +1,125 @@
+//! [`Hall`]: a store that threads share, and who works there, one after the other.
+ghost use Rattle.std.specs.Prelude.{◌≡◌, false};
+
+use crate::places::{Commas, Place};
+use crate::talk::Halt;
+use std::alloc::{AllocError, Global};
+use std::marker::{Send, Sync};
+use std::sync::Wait;
+use std::thread::Threads;
+use uc_compact::Compacted;
+use uc_share::{Name, Pin, Reader, Store};
+
+/// A store, its readers and its places; and pins and compactions, which are kept at numbers.
+pub(crate) struct Hall<'a, N: Name, W: Wait + Drop, R> {
+    pub(crate) rt: &'a R,
+    pub(crate) alloc: Global,
+    pub(crate) store: &'a Store<Commas, N, W>,
+    pub(crate) readers: Vec<Reader<Commas, N>>,
+    pub(crate) places: Vec<Place<N>>,
+    pub(crate) pins: Vec<(u64, Pin<Commas, N>)>,
+    pub(crate) made: Vec<(u64, Compacted<Commas>)>,
+    ghost table: { store.now.table ≡ N.table },
+    ghost keeps: { N.keeps_stay ≡ false },
+}
+
+// A destructor of its own: where a value is dropped, the proof of a caller has one call, and not one for each field.
+impl<N: Name, W: Wait + Drop, R> Drop for Hall<'_, N, W, R> {
+    fn drop(self) {
+        let Hall {
+            rt: _,
+            alloc: _,
+            store: _,
+            readers: _,
+            places: _,
+            pins: _,
+            made: _,
+        } = self;
+    }
+}
+
+/// Where the last value with a number stands.
+fn place_of<T>(list: &[(u64, T)], number: u64) -> Option<usize> {
+    for (place, (known, _)) in list.iter().enumerate().rev() {
+        if *known == number {
+            return Some(place);
+        }
+    }
+    None
+}
+
+/// The last value with a number.
+pub(crate) fn numbered<T>(list: &[(u64, T)], number: u64) -> Result<&T, Halt> {
+    match place_of(list, number) {
+        Some(place) if place < list.len() => Ok(&list[place].1),
+        _ => Err(Halt::Refused),
+    }
+}
+
+/// The last value with a number, which isn't there any more.
+pub(crate) fn take_numbered<T>(list: &mut Vec<(u64, T)>, number: u64) -> Result<T, Halt> {
+    match place_of(list, number) {
+        Some(place) if place < list.len() => Ok(list.remove(place).1),
+        _ => Err(Halt::Refused),
+    }
+}
+
+/// Keeps a value at a number, behind the others. It allocates nothing if there is room.
+pub(crate) fn put_numbered<T: Drop>(
+    list: &mut Vec<(u64, T)>,
+    number: u64,
+    value: T,
+) -> Result<(), AllocError> {
+    list.push((number, value))?;
+    Ok(())
+}
+
+/// Makes room for one more value.
+pub(crate) fn make_room<T>(list: &mut Vec<(u64, T)>) -> Result<(), AllocError> {
+    list.reserve(1)
+}
+
+impl<'a, N, W, R> Hall<'a, N, W, R>
+where
+    N: Name + Send,
+    W: Wait + Drop,
+    R: Threads + Wait + Sync,
+{
+    /// A store, and who begins there.
+    pub(crate) fn new(
+        rt: &'a R,
+        alloc: Global,
+        store: &'a Store<Commas, N, W>,
+        readers: Vec<Reader<Commas, N>>,
+        places: Vec<Place<N>>,
+    ) -> Hall<'a, N, W, R>
+        requires table { store.now.table ≡ N.table }
+        requires keeps { N.keeps_stay ≡ false }
+    {
+        Hall {
+            rt,
+            alloc,
+            store,
+            readers,
+            places,
+            pins: Vec::new(alloc),
+            made: Vec::new(alloc),
+        }
+    }
+
+    /// The reader with a number.
+    pub(crate) fn reader(&mut self, number: usize) -> Result<&mut Reader<Commas, N>, Halt> {
+        match self.readers.get_mut(number) {
+            Some(reader) => Ok(reader),
+            None => Err(Halt::Refused),
+        }
+    }
+
+    /// The place with a number.
+    pub(crate) fn place(&mut self, number: usize) -> Result<&mut Place<N>, Halt> {
+        match self.places.get_mut(number) {
+            Some(place) => Ok(place),
+            None => Err(Halt::Refused),
+        }
+    }
+}

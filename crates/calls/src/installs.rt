@@ -1,0 +1,176 @@
+//! What the runs of claims become, and how it is put in their place.
+use crate::merges::made_by_parts;
+use crate::owner::{Held, find, held_under, hold, taken};
+use crate::talk::Halt;
+use std::alloc::Global;
+use std::marker::Sync;
+use std::thread::Threads;
+use uc_compact::Compacted;
+use uc_oper::Operator;
+use uc_query::Reply;
+use uc_version::{Alone, CompactError, Owned, Stretch};
+use uc_version_compact::InstallError;
+use uc_version_state::Placed;
+
+/// Who compacts, flushes what is fed, and merges.
+#[derive(Clone, Copy)]
+pub(crate) enum Workers {
+    /// The calling thread.
+    Alone,
+    /// Threads.
+    Threads,
+    /// Threads, in parts of the key space.
+    Parts,
+}
+
+/// The stretch of a claim now: what is fed and installed moves it.
+fn stretch_of(runs: &[Placed], newest: u64, count: usize) -> Result<Stretch, Halt> {
+    for (first, placed) in runs.iter().enumerate() {
+        if placed.id() == newest {
+            return Ok(Stretch { first, count });
+        }
+    }
+    Err(Halt::Refused)
+}
+
+/// What the runs of a claim become by parts, for the store's keeps.
+fn made_for_store<O: Operator + Sync>(
+    rt: &(impl Threads + Sync),
+    alloc: Global,
+    store: &Owned<O>,
+    held: &Held<O>,
+) -> Result<Compacted<O>, Halt> {
+    let version = store.version();
+    let runs = version.runs();
+    let stretch = stretch_of(runs, held.newest, held.count)?;
+    let oldest = stretch.first.saturating_add(stretch.count) == runs.len();
+    made_by_parts::<O>(rt, alloc, runs, stretch, (version.keeps(), oldest))
+}
+
+/// What the runs of a claim become.
+fn made_of<O: Operator + Sync>(
+    rt: &(impl Threads + Sync),
+    alloc: Global,
+    store: &Owned<O>,
+    held: &Held<O>,
+    workers: Workers,
+) -> Result<Compacted<O>, Halt> {
+    if !store.holds(&held.claim) {
+        return Err(Halt::Refused);
+    }
+    Ok(match workers {
+        Workers::Alone => store.compact_by(&Alone, alloc, &held.claim)?,
+        Workers::Threads => store.compact(rt, alloc, &held.claim)?,
+        Workers::Parts => made_for_store(rt, alloc, store, held)?,
+    })
+}
+
+/// Compacts what is held.
+fn make_for<O: Operator + Sync>(
+    rt: &(impl Threads + Sync),
+    alloc: Global,
+    store: &Owned<O>,
+    held: &mut Held<O>,
+    workers: Workers,
+) -> Result<(), Halt> {
+    let made = made_of(rt, alloc, store, held, workers)?;
+    held.made = Some(made);
+    Ok(())
+}
+
+/// Compacts what is held under a name, for the store's keeps.
+pub(crate) fn make<O: Operator + Sync>(
+    rt: &(impl Threads + Sync),
+    alloc: Global,
+    store: &Owned<O>,
+    claims: &mut Vec<Held<O>>,
+    (name, workers): (u8, Workers),
+) -> Result<(), Halt> {
+    make_for(rt, alloc, store, held_under(claims, name)?, workers)
+}
+
+/// Compacts what is held under a name, for other keeps, and as the oldest runs or not.
+pub(crate) fn make_under<O: Operator + Sync>(
+    rt: &(impl Threads + Sync),
+    alloc: Global,
+    store: &Owned<O>,
+    held: &mut Held<O>,
+    terms: (&[u64], bool),
+) -> Result<(), Halt> {
+    let runs = store.version().runs();
+    let stretch = stretch_of(runs, held.newest, held.count)?;
+    let made = made_by_parts(rt, alloc, runs, stretch, terms)?;
+    held.made = Some(made);
+    Ok(())
+}
+
+/// Puts what was made in the place of a claim's runs. What is refused is held again.
+fn put<O: Operator>(
+    store: &mut Owned<O>,
+    claims: &mut Vec<Held<O>>,
+    held: Held<O>,
+) -> Result<Reply, Halt> {
+    let (name, newest, count, claim, made) = held.into_parts();
+    let Some(made) = made else {
+        return Err(Halt::Refused);
+    };
+    if !store.holds(&claim) {
+        return Err(Halt::Refused);
+    }
+    match store.install(claim, made) {
+        Ok(id) => Ok(Reply::Installed(id)),
+        Err((claim, made, error)) => {
+            let made = Some(made);
+            let back = Held {
+                name,
+                newest,
+                count,
+                claim,
+                made,
+            };
+            hold(claims, back)?;
+            Ok(Reply::NotInstalled(error))
+        }
+    }
+}
+
+/// Compacts what is held under a name, if that isn't done, and puts it in its place.
+pub(crate) fn install<O: Operator + Sync>(
+    rt: &(impl Threads + Sync),
+    alloc: Global,
+    store: &mut Owned<O>,
+    claims: &mut Vec<Held<O>>,
+    (name, workers): (u8, Workers),
+) -> Result<Reply, Halt> {
+    if find(claims, name).is_none() {
+        return Ok(Reply::NoClaim(name));
+    }
+    let held = held_under(claims, name)?;
+    if held.made.is_none() {
+        make_for(rt, alloc, store, held, workers)?;
+    }
+    match taken(claims, name) {
+        Some(held) => put(store, claims, held),
+        None => Ok(Reply::NoClaim(name)),
+    }
+}
+
+/// Compacts a stretch at once.
+pub(crate) fn compact<O: Operator + Sync>(
+    rt: &(impl Threads + Sync),
+    alloc: Global,
+    store: &mut Owned<O>,
+    stretch: Stretch,
+    workers: Workers,
+) -> Result<Reply, Halt> {
+    let outcome = match workers {
+        Workers::Alone => store.compact_now_by(&Alone, alloc, stretch),
+        _ => store.compact_now(rt, alloc, stretch),
+    };
+    match outcome {
+        Ok(id) => Ok(Reply::Compacted(id)),
+        Err(CompactError::NotClaimed(error)) => Ok(Reply::Refused(error)),
+        Err(CompactError::IdsSpent) => Ok(Reply::NotInstalled(InstallError::IdsSpent)),
+        Err(CompactError::Memory) => Err(Halt::Memory),
+    }
+}

@@ -1,0 +1,178 @@
+//! Calls that read a run: its parts, lookups, searches, and a cursor.
+use crate::input::Input;
+use crate::out::Out;
+use crate::talk::Halt;
+use std::alloc::{AllocError, Global};
+use uc_oper::Operator;
+use uc_run::{Cursor, Run};
+use uc_run_entry::{Fragment, WhatRef};
+use uc_run_points::{PointRef, Points};
+
+/// Writes what a point says: 0 and a value, 1, or 2 and an operand.
+fn write_what(out: &mut Out, what: WhatRef<'_>) {
+    match what {
+        WhatRef::Put(value) => {
+            out.number(0);
+            out.bytes(value);
+        }
+        WhatRef::Delete => out.number(1),
+        WhatRef::Merge(operand) => {
+            out.number(2);
+            out.bytes(operand);
+        }
+    }
+}
+
+/// Writes a point: its sequence, key, and what it says.
+fn write_point(out: &mut Out, point: &PointRef<'_>) {
+    out.number(point.seq());
+    out.bytes(point.key());
+    write_what(out, point.what());
+}
+
+/// Writes points.
+fn write_points(out: &mut Out, points: &Points) {
+    let points = points.as_slice();
+    out.place(points.len());
+    for place in 0..points.len() {
+        write_point(out, &points.at(place));
+    }
+}
+
+/// Writes a fragment: its sequences and ends.
+fn write_fragment(alloc: Global, out: &mut Out, fragment: &Fragment) -> Result<(), AllocError> {
+    out.numbers(&fragment.seqs().to_vec(alloc)?);
+    out.bytes(fragment.begin());
+    out.bytes(fragment.end());
+    Ok(())
+}
+
+/// The run as a whole: the range of its sequences, its numbers of points, blocks and fragments, and its size.
+pub(crate) fn sum_up(run: &Run, out: &mut Out) {
+    out.number(run.low_seq());
+    out.number(run.high_seq());
+    out.number(run.points());
+    out.number(run.blocks());
+    out.place(run.fragments().len());
+    out.number(run.size());
+}
+
+/// The run as a whole, its points and its fragments.
+pub(crate) fn show(alloc: Global, run: &Run, out: &mut Out) -> Result<(), Halt> {
+    sum_up(run, out);
+    write_points(out, run.entries());
+    for fragment in run.fragments() {
+        write_fragment(alloc, out, fragment)?;
+    }
+    Ok(())
+}
+
+/// A key and a sequence: what the run's writes do to it.
+fn look_up<O: Operator>(
+    alloc: Global,
+    run: &Run,
+    call: &mut Input<'_>,
+    out: &mut Out,
+) -> Result<(), Halt> {
+    let (key, at) = (call.bytes(), call.number());
+    out.effect(&run.effect::<O>(alloc, key, at)?);
+    Ok(())
+}
+
+/// A key: the places at or above it, and above it, and the keys there.
+fn seek(run: &Run, call: &mut Input<'_>, out: &mut Out) {
+    let key = call.bytes();
+    out.number(run.seek(key, false));
+    out.some_bytes(run.next_key(key, false));
+    out.number(run.seek(key, true));
+    out.some_bytes(run.next_key(key, true));
+}
+
+/// A place: the point there.
+fn point(run: &Run, call: &mut Input<'_>, out: &mut Out) {
+    match run.point(call.number()) {
+        Some((key, seq, what)) => {
+            out.some_bytes(Some(key));
+            out.number(seq);
+            write_what(out, what);
+        }
+        None => out.some_bytes(None),
+    }
+}
+
+/// A key and a sequence: what a cursor that is before the key finds there, as a lookup does.
+fn look_there<O: Operator>(
+    alloc: Global,
+    cursor: &Cursor<'_>,
+    call: &mut Input<'_>,
+    out: &mut Out,
+) -> Result<(), Halt> {
+    let (key, at) = (call.bytes(), call.number());
+    if !cursor.is_before(key) {
+        return Err(Halt::Refused);
+    }
+    out.effect(&cursor.effect::<O>(alloc, key, at)?);
+    out.some_bytes(cursor.hidden_to(key, at));
+    Ok(())
+}
+
+/// A step of a cursor: 0, 1 or 2 and a key, from which on it begins anew, which it seeks or passes; or 3, a key and a sequence, up to
+/// where that is hidden; or 4 and what `look_there` takes. Then the key at which it is.
+fn step<'a, O: Operator>(
+    alloc: Global,
+    run: &'a Run,
+    cursor: &mut Cursor<'a>,
+    call: &mut Input<'_>,
+    out: &mut Out,
+) -> Result<(), Halt> {
+    match call.number() {
+        0 => *cursor = run.cursor(call.bytes()),
+        1 => cursor.seek(call.bytes()),
+        2 => cursor.pass(call.bytes()),
+        3 => {
+            let (key, at) = (call.bytes(), call.number());
+            out.some_bytes(cursor.hidden_to(key, at));
+        }
+        _ => look_there::<O>(alloc, cursor, call, out)?,
+    }
+    out.some_bytes(cursor.key());
+    Ok(())
+}
+
+/// A number of steps, and these.
+fn walk<O: Operator>(
+    alloc: Global,
+    run: &Run,
+    call: &mut Input<'_>,
+    out: &mut Out,
+) -> Result<(), Halt> {
+    let mut cursor = run.cursor(b"");
+    for _ in 0..call.number() {
+        if call.is_short() {
+            break;
+        }
+        step::<O>(alloc, run, &mut cursor, call, out)?;
+    }
+    Ok(())
+}
+
+/// Makes a call, whose kind and run were read.
+pub(crate) fn play<O: Operator>(
+    alloc: Global,
+    run: &Run,
+    kind: u64,
+    call: &mut Input<'_>,
+    out: &mut Out,
+) -> Result<(), Halt> {
+    match kind {
+        30 => sum_up(run, out),
+        31 => show(alloc, run, out)?,
+        32 => look_up::<O>(alloc, run, call, out)?,
+        33 => seek(run, call, out),
+        34 => out.some_bytes(run.fence(call.number())),
+        35 => point(run, call, out),
+        36 => walk::<O>(alloc, run, call, out)?,
+        _ => return Err(Halt::Refused),
+    }
+    Ok(())
+}

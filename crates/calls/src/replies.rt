@@ -1,0 +1,105 @@
+//! Replies of a store of one owner, as answers have them.
+use crate::asked::write_answer;
+use crate::out::Out;
+use crate::versions::{write_error, write_stretch};
+use std::alloc::{AllocError, Global};
+use std::fmt::Display;
+use uc_query::{Field, Figure, Reply, Report, RunLine, total_fields};
+use uc_query_read::Answer;
+use uc_version::ReleaseError;
+
+/// Writes fields: of each its name, how many numbers it has, and these.
+fn write_fields(out: &mut Out, fields: &[Field]) {
+    out.place(fields.len());
+    for (name, figure) in fields {
+        out.bytes(name.as_bytes());
+        match figure {
+            Figure::Number(number) => out.numbers(&[*number]),
+            Figure::Range(low, high) => out.numbers(&[*low, *high]),
+        }
+    }
+}
+
+/// Writes the line of a run: its id, and fields.
+fn write_line(out: &mut Out, line: &RunLine) {
+    out.number(line.id);
+    write_fields(out, &line.fields());
+}
+
+/// Writes a report: the lines of runs, the fields of their totals, keeps, and the last sequence.
+fn write_report(out: &mut Out, report: &Report) {
+    let lines = report.lines.as_slice();
+    out.place(lines.len());
+    for line in lines {
+        write_line(out, line);
+    }
+    write_fields(out, &total_fields(&report.total));
+    out.numbers(report.keeps.as_slice());
+    out.number(report.last);
+}
+
+/// Writes answers.
+fn write_answers(out: &mut Out, answers: &[Answer]) {
+    out.place(answers.len());
+    for answer in answers {
+        write_answer(out, answer);
+    }
+}
+
+/// Writes a kind, and a number.
+fn write_numbered(out: &mut Out, kind: u64, number: u64) {
+    out.number(kind);
+    out.number(number);
+}
+
+/// Writes a kind, and the library's own text of an error.
+pub(crate) fn write_refused<E: Display>(
+    alloc: Global,
+    out: &mut Out,
+    kind: u64,
+    error: &E,
+) -> Result<(), AllocError> {
+    out.number(kind);
+    write_error(alloc, out, error)
+}
+
+/// Writes a reply that tells of queries, feeds or snapshots.
+fn write_other(alloc: Global, out: &mut Out, reply: &Reply) -> Result<(), AllocError> {
+    match reply {
+        Reply::Fed(count) => write_numbered(out, 11, *count),
+        Reply::NotFed(error) => write_refused(alloc, out, 12, error)?,
+        Reply::Kept(seq) => write_numbered(out, 13, *seq),
+        Reply::Released(seq) => write_numbered(out, 14, *seq),
+        Reply::NotReleased(seq) => write_refused(alloc, out, 15, &ReleaseError::NotKept(*seq))?,
+        Reply::Reported(report) => {
+            out.number(9);
+            write_report(out, report);
+        }
+        Reply::Answers(answers) => {
+            out.number(10);
+            write_answers(out, answers.as_slice());
+        }
+        _ => out.number(99),
+    }
+    Ok(())
+}
+
+/// Writes a reply: its kind, and what it tells.
+pub(crate) fn write_reply(alloc: Global, out: &mut Out, reply: &Reply) -> Result<(), AllocError> {
+    match reply {
+        Reply::Claimed(name) => write_numbered(out, 0, u64::from(*name)),
+        Reply::Refused(error) => write_refused(alloc, out, 1, error)?,
+        Reply::Installed(id) => write_numbered(out, 2, *id),
+        Reply::NotInstalled(error) => write_refused(alloc, out, 3, error)?,
+        Reply::Abandoned(name) => write_numbered(out, 4, u64::from(*name)),
+        Reply::NoClaim(name) => write_numbered(out, 5, u64::from(*name)),
+        Reply::NameHeld(name) => write_numbered(out, 6, u64::from(*name)),
+        Reply::Compacted(id) => write_numbered(out, 7, *id),
+        Reply::Picked(picked) => {
+            out.number(8);
+            write_stretch(out, *picked);
+        }
+        other => write_other(alloc, out, other)?,
+    }
+    Ok(())
+}

@@ -1,0 +1,62 @@
+//! Changes, writes, effects and points, as calls spell them.
+use crate::input::Input;
+use std::alloc::{AllocError, Global};
+use uc_bytes::{Bytes, OpRef, Write, WriteRef};
+use uc_oper::Effect;
+use uc_run_entry::WhatRef;
+
+/// A change: a kind, a key or where a range begins, and a value, an operand or where a range ends.
+pub(crate) fn op<'a>(call: &mut Input<'a>) -> OpRef<'a> {
+    let (kind, first, second) = (call.number(), call.bytes(), call.bytes());
+    match kind {
+        0 => OpRef::put(first, second),
+        1 => OpRef::delete(first),
+        2 => OpRef::merge(first, second),
+        _ => OpRef::delete_range(first, second),
+    }
+}
+
+/// A sequence, and a change.
+pub(crate) fn write<'a>(call: &mut Input<'a>) -> WriteRef<'a> {
+    let seq = call.number();
+    WriteRef::new(seq, op(call))
+}
+
+/// A number of writes, and these.
+pub(crate) fn writes(alloc: Global, call: &mut Input<'_>) -> Result<Vec<Write>, AllocError> {
+    let mut writes = Vec::new(alloc);
+    for _ in 0..call.number() {
+        if call.is_short() {
+            break;
+        }
+        writes.push(write(call).to_write(alloc)?)?;
+    }
+    Ok(writes)
+}
+
+/// What a point says of its key, if it is a put, a delete or a merge.
+pub(crate) fn what<'a>(kind: u64, text: &'a [u8]) -> WhatRef<'a> {
+    match kind {
+        0 => WhatRef::Put(text),
+        1 => WhatRef::Delete,
+        _ => WhatRef::Merge(text),
+    }
+}
+
+/// Bytes, or none.
+pub(crate) fn value(alloc: Global, call: &mut Input<'_>) -> Result<Option<Bytes>, AllocError> {
+    match call.some_bytes() {
+        Some(value) => Ok(Some(Bytes::from_slice(alloc, value)?)),
+        None => Ok(None),
+    }
+}
+
+/// An effect, as an answer has it.
+pub(crate) fn effect(alloc: Global, call: &mut Input<'_>) -> Result<Effect, AllocError> {
+    match call.number() {
+        0 => Ok(Effect::Keep),
+        1 => Ok(Effect::Set(None)),
+        2 => Ok(Effect::Set(Some(Bytes::from_slice(alloc, call.bytes())?))),
+        _ => Ok(Effect::Fold(Bytes::from_slice(alloc, call.bytes())?)),
+    }
+}

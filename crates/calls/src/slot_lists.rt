@@ -1,0 +1,48 @@
+//! Lists of slots, and what may be asked of a table: slots that are distinct and below its number of slots, and, to give them back, held.
+ghost use Rattle.std.specs.Prelude.{◌<◌, IsTrue, All, Contains};
+ghost use Rattle.uc_claims.specs.Holding.{AreDistinct};
+
+use crate::input::Input;
+use std::alloc::{AllocError, Global};
+use uc_claims::HeldSlots;
+
+/// Whether no slot is in the list twice.
+pub(crate) fn are_distinct(slots: &[usize]) -> bool
+    ensures { IsTrue result → AreDistinct slots.now }
+{
+    match slots {
+        [] => true,
+        [slot, rest @ ..] => !rest.contains(slot) && are_distinct(rest),
+    }
+}
+
+/// Whether all these slots are below the bound.
+pub(crate) fn are_below(slots: &[usize], bound: usize) -> bool
+    ensures { IsTrue result → All (λ slot. slot < bound) slots.now }
+{
+    slots.iter().all(|slot| *slot < bound)
+}
+
+/// Whether a seat holds all these slots.
+pub(crate) fn holds_all(held: &HeldSlots, slots: &[usize]) -> bool
+    ensures { IsTrue result → All (Contains held.now.slots) slots.now }
+{
+    for slot in slots {
+        if !held.has(*slot) {
+            return false;
+        }
+    }
+    true
+}
+
+/// A number of slots, and these.
+pub(crate) fn slots_in(alloc: Global, call: &mut Input<'_>) -> Result<Vec<usize>, AllocError> {
+    let mut slots = Vec::new(alloc);
+    for _ in 0..call.number() {
+        if call.is_short() {
+            break;
+        }
+        slots.push(call.place())?;
+    }
+    Ok(slots)
+}

@@ -1,0 +1,187 @@
+//! Calls of a table of slots, which two seats claim and give back.
+ghost use Rattle.std.specs.Prelude.{◌≡◌, IfOk};
+
+use crate::input::Input;
+use crate::out::Out;
+use crate::slot_lists::{are_below, are_distinct, holds_all, slots_in};
+use crate::talk::{Halt, Talk};
+use crate::versions::write_error;
+use std::alloc::Global;
+use std::io;
+use uc_claims::{ClaimTable, HeldSlots, MOST_SLOTS};
+
+/// Slots: takes them, or says which one is taken, by its number and in the library's own text.
+fn take(
+    alloc: Global,
+    table: &ClaimTable,
+    held: &mut HeldSlots,
+    slots: &[usize],
+    count: usize,
+    out: &mut Out,
+) -> Result<(), Halt>
+    requires table { held.old.table ≡ table.now.table }
+    requires count { table.now.count ≡ count }
+    ensures { held.new.table ≡ table.now.table }
+{
+    if !are_distinct(slots) || !are_below(slots, count) {
+        return Err(Halt::Refused);
+    }
+    match table.take_more_in_place(held, slots) {
+        Ok(()) => out.flag(true),
+        Err(busy) => {
+            out.flag(false);
+            out.place(busy.0);
+            write_error(alloc, out, &busy)?;
+        }
+    }
+    Ok(())
+}
+
+/// Slots that are held: gives them back.
+fn give(table: &ClaimTable, held: &mut HeldSlots, slots: &[usize]) -> Result<(), Halt>
+    requires table { held.old.table ≡ table.now.table }
+    ensures { held.new.table ≡ table.now.table }
+{
+    if !are_distinct(slots) || !holds_all(held, slots) {
+        return Err(Halt::Refused);
+    }
+    table.give_some_in_place(held, slots);
+    Ok(())
+}
+
+/// Writes which slots a seat holds, and one more than there are.
+fn look(held: &HeldSlots, count: usize, out: &mut Out) {
+    for slot in 0..=count {
+        out.flag(held.has(slot));
+    }
+}
+
+/// A kind and slots: 0 takes them, 1 gives them back, 2 says which are held.
+fn play(
+    alloc: Global,
+    table: &ClaimTable,
+    held: &mut HeldSlots,
+    kind: u64,
+    count: usize,
+    call: &mut Input<'_>,
+    out: &mut Out,
+) -> Result<(), Halt>
+    requires table { held.old.table ≡ table.now.table }
+    requires count { table.now.count ≡ count }
+    ensures { held.new.table ≡ table.now.table }
+{
+    let slots = slots_in(alloc, call)?;
+    match kind {
+        0 => take(alloc, table, held, &slots, count, out),
+        1 => give(table, held, &slots),
+        _ => {
+            look(held, count, out);
+            Ok(())
+        }
+    }
+}
+
+/// Makes all calls. Each begins with a kind, and 1 if the second seat makes it.
+fn play_at(
+    rt: &impl Print,
+    alloc: Global,
+    table: &ClaimTable,
+    one: &mut HeldSlots,
+    other: &mut HeldSlots,
+    count: usize,
+    talk: &mut Talk<'_>,
+) -> io::Result<()>
+    requires one { one.old.table ≡ table.now.table }
+    requires other { other.old.table ≡ table.now.table }
+    requires count { table.now.count ≡ count }
+    ensures one { one.new.table ≡ table.now.table }
+    ensures other { other.new.table ≡ table.now.table }
+{
+    for _ in 0..u64::MAX {
+        let Some(mut call) = talk.next(alloc) else {
+            break;
+        };
+        let (kind, is_second) = (call.number(), call.flag());
+        let made = if is_second {
+            play(alloc, table, other, kind, count, &mut call, talk.answer())
+        } else {
+            play(alloc, table, one, kind, count, &mut call, talk.answer())
+        };
+        talk.end(rt, alloc, call, made)?;
+    }
+    Ok(())
+}
+
+/// Drops the first seat with its slots, and gives back what the second holds. Writes which slots are taken as that seat sees it, and
+/// then those of the table as it ends.
+fn close(table: ClaimTable, one: HeldSlots, other: HeldSlots, count: usize, out: &mut Out)
+    requires one { one.table ≡ table.table }
+    requires other { other.table ≡ table.table }
+    requires count { table.count ≡ count }
+{
+    drop(one);
+    let mut seat = table.give(other);
+    for slot in 0..count {
+        out.flag(table.busy(&mut seat, slot));
+    }
+    for taken in &table.close(seat) {
+        out.flag(*taken);
+    }
+}
+
+/// Makes all calls by two seats of a table, and closes it.
+fn play_table(
+    rt: &impl Print,
+    alloc: Global,
+    table: ClaimTable,
+    one: HeldSlots,
+    other: HeldSlots,
+    count: usize,
+    talk: &mut Talk<'_>,
+) -> io::Result<()>
+    requires one { one.table ≡ table.table }
+    requires other { other.table ≡ table.table }
+    requires count { table.count ≡ count }
+{
+    let (mut one, mut other) = (one, other);
+    let played = play_at(rt, alloc, &table, &mut one, &mut other, count, talk);
+    talk.answer().clear();
+    close(table, one, other, count, talk.answer());
+    talk.end(rt, alloc, Input::new(&[]), Ok(()))?;
+    played
+}
+
+/// A table, and two seats of it that hold nothing.
+fn open(alloc: Global, count: usize) -> Result<(ClaimTable, HeldSlots, HeldSlots), Halt>
+    ensures one { IfOk result (λ r. r.1.table ≡ r.0.table) }
+    ensures other { IfOk result (λ r. r.2.table ≡ r.0.table) }
+    ensures count { IfOk result (λ r. r.0.count ≡ count) }
+{
+    if count == 0 || MOST_SLOTS < count {
+        return Err(Halt::Refused);
+    }
+    let (table, seat) = ClaimTable::new(alloc, count)?;
+    let (one, other) = table.split(seat);
+    match (table.take(one, &[]), table.take(other, &[])) {
+        (Ok(one), Ok(other)) => Ok((table, one, other)),
+        _ => Err(Halt::Refused),
+    }
+}
+
+/// Makes all calls. The first is a number of slots, which a table then has.
+pub(crate) fn play_all(rt: &impl Print, alloc: Global, talk: &mut Talk<'_>) -> io::Result<()> {
+    for _ in 0..u64::MAX {
+        let Some(mut call) = talk.next(alloc) else {
+            break;
+        };
+        let count = call.place();
+        match open(alloc, count) {
+            Ok((table, one, other)) => {
+                talk.end(rt, alloc, call, Ok(()))?;
+                return play_table(rt, alloc, table, one, other, count, talk);
+            }
+            Err(halt) => talk.end(rt, alloc, call, Err(halt))?,
+        }
+    }
+    Ok(())
+}

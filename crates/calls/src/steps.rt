@@ -1,0 +1,149 @@
+//! Calls of a store of one owner.
+use crate::input::Input;
+use crate::installs::{Workers, compact, install, make, make_under};
+use crate::lists::{self, name, rising};
+use crate::out::Out;
+use crate::owner::{Held, abandon, claim, held_under};
+use crate::replies::write_reply;
+use crate::store_reads::{answer, apart, ask, merge};
+use crate::talk::Halt;
+use crate::versions::{self, stretch};
+use std::alloc::Global;
+use std::marker::Sync;
+use std::thread::Threads;
+use uc_oper::Operator;
+use uc_query::{Reply, report};
+use uc_version::{FeedError, InThreads, MOST_SLOTS, Owned};
+
+/// Feeds writes.
+fn feed<O: Operator>(
+    rt: &(impl Threads + Sync),
+    alloc: Global,
+    store: &mut Owned<O>,
+    call: &mut Input<'_>,
+    workers: Workers,
+) -> Result<Reply, Halt> {
+    let writes = rising(alloc, call)?;
+    let outcome = match workers {
+        Workers::Alone => store.feed(alloc, &writes),
+        _ => store.feed_by(&InThreads(rt), alloc, &writes),
+    };
+    match outcome {
+        Ok(count) => Ok(Reply::Fed(count)),
+        Err(FeedError::Memory) => Err(Halt::Memory),
+        Err(error) => Ok(Reply::NotFed(error)),
+    }
+}
+
+/// Releases a snapshot.
+fn release<O: Operator>(store: &mut Owned<O>, seq: u64) -> Reply {
+    match store.release(seq) {
+        Ok(()) => Reply::Released(seq),
+        Err(_) => Reply::NotReleased(seq),
+    }
+}
+
+/// Makes a call whose answer is a reply.
+fn reply<O: Operator + Sync>(
+    rt: &(impl Threads + Sync),
+    alloc: Global,
+    store: &mut Owned<O>,
+    claims: &mut Vec<Held<O>>,
+    (kind, workers): (u64, Workers),
+    call: &mut Input<'_>,
+) -> Result<Reply, Halt> {
+    match kind {
+        3 => claim(store, claims, name(call), stretch(call)),
+        5 => install(rt, alloc, store, claims, (name(call), workers)),
+        6 => abandon(store, claims, name(call)),
+        7 => compact(rt, alloc, store, stretch(call), workers),
+        8 => Ok(Reply::Picked(store.pick())),
+        9 => Ok(Reply::Reported(report(rt, alloc, store.version())?)),
+        12 => feed(rt, alloc, store, call, workers),
+        13 => Ok(Reply::Kept(store.keep()?)),
+        14 => Ok(release(store, call.number())),
+        _ => Err(Halt::Refused),
+    }
+}
+
+/// All that a store tells of itself: its version, which slots are claimed, and the numbers of claims.
+fn look<O: Operator>(store: &Owned<O>, claims: &[Held<O>], out: &mut Out) {
+    versions::write_version(out, store.version());
+    for slot in 0..MOST_SLOTS {
+        out.flag(store.busy(slot));
+    }
+    for held in claims {
+        out.number(u64::from(held.name));
+        out.place(held.claim.number());
+        out.flag(held.made.is_some());
+    }
+}
+
+/// How runs are compacted: 0 and for the store's snapshots, or 1, for these, and as the oldest runs or not.
+fn make_one<O: Operator + Sync>(
+    rt: &(impl Threads + Sync),
+    alloc: Global,
+    store: &Owned<O>,
+    claims: &mut Vec<Held<O>>,
+    (name, workers): (u8, Workers),
+    call: &mut Input<'_>,
+) -> Result<(), Halt> {
+    if !call.flag() {
+        return make(rt, alloc, store, claims, (name, workers));
+    }
+    let keeps = call.numbers(alloc)?;
+    make_under(
+        rt,
+        alloc,
+        store,
+        held_under(claims, name)?,
+        (&keeps, call.flag()),
+    )
+}
+
+/// Whether the run with a slot is claimed.
+fn busy<O: Operator>(store: &Owned<O>, slot: usize, out: &mut Out) -> Result<(), Halt> {
+    if slot >= MOST_SLOTS {
+        return Err(Halt::Refused);
+    }
+    out.flag(store.busy(slot));
+    Ok(())
+}
+
+/// Makes a call.
+pub(crate) fn step<O: Operator + Sync>(
+    rt: &(impl Threads + Sync),
+    alloc: Global,
+    store: &mut Owned<O>,
+    claims: &mut Vec<Held<O>>,
+    (kind, workers): (u64, Workers),
+    call: &mut Input<'_>,
+    out: &mut Out,
+) -> Result<(), Halt> {
+    match kind {
+        1 => look(store, claims, out),
+        2 => versions::show(alloc, store.version(), call, out)?,
+        4 => make_one(rt, alloc, store, claims, (name(call), workers), call)?,
+        10 => ask::<O>(rt, alloc, store.version(), call, out)?,
+        11 => answer::<O>(alloc, store.version(), call, out)?,
+        15 => busy(store, call.place(), out)?,
+        16 => out.place(held_under(claims, name(call))?.claim.number()),
+        17 => apart(
+            rt,
+            alloc,
+            store,
+            &held_under(claims, name(call))?.claim,
+            call,
+            out,
+        )?,
+        18 => versions::place(alloc, store.version(), call, out)?,
+        19 => versions::refuse(alloc, store.version(), call, out)?,
+        21 => lists::play(rt, alloc, store, call, out)?,
+        22 => merge::<O>(rt, alloc, store.version(), call, out)?,
+        _ => {
+            let reply = reply(rt, alloc, store, claims, (kind, workers), call)?;
+            write_reply(alloc, out, &reply)?;
+        }
+    }
+    Ok(())
+}

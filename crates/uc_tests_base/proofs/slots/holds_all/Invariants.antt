@@ -1,6 +1,0 @@
-use Rattle.std.proofs.Common.{take}
-use Rattle.std.specs.Prelude.{All, Contains}
-use Rattle.uc_tests_base.proofs.slots.holds_all.Given as goal
-
-abbrev pub invariant-loop-slot : goal.invariant-loop-slot
-invariant-loop-slot l = All (Contains l.held.slots) (take l.slot-index l.slots)

@@ -1,2 +1,0 @@
-pub mod OwnJobs
-pub mod HeldBusy

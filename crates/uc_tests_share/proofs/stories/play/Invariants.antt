@@ -1,6 +1,0 @@
-use Rattle.std.proofs.Common.{false}
-use Rattle.uc_tests_share.proofs.stories.play.Given as goal
-
--- the book, the claim words and the version of what was opened
-abbrev pub ghosts-play_named : goal.ghosts-play_named
-ghosts-play_named g a = record { book = a.opening.book; table = a.opening.table; base = a.opening.version; keeps_stay = false }

@@ -1,0 +1,20 @@
+//! What may be asked of a table: slots that are distinct and below its number of slots.
+ghost use Rattle.std.specs.Prelude.{◌<◌, IsTrue, All};
+ghost use Rattle.uc_claims.specs.Holding.{AreDistinct};
+
+/// Whether no slot is in the list twice.
+pub(crate) fn are_distinct(slots: &[usize]) -> bool
+    ensures { IsTrue result → AreDistinct slots.now }
+{
+    match slots {
+        [] => true,
+        [slot, rest @ ..] => !rest.contains(slot) && are_distinct(rest),
+    }
+}
+
+/// Whether all these slots are below the bound.
+pub(crate) fn are_below(slots: &[usize], bound: usize) -> bool
+    ensures { IsTrue result → All (λ slot. slot < bound) slots.now }
+{
+    slots.iter().all(|slot| *slot < bound)
+}
