@@ -1,7 +1,9 @@
-//! Counts visits on, from the log on standard input: in a live store, which the README shows, and in one that threads share.
+//! Counts visits on, from the log on standard input: in a live store, which the README shows, in one that shows its runs, and in one that
+//! threads share.
 #![tactic(auto)]
 
 mod one_owner;
+mod owned;
 mod threads;
 mod visits;
 
@@ -17,6 +19,10 @@ fn main(rt: HostRuntime) -> Result<()> {
     let (mut store, _) = LiveStore::open(alloc, &log, LiveOptions::usual())?.into_parts();
     let (before, now) = one_owner::count(alloc, &mut store)?;
     println!(rt; "{before} visits at the snapshot, {now} now")?;
+    let (before, now) = owned::count(alloc, &log)?;
+    println!(rt; "{before} visits in the log, {now} with one more")?;
+    let (before, now) = owned::count_in_threads(&rt, alloc, &log)?;
+    println!(rt; "{before} visits in its pieces, {now} with one more")?;
     let opened = open_shared(&Alone, alloc, &log, &[], Options::usual(), 4, 1)?;
     let before = threads::count::<Brand, _>(&rt, alloc, opened.opening)?;
     println!(rt; "{before} visits at the snapshot, with 50 batches fed meanwhile")?;

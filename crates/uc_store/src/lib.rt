@@ -19,7 +19,7 @@
 //! Begin with `opened_log.rt`, `batches.rt` and `last_reads.rt`, then `opened_shared.rt` and `shared_batches.rt`; all else is given
 //! out from the crates below.
 //!
-//! Tests: `uc_tests_live`, `uc_examples_library`.
+//! Tests: `uc_examples_library`.
 #![tactic(auto)]
 
 mod batches;

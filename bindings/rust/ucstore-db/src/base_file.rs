@@ -6,6 +6,7 @@ use crate::gap;
 use crate::name::Name;
 use crate::partial::Partial;
 use crate::windows::Windows;
+use std::ops::ControlFlow;
 use ucstore::{log_writes_at, Batch, Ended, LogPlace, Operator, Store, View};
 
 /// The contents of a base.
@@ -96,8 +97,9 @@ fn verify(
         }
         place.offset = begin + found.offset();
         let ended = found.ended().expect("no write is left");
-        if let Some(ended) = windows.go_on(place.offset, ended)? {
-            break ended;
+        match windows.go_on(place.offset, ended)? {
+            ControlFlow::Continue(offset) => place.offset = offset,
+            ControlFlow::Break(ended) => break ended,
         }
     };
     let read = Extent {

@@ -143,7 +143,7 @@ fn is_batch(windows: &mut Windows, place: u64) -> Result<bool, Error> {
             return Ok(true);
         }
         let ended = writes.ended().expect("there is no batch");
-        if windows.go_on(place, ended)?.is_some() {
+        if windows.go_on(place, ended)?.is_break() {
             return Ok(false);
         }
     }

@@ -4,6 +4,7 @@ use crate::error::Error;
 use crate::name::Name;
 use crate::options::Options;
 use crate::windows::Windows;
+use std::ops::ControlFlow;
 use ucstore::{log_writes_at, LogPlace, Store, View};
 
 /// The sequences at which a replay makes snapshots, and the one at which it ends. Each has to be the end of a batch.
@@ -97,8 +98,9 @@ impl Moments {
             }
             at.offset = begin + writes.offset();
             let ended = writes.ended().expect("no write is left");
-            if windows.go_on(at.offset, ended)?.is_some() {
-                return Ok(());
+            match windows.go_on(at.offset, ended)? {
+                ControlFlow::Continue(offset) => at.offset = offset,
+                ControlFlow::Break(_) => return Ok(()),
             }
         }
     }

@@ -7,6 +7,7 @@ use crate::mark;
 use crate::moments::Moments;
 use crate::record::head_of;
 use crate::windows::Windows;
+use std::ops::ControlFlow;
 use ucstore::{log_writes_at, BatchFault, Ended, LogPlace, Replayed, Store};
 
 /// The most bytes of the record that a close writes, which may stand in two blocks.
@@ -130,8 +131,13 @@ impl Walk<'_, '_> {
         };
         let ended = numbered(ended, self.batches);
         self.batches += batches;
-        let stop = self.windows.go_on(self.offset, ended)?;
-        Ok(stop.map(Stop::Ended))
+        match self.windows.go_on(self.offset, ended)? {
+            ControlFlow::Continue(offset) => {
+                self.offset = offset;
+                Ok(None)
+            }
+            ControlFlow::Break(ended) => Ok(Some(Stop::Ended(ended))),
+        }
     }
 }
 
@@ -180,8 +186,9 @@ fn pass_over(windows: &mut Windows, last: u64) -> Result<Option<u64>, Error> {
         }
         offset = begin + writes.offset();
         let ended = writes.ended().expect("no write is left");
-        if windows.go_on(offset, ended)?.is_some() {
-            return Ok(is_first.then_some(offset));
+        match windows.go_on(offset, ended)? {
+            ControlFlow::Continue(place) => offset = place,
+            ControlFlow::Break(_) => return Ok(is_first.then_some(offset)),
         }
     }
 }

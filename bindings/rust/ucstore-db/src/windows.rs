@@ -5,6 +5,7 @@ use crate::folder::Folder;
 use crate::name::Name;
 use crate::record::{block_of, header_place, Header, BLOCK_SIZE, HEADER_SIZE};
 use std::io;
+use std::ops::ControlFlow;
 use ucstore::{Ended, LogFault};
 
 /// The length of a window in bytes at first. One that a batch doesn't fit in grows.
@@ -88,19 +89,28 @@ impl<'a> Windows<'a> {
         self.read(2 * self.bytes.len().max(WINDOW_SIZE))
     }
 
-    /// Where a walk goes on that ended in the window after the batches before an offset; none if it has ended with the file, and how.
-    pub(crate) fn go_on(&mut self, offset: u64, ended: Ended) -> Result<Option<Ended>, Error> {
+    /// Goes on with a walk that ended in the window after the batches before an offset. Returns where the next batch may begin, which
+    /// is in the window then, or how the walk ends with the file.
+    ///
+    /// That place may be after the offset: the last bytes of a block hold no header, and the next window may begin with the next block.
+    pub(crate) fn go_on(
+        &mut self,
+        offset: u64,
+        ended: Ended,
+    ) -> Result<ControlFlow<Ended, u64>, Error> {
         let is_over = self.end() == self.length;
         if is_over || !matches!(ended, Ended::Clean | Ended::Torn { .. }) {
-            return Ok(Some(behind(self.begin, ended)));
+            return Ok(ControlFlow::Break(from_begin(self.begin, ended)));
         }
         let place = header_place(offset);
         if block_of(place) > self.begin {
             self.seek(place)?;
-        } else if ended == Ended::Clean {
+            return Ok(ControlFlow::Continue(place));
+        }
+        if ended == Ended::Clean {
             let is_clean = self.is_zero_from(place)?;
             let fault = LogFault::BadChecksum;
-            return Ok(Some(match is_clean {
+            return Ok(ControlFlow::Break(match is_clean {
                 true => Ended::Clean,
                 // Zeros before other bytes.
                 false => Ended::LogFault {
@@ -108,10 +118,9 @@ impl<'a> Windows<'a> {
                     fault,
                 },
             }));
-        } else {
-            self.grow()?;
         }
-        Ok(None)
+        self.grow()?;
+        Ok(ControlFlow::Continue(offset))
     }
 
     /// Whether the file has nothing but zeros from an offset on.
@@ -151,7 +160,7 @@ impl<'a> Windows<'a> {
 }
 
 /// How a log ends of which a part that begins at an offset ends so.
-fn behind(begin: u64, ended: Ended) -> Ended {
+fn from_begin(begin: u64, ended: Ended) -> Ended {
     match ended {
         Ended::Torn { offset } => Ended::Torn {
             offset: begin + offset,

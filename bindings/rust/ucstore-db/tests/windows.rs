@@ -104,7 +104,67 @@ fn a_log_may_end_in_any_window() {
     assert!(rows > 3300);
 }
 
-/// A hole of many windows, and a batch behind it that was synced. It is found by the record before it, at the start of its block.
+/// The length of a window in bytes.
+const WINDOW: usize = 1 << 20;
+
+/// A log of which a batch ends a number of bytes before its first window does, and other batches follow.
+fn ended_before_window(left: usize) -> (Device, Map) {
+    let device = Device::default();
+    let db = Db::open_on(Arc::new(device.clone()), &options()).unwrap();
+    // Returns the log's length after it.
+    let put = |key: &str, length: usize| {
+        let mut batch = Batch::new();
+        batch.put(key, vec![7; length]).unwrap();
+        db.write_with(&batch, true).unwrap();
+        device.files()["000001.log"].len()
+    };
+    let first = put("a", WINDOW - 12_000);
+    let second = put("b", 1_000);
+    let end = WINDOW - left;
+    let overhead = second - first - 1_000;
+    assert_eq!(put("c", end - second - overhead), end);
+    put("d", 10);
+    put("e", 2_000);
+    let map = map_of(&db);
+    (device.restarted(), map)
+}
+
+/// The next window begins with the next block then, which is after the end of the batch.
+#[test]
+fn a_batch_may_end_in_the_last_bytes_of_a_window() {
+    for left in 0..=8 {
+        let (device, map) = ended_before_window(left);
+        let log = device.files()["000001.log"].clone();
+        let db = open(&device.restarted()).unwrap();
+        assert_eq!(map_of(&db), map, "{left}");
+        drop(db);
+
+        // A base that has all of the log is passed over to the last batch.
+        let db = open(&device).unwrap();
+        db.checkpoint().unwrap();
+        drop(db);
+        let files = device.files();
+        let base = files.keys().find(|name| name.ends_with(".base")).unwrap();
+        assert_eq!(base, "000002-5.base");
+        let mut beside = files.clone();
+        beside.retain(|name, _| name == "OPERATOR");
+        beside.insert("000001-5.base".into(), files[base].clone());
+        beside.insert("000001.log".into(), log.clone());
+        assert_eq!(map_of(&open(&Device::of(&beside)).unwrap()), map, "{left}");
+
+        // Batches that are given up are walked over.
+        beside.remove("000001-5.base");
+        let options = Options {
+            recover_to: Some(2),
+            give_up_until: u64::MAX,
+            ..options()
+        };
+        let db = Db::open_on(Arc::new(Device::of(&beside)), &options).unwrap();
+        assert_eq!(map_of(&db).len(), 2, "{left}");
+    }
+}
+
+/// A hole of many windows, and a batch after it that was synced. It is found by the record before it, at the start of its block.
 #[test]
 fn a_batch_after_a_long_hole_tells_damage() {
     let device = Device::default();
