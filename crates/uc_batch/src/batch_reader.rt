@@ -15,7 +15,7 @@ use std::marker::Model;
 use uc_logrec::{LogReader, Next};
 
 /// The outcome of a step to the next batch.
-#[derive(Clone, Copy, Debug)]
+#[derive(Clone, Copy)]
 pub enum Advance {
     /// A batch; [`BatchReader::writes`] returns its writes.
     Batch,
@@ -24,7 +24,7 @@ pub enum Advance {
 }
 
 /// Where a payload's bytes are.
-#[derive(Clone, Copy, Debug)]
+#[derive(Clone, Copy)]
 pub(crate) enum Payload<'a> {
     /// In the log.
     Whole(&'a [u8]),
@@ -46,7 +46,7 @@ pub(crate) enum Found<'a> {
 ///
 /// Contracts see the last sequence used, the current batch, and what is ahead: the writes of the other batches, and how
 /// far the log is read.
-#[derive(Debug, Drop)]
+#[derive(Drop)]
 pub struct BatchReader<'a> {
     log: LogReader<'a>,
     joined: Vec<u8>,

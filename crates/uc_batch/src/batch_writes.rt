@@ -16,7 +16,7 @@ use uc_bytes::{OpRef, WriteRef};
 /// The remaining writes of a batch that was judged whole before, the first one first.
 ///
 /// A contract sees them as a list. It doesn't allocate: each write borrows its texts from the batch.
-#[derive(Debug, Drop)]
+#[derive(Drop)]
 pub struct BatchWrites<'a> {
     // The sequence of the next one, and how many there are.
     sequence: u64,

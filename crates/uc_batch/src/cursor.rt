@@ -8,7 +8,7 @@ use crate::error::BatchError;
 use crate::varint::{MORE_BYTES, read_varint};
 
 /// The rest of a batch, which readers shorten from the front: LevelDB's `Slice` with `remove_prefix`.
-#[derive(Debug, Drop)]
+#[derive(Drop)]
 pub(crate) struct Cursor<'a> {
     // The bytes of the whole batch.
     total: usize,

@@ -11,14 +11,14 @@ use std::alloc::{AllocError, Global};
 use std::marker::Model;
 use uc_bytes::OpRef;
 
-/// Where a batch's header has the count, behind the sequence.
+/// Where a batch's header has the count, after the sequence.
 const COUNT_PLACE: usize = 8;
 
 /// Operations that are gathered as the bytes of a batch without a sequence: it is 0, as in a batch that a program
 /// builds with RocksDB's class of this name. Whoever takes the batch numbers them.
 ///
 /// A contract sees it as the list of the operations.
-#[derive(Debug, Drop)]
+#[derive(Drop)]
 pub struct WriteBatch {
     bytes: Vec<u8>,
     count: u32,
@@ -53,7 +53,7 @@ impl WriteBatch {
         Ok(WriteBatch { bytes, count: 0 })
     }
 
-    /// Adds an operation behind the others. An `Err` adds nothing.
+    /// Adds an operation after the others. An `Err` adds nothing.
     pub fn push(&mut self, op: &OpRef<'_>) -> Result<(), PushError>
         ensures ok { OnOk result (self.new ≡ self.old ++ op.now ∷ []) }
         ensures err { IfErr result (λ error. RefusesOp op.now self.old error × (self.new ≡ self.old)) }

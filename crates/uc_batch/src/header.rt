@@ -11,7 +11,7 @@ use uc_bytes::MAX_SEQUENCE;
 pub(crate) const HEADER_SIZE: usize = 12;
 
 /// What comes before a batch's records.
-#[derive(Clone, Copy, Debug)]
+#[derive(Clone, Copy)]
 pub struct Header {
     /// The sequence of the first operation.
     pub sequence: u64,

@@ -29,7 +29,7 @@ pub fn refusal_stands_in_batch()
         batch_of last bytes ≡ Err fault → IsRefused last bytes fault }
 {}
 
-/// Operations that were gathered as a batch without a sequence are read with those behind the last one, if so many are
+/// Operations that were gathered as a batch without a sequence are read with those after the last one, if so many are
 /// left. Else they are refused for that.
 pub fn gathered_batch_is_read()
     ensures text { (seq : ℕ) (ops : List Operation) → numbered_text seq ops ≡ batch_text seq ops }

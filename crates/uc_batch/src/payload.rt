@@ -8,7 +8,7 @@ use std::alloc::{AllocError, Global};
 use uc_logrec::{Ending, Next, next_payload_at};
 
 /// Where a payload's bytes are.
-#[derive(Clone, Copy, Debug)]
+#[derive(Clone, Copy)]
 pub(crate) enum Payload {
     /// In the piece, from one offset to another.
     Within(usize, usize),
@@ -17,7 +17,7 @@ pub(crate) enum Payload {
 }
 
 /// What was read at a place of the log.
-#[derive(Clone, Copy, Debug)]
+#[derive(Clone, Copy)]
 pub(crate) enum Read {
     /// A payload, and the bytes that its text takes.
     Payload(Payload, usize),

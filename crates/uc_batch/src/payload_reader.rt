@@ -12,18 +12,18 @@ use std::marker::Model;
 use uc_logrec::Ending;
 
 /// What comes next in a log.
-#[derive(Clone, Copy, Debug)]
+#[derive(Clone, Copy)]
 pub(crate) enum Next {
     /// A payload.
     Payload(Payload),
-    /// Behind the last payload, how the log ends.
+    /// After the last payload, how the log ends.
     Ended(Ending),
 }
 
 /// Returns the payloads of a log in pieces one at a time, as `LogReader` of uc_logrec does of a log in one piece.
 ///
 /// Contracts see its position in the log, and the current piece.
-#[derive(Debug, Drop)]
+#[derive(Drop)]
 pub(crate) struct PayloadReader {
     alloc: Global,
     // The bytes from the end of the last payload on, which is at this place of the log.
@@ -94,7 +94,7 @@ impl PayloadReader {
     }
 }
 
-/// Reads at a place of the log, and passes over a payload. An ending of a piece is the log's if no piece is behind it.
+/// Reads at a place of the log, and passes over a payload. An ending of a piece is the log's if no piece is after it.
 fn read_from(
     alloc: Global,
     unread: &mut Unread,

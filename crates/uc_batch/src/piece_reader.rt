@@ -22,7 +22,7 @@ pub(crate) enum Found {
 ///
 /// It holds the pieces from the current batch on. Contracts see what they see of a `BatchReader`: the last sequence used,
 /// the current batch, and what is ahead.
-#[derive(Debug, Drop)]
+#[derive(Drop)]
 pub struct PieceReader {
     log: PayloadReader,
     joined: Vec<u8>,

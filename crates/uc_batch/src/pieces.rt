@@ -11,7 +11,7 @@ use std::marker::Model;
 const PIECE_SIZE: usize = 1 << 20;
 
 /// Bytes in pieces of a MiB. A contract sees them as one list.
-#[derive(Debug, Drop)]
+#[derive(Drop)]
 pub struct Pieces {
     // In their order. None is empty.
     pieces: VecDeque<Vec<u8>>,
@@ -54,7 +54,7 @@ impl Pieces {
         self.length == 0
     }
 
-    /// Adds bytes behind those that are there. An `Err` comes also at 2^63 bytes. Behind it some of the bytes may be there.
+    /// Adds bytes after those that are there. An `Err` comes also at 2^63 bytes. After it some of the bytes may be there.
     pub fn push_bytes(&mut self, alloc: Global, bytes: &[u8]) -> Result<(), AllocError>
         ensures { OnOk result (self.new ≡ self.old ++ bytes.now) }
     {
@@ -163,7 +163,7 @@ impl Pieces {
         }
     }
 
-    /// Moves the first piece behind other bytes, and lets go of it. After an `Err` nothing was moved.
+    /// Moves the first piece after other bytes, and lets go of it. After an `Err` nothing was moved.
     pub(crate) fn move_first(&mut self, target: &mut Vec<u8>) -> Result<(), AllocError>
         ensures same { target.new.items ++ self.new ≡ target.old.items ++ self.old }
         ensures moved { OnOk result (0 < length self.old → length self.new < length self.old) }
@@ -178,7 +178,7 @@ impl Pieces {
         Ok(())
     }
 
-    /// Moves the first bytes behind others: at most so many, and only of the first piece. After an `Err` nothing was moved.
+    /// Moves the first bytes after others: at most so many, and only of the first piece. After an `Err` nothing was moved.
     fn move_some(&mut self, target: &mut Vec<u8>, most: usize) -> Result<(), AllocError>
         ensures same { target.new.items ++ self.new ≡ target.old.items ++ self.old }
         ensures most { length target.new.items ≤ length target.old.items + most }

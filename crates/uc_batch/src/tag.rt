@@ -3,7 +3,7 @@ ghost use Rattle.std.specs.Prelude.{◌≡◌};
 ghost use Rattle.uc_batch.specs.Tag as tag;
 
 /// The tag of a record (RocksDB, `dbformat.h`, `ValueType`: there each name begins with `kType`).
-#[derive(Clone, Copy, Debug, PartialEq, Eq)]
+#[derive(Clone, Copy, PartialEq, Eq)]
 pub(crate) enum Tag {
     Deletion = 0x00,
     Value = 0x01,
@@ -20,7 +20,7 @@ pub(crate) enum Tag {
 }
 
 /// What follows a record's tag, apart from a column family's number.
-#[derive(Clone, Copy, Debug, PartialEq, Eq)]
+#[derive(Clone, Copy, PartialEq, Eq)]
 pub(crate) enum Form {
     /// A key to delete.
     Deletion,
@@ -37,7 +37,7 @@ pub(crate) enum Form {
 }
 
 /// A tag's form, and whether the number of a column family comes before it.
-#[derive(Clone, Copy, Debug, PartialEq, Eq)]
+#[derive(Clone, Copy, PartialEq, Eq)]
 pub(crate) struct Layout {
     pub(crate) form: Form,
     pub(crate) has_family: bool,

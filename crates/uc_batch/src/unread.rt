@@ -5,17 +5,17 @@ ghost use Rattle.uc_batch.specs.Unread.{bytes_ahead};
 use crate::pieces::Pieces;
 use std::alloc::{AllocError, Global};
 
-/// The least bytes of the next piece that are copied behind the end of a piece: 64 KiB.
+/// The least bytes of the next piece that are copied after the end of a piece: 64 KiB.
 const LEAST_FRONT: usize = 1 << 16;
 
-/// The bytes of a log that are still to be read: those of one piece from an offset on, and those of the pieces behind it.
-#[derive(Debug, Drop)]
+/// The bytes of a log that are still to be read: those of one piece from an offset on, and those of the pieces after it.
+#[derive(Drop)]
 pub(crate) struct Unread {
     /// The piece.
     pub piece: Vec<u8>,
     /// The offset in the piece.
     pub at: usize,
-    /// The pieces behind it.
+    /// The pieces after it.
     pub rest: Pieces,
 }
 
@@ -32,7 +32,7 @@ impl Unread {
         }
     }
 
-    /// The bytes that are left of the piece, and behind them a front of the next one: as many again, but at least 64 KiB.
+    /// The bytes that are left of the piece, and after them a front of the next one: as many again, but at least 64 KiB.
     /// `None` if none are left, or if the next piece has no more.
     pub(crate) fn border(&self, alloc: Global) -> Result<Option<Vec<u8>>, AllocError>
         requires { self.now.at ≤ length self.now.piece.items }
@@ -71,7 +71,7 @@ impl Unread {
         self.at += left;
     }
 
-    /// Goes on to a larger piece: the bytes that are left of this one, and pieces behind them, so that it has four times as many.
+    /// Goes on to a larger piece: the bytes that are left of this one, and pieces after them, so that it has four times as many.
     /// If none are left, the next piece is taken as it is. Returns `false` if there is none.
     ///
     /// After an `Err` the bytes that are ahead are the same.
@@ -103,7 +103,7 @@ impl Unread {
     }
 }
 
-/// Moves pieces behind the bytes of one: the first, and others until it has enough bytes.
+/// Moves pieces after the bytes of one: the first, and others until it has enough bytes.
 fn gather(piece: &mut Vec<u8>, rest: &mut Pieces, enough: usize) -> Result<(), AllocError>
     ensures same { piece.new.items ++ rest.new ≡ piece.old.items ++ rest.old }
     ensures moved { OnOk result (0 < length rest.old → length rest.new < length rest.old) }

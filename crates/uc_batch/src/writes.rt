@@ -10,7 +10,7 @@ use uc_bytes::{MAX_SEQUENCE, Write};
 /// Writes whose sequences rise, and how far their log was read.
 ///
 /// Sequences are from 1 to 2^56 - 1. There may be gaps.
-#[derive(Debug, Drop)]
+#[derive(Drop)]
 pub struct Writes {
     list: Vec<Write>,
     ended: Ended,

@@ -22,7 +22,7 @@ pub enum OpKind {
 }
 
 /// An [`Op`] with borrowed texts, so it takes no memory. A contract sees it as the `Op`.
-#[derive(Debug, Drop)]
+#[derive(Drop)]
 pub struct OpRef<'a> {
     kind: OpKind,
     first: &'a [u8],

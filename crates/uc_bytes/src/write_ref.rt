@@ -7,7 +7,7 @@ use std::alloc::{AllocError, Global};
 use std::marker::Model;
 
 /// A [`Write`] with borrowed texts, so it takes no memory. A contract sees it as the `Write`.
-#[derive(Debug, Drop)]
+#[derive(Drop)]
 pub struct WriteRef<'a> {
     seq: u64,
     op: OpRef<'a>,

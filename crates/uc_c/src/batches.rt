@@ -48,7 +48,7 @@ fn new_batch(alloc: Global) -> Result<Box<WriteBatch>, AllocError>
     }
 }
 
-/// Adds an operation behind the others. It is refused if a text has 2^32 bytes or more, if the batch has 2^32 - 1
+/// Adds an operation after the others. It is refused if a text has 2^32 bytes or more, if the batch has 2^32 - 1
 /// operations, and for want of memory.
 fn push(alloc: Global, batch: &mut BatchHandle, op: OpRef<'_>) -> i32
     ensures { Gathers result batch.old.held batch.new.held op.entry }

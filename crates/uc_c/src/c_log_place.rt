@@ -1,6 +1,6 @@
 //! [`CLogPlace`]: a place in a log, as C keeps it.
 
-/// A place in a log, behind some of its batches, as C keeps it. A walk over the log begins at zeros.
+/// A place in a log, after some of its batches, as C keeps it. A walk over the log begins at zeros.
 #[repr(C)]
 #[derive(Clone, Copy, Debug, PartialEq, Eq)]
 pub struct CLogPlace {

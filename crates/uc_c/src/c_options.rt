@@ -13,7 +13,7 @@ pub const OPTIONS_SIZE: usize = 48;
 #[repr(C)]
 #[derive(Clone, Copy, Debug, PartialEq, Eq)]
 pub struct COptions {
-    /// [`OPTIONS_SIZE`]. A later library may have more fields behind these.
+    /// [`OPTIONS_SIZE`]. A later library may have more fields after these.
     pub size: usize,
     /// From how many bytes on the memtable is full.
     pub write_buffer_size: u64,
@@ -29,7 +29,7 @@ pub struct COptions {
     pub min_merge_width: u32,
     /// The greatest number of runs for a compaction.
     pub max_merge_width: u32,
-    /// Not 0 if the store compacts behind a flush.
+    /// Not 0 if the store compacts after a flush.
     pub compacts_itself: u32,
     /// How many memtables it gathers at most.
     pub max_write_buffer_number: u32,

@@ -18,7 +18,7 @@ pub const REPORT_SIZE: usize = 64;
 #[repr(C)]
 #[derive(Clone, Copy, Debug, PartialEq, Eq)]
 pub struct CReport {
-    /// [`REPORT_SIZE`], which C writes. A later library may have more fields behind these.
+    /// [`REPORT_SIZE`], which C writes. A later library may have more fields after these.
     pub size: usize,
     /// How many runs there are.
     pub runs: u64,

@@ -11,7 +11,7 @@ use std::alloc::{AllocError, Global};
 use uc_engine::{CheckpointError, EngineCheckpoint};
 use uc_handle::{CheckpointHandle, ViewHandle};
 
-/// Puts a checkpoint of the view behind its handle, of which nothing is laid out yet. The view stays. It is refused if the
+/// Puts a checkpoint of the view into its handle, of which nothing is laid out yet. The view stays. It is refused if the
 /// handle has a checkpoint, and for want of memory.
 #[unsafe(no_mangle)]
 pub extern "C" fn ucstore_checkpoint(
@@ -34,7 +34,7 @@ pub extern "C" fn ucstore_checkpoint(
     hold(alloc, checkpoint, begun)
 }
 
-/// Puts a checkpoint that was begun behind a handle of none.
+/// Puts a checkpoint that was begun into a handle of none.
 fn hold(
     alloc: Global,
     checkpoint: &mut CheckpointHandle,
@@ -114,7 +114,7 @@ fn checkpoint_status(error: CheckpointError) -> i32
     }
 }
 
-/// Frees the checkpoint behind the handle, if there is one. Its view stays.
+/// Frees the checkpoint of the handle, if there is one. Its view stays.
 #[unsafe(no_mangle)]
 pub extern "C" fn ucstore_checkpoint_close(alloc: Global, checkpoint: &mut CheckpointHandle) -> i32
     ensures { Closes NO_CHECKPOINT result checkpoint.old.held checkpoint.new.held }

@@ -1,4 +1,4 @@
-//! Flushes and compactions of the store behind a handle.
+//! Flushes and compactions of the store of a handle.
 ghost use Rattle.std.specs.Prelude.{◌≡◌, ◌⊎◌};
 ghost use Rattle.uc_c.specs.declared.status.TheConstants.{OK};
 ghost use Rattle.uc_c.specs.Compacting.{Compacts, Flushes};

@@ -16,7 +16,7 @@ use uc_handle::{Handle, JobHandle};
 use uc_oper::Counter;
 use uc_version::{claimable_stretches_can_be_compacted, claims_are_held};
 
-/// Takes a job out of the store, puts it behind its handle, and says whether there was one: the flush of what is gathered,
+/// Takes a job out of the store, puts it into its handle, and says whether there was one: the flush of what is gathered,
 /// if that is left to jobs and a memtable is full, or else the compaction of what is picked next. Until the job ends, the
 /// store doesn't compact its runs. It is refused if the handle has a job, and for want of memory.
 #[unsafe(no_mangle)]
@@ -248,7 +248,7 @@ pub extern "C" fn ucstore_job_input_bytes(
     OK
 }
 
-/// Frees the job behind the handle, if there is one, with what it had. It touches no store. One that hasn't ended is
+/// Frees the job of the handle, if there is one, with what it had. It touches no store. One that hasn't ended is
 /// forgotten: a store that is still there never compacts its runs again, and flushes its writes itself.
 #[unsafe(no_mangle)]
 pub extern "C" fn ucstore_job_close(alloc: Global, job: &mut JobHandle) -> i32

@@ -17,7 +17,7 @@ use uc_rows::push_text;
 /// The writes of a batch, laid out for C.
 #[derive(Drop)]
 pub(crate) struct LaidWrites {
-    /// The writes, one behind the other.
+    /// The writes, one after the other.
     pub(crate) bytes: Vec<u8>,
     /// How many these are.
     pub(crate) count: u64,
@@ -28,7 +28,7 @@ pub(crate) struct LaidWrites {
 /// What comes next in a log.
 #[derive(Drop)]
 pub(crate) enum LogStep {
-    /// A batch, and the place behind it.
+    /// A batch, and the place after it.
     Batch(LaidWrites, CLogPlace),
     /// No batch that may follow: how far the log was read.
     Ended(Ended),
@@ -75,7 +75,7 @@ fn batch_step(
     }
 }
 
-/// Lays writes out behind a last sequence.
+/// Lays writes out after a last sequence.
 fn laid_writes(
     alloc: Global,
     writes: BatchWrites<'_>,

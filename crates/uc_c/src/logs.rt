@@ -12,7 +12,7 @@ use crate::room::fill;
 use crate::status::{BAD_PLACE, LOG_ENDS, OK, OUT_OF_MEMORY, ROOM};
 use std::alloc::Global;
 
-/// Goes from a place in a log to behind the next batch, and lays its writes out in the room one behind the other: each
+/// Goes from a place in a log to after the next batch, and lays its writes out in the room one after the other: each
 /// as 8 bytes for the sequence, low byte first, 1 for the tag of the operation, 8 for the length of the first text, the
 /// text, 8 for the length of the second text, and that text. It says how many these are, and how many bytes.
 ///
@@ -65,7 +65,7 @@ fn lay(bytes: &[u8], room: &mut [u8], size: &mut usize) -> i32
     OK
 }
 
-/// Puts writes into the room, and moves the place behind them, if they fit.
+/// Puts writes into the room, and moves the place after them, if they fit.
 fn show(
     laid: &LaidWrites,
     behind: CLogPlace,

@@ -1,4 +1,4 @@
-//! Look-ups of many keys at once in the store behind a handle, and in what else is [`Readable`].
+//! Look-ups of many keys at once in the store of a handle, and in what else is [`Readable`].
 ghost use Rattle.std.specs.Prelude.{◌≡◌, ◌⊎◌, ◌↔◌, ◌++◌, ◌∷◌, [], IsTrue, IfOk, OnOk, length, map, sum};
 ghost use Rattle.uc_engine.specs.Engines.{last_value};
 ghost use Rattle.uc_engine.specs.EngineViews.{value_seen};
@@ -19,13 +19,13 @@ const NO_VALUE: u64 = u64::MAX;
 /// What was found for many keys.
 #[derive(Drop)]
 struct Found {
-    // The length of each value, and the bytes of all, one behind the other.
+    // The length of each value, and the bytes of all, one after the other.
     lengths: Vec<u64>,
     bytes: Vec<u8>,
 }
 
-/// Looks keys up at the last sequence, which stand one behind the other, in any order. It tells the length of each
-/// key's value, the greatest number if it has none, copies the values that are there one behind the other, as much of
+/// Looks keys up at the last sequence, which stand one after the other, in any order. It tells the length of each
+/// key's value, the greatest number if it has none, copies the values that are there one after the other, as much of
 /// them as there is room for, and says how many bytes they have. It is refused if the keys' lengths don't add up to
 /// their bytes, if there aren't as many places for answers, and for want of memory.
 #[unsafe(no_mangle)]

@@ -1,4 +1,4 @@
-//! Opens a store behind a handle, and closes it.
+//! Opens the store of a handle, and closes it.
 ghost use Rattle.std.specs.Prelude.{◌≡◌, ◌⊎◌, IfOk, IfErr};
 ghost use Rattle.uc_batch.specs.Log.{log_writes};
 ghost use Rattle.uc_live.specs.declared.open_error.LiveOpenError.TheVariants.{NoRoom};
@@ -26,7 +26,7 @@ fn boxed(alloc: Global, engine: Engine) -> Result<Box<Engine>, LiveOpenError>
     }
 }
 
-/// Puts an empty store behind the handle, whose operator is 0 for texts joined by commas, 1 for sums, 2 for the greater
+/// Puts an empty store into the handle, whose operator is 0 for texts joined by commas, 1 for sums, 2 for the greater
 /// text or 3 for the last four bytes. It has no snapshot. By its number it knows its jobs: `bindings/c/ids.c` gives each store of
 /// a process another one. It is refused if the handle has a store, if the options' size
 /// isn't the one that this library knows, if no operator has the number, if an option is out of its range, and for want
@@ -64,7 +64,7 @@ pub extern "C" fn numbered_ucstore_create(
     }
 }
 
-/// Puts a store behind the handle that is opened from the bytes of a write-ahead log: it has the writes before the
+/// Puts a store into the handle that is opened from the bytes of a write-ahead log: it has the writes before the
 /// log's first fault, and `ended` says whether there was one. It has no snapshot. It is refused as
 /// `numbered_ucstore_create` is,
 /// and if no id is left for a run.
@@ -110,7 +110,7 @@ pub extern "C" fn numbered_ucstore_open(
     }
 }
 
-/// Frees the store behind the handle, if there is one.
+/// Frees the store of the handle, if there is one.
 #[unsafe(no_mangle)]
 pub extern "C" fn ucstore_close(alloc: Global, handle: &mut Handle) -> i32
     ensures { Closes NO_STORE result handle.old.held handle.new.held }

@@ -1,4 +1,4 @@
-//! Look-ups in the store behind a handle, and in what else is [`Readable`].
+//! Look-ups in the store of a handle, and in what else is [`Readable`].
 ghost use Rattle.std.specs.Prelude.{◌≡◌, ◌⊎◌, length};
 ghost use Rattle.uc_query_read.specs.declared.query.Query.TheVariants as queries;
 ghost use Rattle.uc_engine.specs.Engines.{answer_in, last_value};

@@ -19,7 +19,7 @@ use uc_logrec::{Next, next_payload};
 /// What was done with the next batch of a log.
 #[derive(Clone, Copy)]
 pub(crate) enum Replayed {
-    /// It was written, and this is the place behind it.
+    /// It was written, and this is the place after it.
     Batch(CLogPlace),
     /// It leaves sequences out, and was not written.
     Gap,
@@ -27,7 +27,7 @@ pub(crate) enum Replayed {
     Ended(Ended),
 }
 
-/// Whether a batch whose last sequence this is may follow: it begins right behind the place, unless it may skip some.
+/// Whether a batch whose last sequence this is may follow: it begins right after the place, unless it may skip some.
 fn may_follow(place: CLogPlace, header: Header, last: u64, may_skip: bool) -> bool
     ensures yes { result ≡ true → may_skip ≡ false → last ≡ place.last + header.count }
     ensures no { result ≡ false → (may_skip ≡ false) × (last ≢ place.last + header.count) }
@@ -122,12 +122,12 @@ fn replay_next(
     }
 }
 
-/// Writes the next batch at a place of a log to the store, with the sequences that it has, and goes to the place behind it. A
+/// Writes the next batch at a place of a log to the store, with the sequences that it has, and goes to the place after it. A
 /// walk begins where the offset and the batches are zero, and the last sequence is the store's. A batch that is prepared is
 /// given up.
 ///
 /// Where the log ends, or the batch may not follow, nothing is written, the place stays, and it is told how far the log was
-/// read. Nor is a batch written that begins later than right behind the last sequence, unless it may skip some, nor for want
+/// read. Nor is a batch written that begins later than right after the last sequence, unless it may skip some, nor for want
 /// of memory or of ids. It is refused if no walk over the log leads to the place, or its last sequence isn't the store's.
 #[unsafe(no_mangle)]
 pub extern "C" fn ucstore_replay(

@@ -1,4 +1,4 @@
-//! Scans of the store behind a handle, and of what else is [`Readable`].
+//! Scans of the store of a handle, and of what else is [`Readable`].
 ghost use Rattle.std.specs.Prelude.{◌≡◌, ◌⊎◌, Some, None, IfOk, if◌then◌else◌};
 ghost use Rattle.uc_query_read.specs.declared.query.Query.TheVariants as queries;
 ghost use Rattle.uc_engine.specs.Engines.{answer_in, last_rows};
@@ -30,7 +30,7 @@ fn bound(alloc: Global, high: &[u8], bounded: bool) -> Result<Option<Bytes>, All
 }
 
 /// Scans the first rows, at most `limit`, of the keys from `low` to below `high`, or to the last one if they aren't
-/// bounded, at the last sequence. It writes the rows that fit the room one behind the other, each as 8 bytes for the
+/// bounded, at the last sequence. It writes the rows that fit the room one after the other, each as 8 bytes for the
 /// key's length, low byte first, the key, 8 bytes for the value's length, and the value. It tells how many these are,
 /// and the size of all rows. Many gathered writes are flushed first, unless a batch is prepared. It is refused for want
 /// of memory.

@@ -1,4 +1,4 @@
-//! Snapshots of the store behind a handle.
+//! Snapshots of the store of a handle.
 ghost use Rattle.std.specs.Prelude.{◌≡◌, ◌⊎◌, Contains, Some, length};
 ghost use Rattle.uc_live.specs.Lives as lives;
 ghost use Rattle.uc_live.specs.Snapshots.{without_snapshot};

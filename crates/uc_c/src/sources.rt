@@ -1,4 +1,4 @@
-//! Where look-ups are answered, in the store behind a handle and in views that C holds.
+//! Where look-ups are answered, in the store of a handle and in views that C holds.
 ghost use Rattle.std.specs.Prelude.{◌≡◌, ◌⊎◌, [], ◌∷◌};
 ghost use Rattle.uc_live.specs.Sources.{source_of};
 ghost use Rattle.uc_live.specs.Views.{seen_in};

@@ -90,7 +90,7 @@ pub const NO_CHECKPOINT: i32 = 26;
 /// The handle has a checkpoint already.
 pub const HAS_CHECKPOINT: i32 = 27;
 
-/// A batch of a log begins later than right behind the last sequence.
+/// A batch of a log begins later than right after the last sequence.
 pub const SEQUENCE_GAP: i32 = 28;
 
 /// The statuses have the numbers that `enum ucstore_status` gives them, in its order.

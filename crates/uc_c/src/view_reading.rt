@@ -85,7 +85,7 @@ pub extern "C" fn ucstore_view_get_many(
 }
 
 /// Scans a view, as `ucstore_scan` does a store. The first scan of a view sorts what was gathered, for all of its
-/// handles that are made behind it.
+/// handles that are made after it.
 #[unsafe(no_mangle)]
 pub extern "C" fn ucstore_view_scan(
     alloc: Global,

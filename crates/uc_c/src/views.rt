@@ -11,7 +11,7 @@ use std::alloc::{AllocError, Global};
 use uc_engine::EngineView;
 use uc_handle::{Handle, ViewHandle};
 
-/// Puts a view behind its handle that shows what the store holds now. What is prepared isn't in it. It is refused if
+/// Puts a view into its handle that shows what the store holds now. What is prepared isn't in it. It is refused if
 /// the handle has a view, and for want of memory.
 #[unsafe(no_mangle)]
 pub extern "C" fn ucstore_view(alloc: Global, handle: &mut Handle, view: &mut ViewHandle) -> i32
@@ -30,7 +30,7 @@ pub extern "C" fn ucstore_view(alloc: Global, handle: &mut Handle, view: &mut Vi
     hold(alloc, view, taken)
 }
 
-/// Puts the view behind another handle too, for another thread. It is refused if that has a view, and for want of
+/// Puts the view into another handle too, for another thread. It is refused if that has a view, and for want of
 /// memory.
 #[unsafe(no_mangle)]
 pub extern "C" fn ucstore_view_again(
@@ -53,7 +53,7 @@ pub extern "C" fn ucstore_view_again(
     hold(alloc, again, taken)
 }
 
-/// Puts a view that was taken behind a handle of none.
+/// Puts a view that was taken into a handle of none.
 fn hold(alloc: Global, view: &mut ViewHandle, taken: Result<EngineView, AllocError>) -> i32
     requires { view.old.held ≡ None }
     ensures { ((result ≡ OK) × IsOkAnd taken (λ v. view.new.held ≡ Some v))
@@ -87,7 +87,7 @@ pub extern "C" fn ucstore_view_last(alloc: Global, view: &mut ViewHandle, seq: &
     OK
 }
 
-/// Frees the view behind the handle, if there is one. Other handles of it keep it.
+/// Frees the view of the handle, if there is one. Other handles of it keep it.
 #[unsafe(no_mangle)]
 pub extern "C" fn ucstore_view_close(alloc: Global, view: &mut ViewHandle) -> i32
     ensures { Closes NO_VIEW result view.old.held view.new.held }

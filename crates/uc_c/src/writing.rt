@@ -1,4 +1,4 @@
-//! Writes to the store behind a handle.
+//! Writes to the store of a handle.
 ghost use Rattle.std.specs.Prelude.{◌≡◌, ◌⊎◌, Some, IfOk, IfErr, option_map};
 ghost use Rattle.uc_bytes.specs.declared.op.Op.TheVariants as ops;
 ghost use Rattle.uc_live.specs.Lives.{committed, unprepared};
@@ -17,7 +17,7 @@ use uc_engine::{Engine, OpRef, WriteError};
 use uc_handle::{BatchHandle, Handle};
 
 /// Writes a batch, given as the bytes that RocksDB writes: 8 bytes for a sequence, 4 for a count, and as many records.
-/// The operations get the batch's sequence and those behind it; if it is 0, those behind the last one. It is refused if
+/// The operations get the batch's sequence and those after it; if it is 0, those after the last one. It is refused if
 /// the bytes aren't a batch, if its sequence is neither 0 nor above the last one, if too few sequences are left, if no
 /// id is left for a run, and for want of memory.
 #[unsafe(no_mangle)]
@@ -35,7 +35,7 @@ pub extern "C" fn ucstore_write_bytes(alloc: Global, handle: &mut Handle, batch:
     }
 }
 
-/// Writes the operations of a batch: they get the sequences behind the last one. It is refused if too few sequences are
+/// Writes the operations of a batch: they get the sequences after the last one. It is refused if too few sequences are
 /// left, if no id is left for a run, and for want of memory. The batch stays as it was.
 #[unsafe(no_mangle)]
 pub extern "C" fn ucstore_write(alloc: Global, handle: &mut Handle, batch: &mut BatchHandle) -> i32
@@ -148,7 +148,7 @@ fn prepare(
     Ok(OK)
 }
 
-/// Prepares the operations of a batch, so that `ucstore_commit` can take them, with the sequences behind the last one,
+/// Prepares the operations of a batch, so that `ucstore_commit` can take them, with the sequences after the last one,
 /// and copies the bytes that they add to a log of so many bytes, if there is room for them. It says how many these are.
 /// If there is too little room, nothing is prepared. It is refused as `ucstore_write` would be. The batch stays as it
 /// was.

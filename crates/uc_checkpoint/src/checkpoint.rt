@@ -56,7 +56,7 @@ impl<O: Operator> Drop for Checkpoint<O> {
     }
 }
 
-/// Rows, the first of which are those of a piece, and the key of the row behind these, if there is one.
+/// Rows, the first of which are those of a piece, and the key of the row after these, if there is one.
 #[derive(Drop)]
 struct Page {
     rows: Rows,
@@ -65,7 +65,7 @@ struct Page {
     next: Option<Bytes>,
 }
 
-/// What a log gets for the next rows, and where the checkpoint goes on behind them.
+/// What a log gets for the next rows, and where the checkpoint goes on after them.
 #[derive(Drop)]
 struct Piece {
     text: Vec<u8>,
@@ -103,7 +103,7 @@ fn batch_of(alloc: Global, rows: &Rows, count: usize) -> Result<WriteBatch, Chec
     Ok(batch)
 }
 
-/// The rows, split behind the first `most`.
+/// The rows, split after the first `most`.
 fn split(alloc: Global, rows: Rows, most: u64) -> Result<Page, AllocError>
     requires { length rows ≤ most + 1 }
     ensures splits { IfOk result (λ page. Splits most rows (take page.count page.rows) page.next) }
@@ -202,7 +202,7 @@ impl<O: Operator> Checkpoint<O> {
         Ok(Some(Piece { text, next, rows }))
     }
 
-    /// Goes on behind a piece.
+    /// Goes on after a piece.
     fn go_on(&mut self, next: Option<Bytes>, rows: u64)
         requires parts { Parts next rows (all_rows O.meaning self.old.seen) }
         requires within { rows ≤ length (all_rows O.meaning self.old.seen) }
@@ -214,7 +214,7 @@ impl<O: Operator> Checkpoint<O> {
     }
 
     /// Lays the next rows out: the bytes that a log of `log_length` bytes gets for them. They are a batch, whose sequences
-    /// go on behind the rows before. There are `most` rows and at most 65,536, but one if `most` is 0; fewer only if no more
+    /// go on after the rows before. There are `most` rows and at most 65,536, but one if `most` is 0; fewer only if no more
     /// are left. It is `None` if no row is left. An `Err` changes nothing.
     pub fn next(
         &mut self,

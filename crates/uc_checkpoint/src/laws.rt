@@ -16,7 +16,7 @@ use uc_logrec::written_log_is_read;
 use uc_oper::Operator;
 use uc_version_state::histories_say_writes_and_keeps;
 
-/// A log without bytes has none of a view's rows. A piece behind a log of those that are laid out has the next ones too. If none is
+/// A log without bytes has none of a view's rows. A piece after a log of those that are laid out has the next ones too. If none is
 /// left, the log is read back as puts of exactly the rows of the view, numbered from 1, and ends clean.
 pub fn pieces_are_read_back<O: Operator>()
     ensures begins { (s : Seen) → IsLaidOut O.meaning s [] (record { seen = s; rows = 0 }) }
@@ -31,7 +31,7 @@ pub fn pieces_are_read_back<O: Operator>()
     gathered_batch_is_read();
 }
 
-/// A piece that is in the room goes on behind a log of the rows before it. So the pieces that were laid out in rooms are read
+/// A piece that is in the room goes on after a log of the rows before it. So the pieces that were laid out in rooms are read
 /// back too.
 pub fn pieces_in_rooms_are_read_back<O: Operator>()
     ensures { (s : Seen) (log room room' : List ℕ) (most size : ℕ) (old new : Progress) → IsLaidOut O.meaning s log old →

@@ -1,6 +1,6 @@
 //! Checkpoints: what a store held at a moment, as a write-ahead log that puts its rows.
 //!
-//! A [`Checkpoint`] lays the rows of a view out, piece by piece. Its pieces, one behind the other, are a log: a store that opens
+//! A [`Checkpoint`] lays the rows of a view out, piece by piece. Its pieces, one after the other, are a log: a store that opens
 //! from it has the view's rows at their last sequences, numbered from 1, and goes on with later batches. So a program cuts its
 //! log by a checkpoint. Read `specs/Checkpoints.antt` first, then `checkpoint.rt`.
 //!

@@ -44,7 +44,7 @@ const LATER: &str = "0";
 
 /// Texts that the command line shows and that are made as the program runs, so that what they say stands
 /// in one place.
-#[derive(Debug, Drop)]
+#[derive(Drop)]
 pub struct Shown {
     operators: [&'static str; OPERATORS],
     memtable: String,

@@ -14,11 +14,11 @@ use uc_run::same_text;
 use uc_run_points::{PointRef, PointSlice, PointsAhead};
 
 /// The points of a run that are still ahead. A contract sees it as their list.
-#[derive(Debug, Drop)]
+#[derive(Drop)]
 pub(crate) struct Cursor<'a> {
     /// The next point: each is decoded once.
     next: Option<PointRef<'a>>,
-    /// Those behind it.
+    /// Those after it.
     behind: PointsAhead<'a>,
 }
 

@@ -36,7 +36,7 @@ fn push_fences<'a>(
     Ok(())
 }
 
-/// Fences of the runs, in order of key: every so many of those of all runs behind each other. So of each run as many are
+/// Fences of the runs, in order of key: every so many of those of all runs after each other. So of each run as many are
 /// drawn as it has of all points.
 fn sample_of<'a>(alloc: Global, inputs: &'a [Arc<Run>]) -> Result<Vec<&'a [u8]>, AllocError> {
     let step = (blocks_in(inputs) / SAMPLE).max(1);

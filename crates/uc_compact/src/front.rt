@@ -18,7 +18,7 @@ const NEAR: usize = 8;
 
 /// A run, and the place among its fragments that a walk over rising keys has come to. A contract sees only the run: the
 /// place changes no result and only saves time.
-#[derive(Debug, Drop)]
+#[derive(Drop)]
 pub(crate) struct Front<'a> {
     run: &'a Run,
     place: usize,

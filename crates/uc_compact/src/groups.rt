@@ -18,7 +18,7 @@ use uc_run_points::{PointRef, PointSlice};
 /// The place of a merge in several runs. A contract sees it as the groups that are still ahead: for each key those of its points
 /// that none of them hides from all reads, those of the first run first. So it never holds many points of a key that is put or
 /// deleted again and again.
-#[derive(Debug, Drop)]
+#[derive(Drop)]
 pub struct Groups<'a> {
     /// The sequences of reads.
     keeps: &'a [u64],

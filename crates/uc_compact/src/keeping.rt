@@ -9,7 +9,7 @@ use std::marker::Model;
 
 /// What a compaction keeps: the sequences of reads, which rise, and a sequence of the bottom stripe if nothing lies
 /// below its inputs. A contract sees it as these.
-#[derive(Debug, Drop)]
+#[derive(Drop)]
 pub struct Keeping<'a> {
     keeps: &'a [u64],
     bottom: Option<u64>,

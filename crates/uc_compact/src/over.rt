@@ -13,7 +13,7 @@ use uc_run_entry::{Seqs, newer};
 ///
 /// Fragments of several runs over a key may have very many sequences; a compaction asks only for the newest of a
 /// stripe.
-#[derive(Debug, Drop)]
+#[derive(Drop)]
 pub struct Over<'a> {
     lists: &'a [&'a Seqs],
 }

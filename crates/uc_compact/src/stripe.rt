@@ -14,7 +14,7 @@ use uc_bytes::MAX_SEQUENCE;
 use uc_run_points::PointRef;
 
 /// The sequences above `above`, up to and including `upto`.
-#[derive(Debug, Drop)]
+#[derive(Drop)]
 pub(crate) struct Stripe {
     above: u64,
     upto: u64,

@@ -63,7 +63,7 @@ fn total(runs: &[Placed]) -> Totals
     total
 }
 
-/// The report of a version behind which so many writes are gathered, up to a last sequence.
+/// The report of a version after which so many writes are gathered, up to a last sequence.
 fn report_with(version: &Version, gathered: usize, last: u64) -> EngineReport
     ensures { result ≡ reports.report_with version.now gathered last }
 {

@@ -17,7 +17,7 @@ use uc_bytes::OpRef;
 use uc_live::{RoomError, WriteError};
 
 impl Engine {
-    /// Writes an operation: it gets the sequence behind the last one. It is refused as `LiveStore::prepare` says, and
+    /// Writes an operation: it gets the sequence after the last one. It is refused as `LiveStore::prepare` says, and
     /// no read changes then.
     pub fn write(&mut self, alloc: Global, op: OpRef<'_>) -> Result<(), WriteError>
         ensures kind { self.new.kind ≡ self.old.kind }
@@ -38,7 +38,7 @@ impl Engine {
         with_each!(AnyStore, &mut self.store, store => store.write_batch(alloc, batch))
     }
 
-    /// Takes the writes of a batch that come behind the last sequence. It is refused as `LiveStore::write_all` says, and no
+    /// Takes the writes of a batch that come after the last sequence. It is refused as `LiveStore::write_all` says, and no
     /// read changes then.
     pub fn write_all(&mut self, alloc: Global, writes: BatchWrites<'_>) -> Result<(), RoomError>
         requires rising { IsRising (lives.last self.old.live) writes }

@@ -1,7 +1,7 @@
 //! What C holds, in a struct of one address: an engine, a batch that is gathered, a view of an engine, a checkpoint of a
 //! view, or a job.
 //!
-//! C cannot hold a `Box`. So [`Handle`] is a struct of one address, which C sees, and the box behind it, which a
+//! C cannot hold a `Box`. So [`Handle`] is a struct of one address, which C sees, and the box at it, which a
 //! contract sees. An export takes a `&mut Handle`, takes the box out of it, calls the engine, and puts the box back.
 //! No export has a pointer in its contract, and none has a proof of its own that speaks of memory. [`BatchHandle`],
 //! [`ViewHandle`], [`CheckpointHandle`] and [`JobHandle`] are the same for the others: no type argument crosses to C.

@@ -84,7 +84,7 @@ impl<O: Operator> LiveStore<O> {
     }
 
     /// Makes a run of what is gathered. From `stop_trigger` runs on it compacts first, and if the options say so, it
-    /// compacts behind that while something is picked. A batch that is prepared is given up.
+    /// compacts after that while something is picked. A batch that is prepared is given up.
     ///
     /// It is refused if no id is left for a run, if no slot is free for one and jobs have the runs that would be
     /// compacted, and for want of memory. What is gathered stays so then, and no read changes.

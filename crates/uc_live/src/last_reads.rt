@@ -1,4 +1,4 @@
-//! Reads at the last sequence, of a version and of the writes that are gathered behind it.
+//! Reads at the last sequence, of a version and of the writes that are gathered after it.
 ghost use Rattle.std.specs.Prelude.{◌≡◌, ◌≢◌, ◌++◌, [], IfOk};
 ghost use Rattle.std.specs.Arc.{arc_value};
 ghost use Rattle.uc_batch.specs.Rising.{IsRising, last_of};

@@ -31,7 +31,7 @@ pub struct LiveOptions {
     /// memtable full flushes it. With more, it leaves a full one to a flush job, until as many as these are full: then it
     /// flushes all that is gathered.
     pub max_write_buffer_number: u32,
-    /// Whether it compacts behind each flush while runs are picked. Else its owner does, and the store only from
+    /// Whether it compacts after each flush while runs are picked. Else its owner does, and the store only from
     /// `stop_trigger` runs on.
     pub compacts_itself: bool,
     /// Which store it is.

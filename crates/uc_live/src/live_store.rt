@@ -93,7 +93,7 @@ impl<O: Operator> LiveStore<O> {
         })
     }
 
-    /// What holds of every live store: its runs and its claims are an owner's, what is gathered lies behind the runs, and its
+    /// What holds of every live store: its runs and its claims are an owner's, what is gathered lies after the runs, and its
     /// options are good. Proof step: does nothing when it runs.
     pub fn recall(&self)
         ensures owner { IsOwner (owner_in self.now) }

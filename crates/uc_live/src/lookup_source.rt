@@ -69,7 +69,7 @@ fn is_in_runs<O: Operator>(
     Ok(false)
 }
 
-/// Where a lookup of a key at the last sequence is answered. It asks as the lookup does, but no run behind the first that
+/// Where a lookup of a key at the last sequence is answered. It asks as the lookup does, but no run after the first that
 /// has a write of the key.
 pub(crate) fn last_source<O: Operator>(
     alloc: Global,

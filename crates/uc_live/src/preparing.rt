@@ -88,7 +88,7 @@ impl<O: Operator> LiveStore<O> {
         Ok(())
     }
 
-    /// Prepares an operation as a batch of its own: it gets the sequence behind the last one, and all memory that it
+    /// Prepares an operation as a batch of its own: it gets the sequence after the last one, and all memory that it
     /// needs. No read sees it before [`commit`](LiveStore::commit). A batch that was prepared before is given up. If
     /// as many memtables are full as it gathers, they are flushed first.
     ///
@@ -111,7 +111,7 @@ impl<O: Operator> LiveStore<O> {
         Ok(())
     }
 
-    /// Prepares writes that come behind the last sequence.
+    /// Prepares writes that come after the last sequence.
     pub(crate) fn prepare_writes(
         &mut self,
         alloc: Global,
@@ -144,8 +144,8 @@ impl<O: Operator> LiveStore<O> {
     }
 
     /// Prepares a write batch, given as bytes (RocksDB, `write_batch.cc`): 8 bytes for a sequence, 4 for a count, and
-    /// as many records. The operations get the batch's sequence and those behind it, in their order. A batch with the
-    /// sequence 0, as a program that builds one leaves it, gets the sequence behind the last one. Else it goes as
+    /// as many records. The operations get the batch's sequence and those after it, in their order. A batch with the
+    /// sequence 0, as a program that builds one leaves it, gets the sequence after the last one. Else it goes as
     /// [`prepare`](LiveStore::prepare) does.
     ///
     /// It is refused if the bytes aren't a batch, if its sequence is neither 0 nor above the last one, if too few
@@ -200,7 +200,7 @@ impl<O: Operator> LiveStore<O> {
         Ok(())
     }
 
-    /// Takes the writes of a batch that come behind the last sequence, with the sequences that they have. A batch that is
+    /// Takes the writes of a batch that come after the last sequence, with the sequences that they have. A batch that is
     /// prepared is given up. Else it goes as [`prepare`](LiveStore::prepare) does.
     ///
     /// It is refused if there is no room for them, as [`RoomError`] says. None is taken then, and no read changes.

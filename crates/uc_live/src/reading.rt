@@ -46,7 +46,7 @@ impl<O: Operator> LiveStore<O> {
     }
 
     /// Looks a key up at a sequence. The answer is a value, if the key has one, or `NotProtected` if no snapshot is at
-    /// the sequence. What is gathered lies behind each snapshot, so it asks the runs alone.
+    /// the sequence. What is gathered lies after each snapshot, so it asks the runs alone.
     pub fn get_at(&self, alloc: Global, key: &[u8], at: u64) -> Result<Answer, AllocError>
         ensures { IfOk result (λ answer.
             answer ≡ answer_of O.meaning (lives.writes_of self.now) self.now.version.keeps (queries.Get key.now at)) }
@@ -74,7 +74,7 @@ impl<O: Operator> LiveStore<O> {
     }
 
     /// The answer to a query at a snapshot, or `NotProtected` if no snapshot is at its sequence. What is gathered lies
-    /// behind each snapshot, so it asks the runs alone.
+    /// after each snapshot, so it asks the runs alone.
     pub fn answer(&self, alloc: Global, query: &Query) -> Result<Answer, AllocError>
         ensures { IfOk result (λ answer.
             answer ≡ answer_of O.meaning (lives.writes_of self.now) self.now.version.keeps query.now) }

@@ -128,7 +128,7 @@ impl<O: Operator> View<O> {
         self.parts.gathered.len()
     }
 
-    /// What holds of every view: what is gathered lies behind the runs. Proof step: does nothing when it runs.
+    /// What holds of every view: what is gathered lies after the runs. Proof step: does nothing when it runs.
     pub fn recall(&self)
         ensures { IsRising self.now.version.last self.now.gathered }
     {

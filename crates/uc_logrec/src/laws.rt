@@ -28,20 +28,20 @@ pub fn walk_begins_log()
         Walks log payloads offset → BeginsWith log payloads offset }
 {}
 
-/// Whatever stands behind a walk, the walk stays the same. So an append that is cut off takes no earlier payload away.
+/// Whatever stands after a walk, the walk stays the same. So an append that is cut off takes no earlier payload away.
 pub fn walk_is_kept()
     ensures { (log : List ℕ) (payloads : List (List ℕ)) (offset : ℕ) →
         Walks log payloads offset → (rest : List ℕ) → Walks (cut_and_added log offset rest) payloads offset }
 {}
 
 /// A log goes on where a walk stands: cut there and continued by more payloads, it is read as the walk's and these. So
-/// a log that is torn or faulty behind the offset is mended.
+/// a log that is torn or faulty after the offset is mended.
 pub fn log_goes_on()
     ensures { (log : List ℕ) (payloads : List (List ℕ)) (offset : ℕ) →
         Walks log payloads offset → (more : List (List ℕ)) → GoesOn log payloads offset more }
 {}
 
-/// So does the walk: over the log that is cut there, and has the bytes of one payload more, it leads behind them.
+/// So does the walk: over the log that is cut there, and has the bytes of one payload more, it leads after them.
 pub fn walk_goes_on()
     ensures { (log : List ℕ) (payloads : List (List ℕ)) (offset : ℕ) →
         Walks log payloads offset → (payload : List ℕ) →

@@ -12,7 +12,7 @@ use uc_bytes::{Bytes, Items};
 pub type Payloads = Items<Bytes>;
 
 /// What a log holds.
-#[derive(Debug, Drop)]
+#[derive(Drop)]
 pub struct LogRead {
     /// The complete payloads before the ending.
     pub payloads: Payloads,

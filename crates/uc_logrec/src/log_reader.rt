@@ -12,20 +12,20 @@ use std::alloc::AllocError;
 use std::marker::Model;
 
 /// What comes next in a log.
-#[derive(Clone, Copy, Debug)]
+#[derive(Clone, Copy)]
 pub enum Next<'a> {
     /// A payload that the log has in one piece.
     Whole(&'a [u8]),
     /// A payload of several pieces, which the buffer has now, joined.
     Joined,
-    /// Behind the last payload, how the log ends.
+    /// After the last payload, how the log ends.
     Ended(Ending),
 }
 
 /// Returns a log's complete payloads one at a time, front to back.
 ///
 /// Contracts see how many it has returned, and what is ahead of it: the payloads to come and the ending.
-#[derive(Debug, Drop)]
+#[derive(Drop)]
 pub struct LogReader<'a> {
     // The end of the last payload, and the bytes from there.
     place: usize,
@@ -82,7 +82,7 @@ impl<'a> LogReader<'a> {
     }
 }
 
-/// What comes at an offset of a log, and the offset behind that payload; if the log ends there, the same offset.
+/// What comes at an offset of a log, and the offset after that payload; if the log ends there, the same offset.
 ///
 /// Offsets are in bytes. A payload may begin at 0 and where an earlier call led. At an offset above its length the log
 /// ends clean. The buffer is for a payload of several pieces, as at [`LogReader::next`]. After an `Err` the call can be
@@ -105,7 +105,7 @@ pub fn next_payload<'a>(
     }
 }
 
-/// What comes next at a place of a log, if these bytes are there; then the place behind that payload, and the bytes from
+/// What comes next at a place of a log, if these bytes are there; then the place after that payload, and the bytes from
 /// there.
 ///
 /// Places are offsets in bytes. A payload may begin at 0 and where an earlier call led. The bytes may be cut off: a payload

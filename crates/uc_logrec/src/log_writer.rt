@@ -14,7 +14,7 @@ use std::marker::Model;
 /// Writes a log into memory, payload by payload.
 ///
 /// A contract sees it as the list of the payloads that were added.
-#[derive(Debug, Drop)]
+#[derive(Drop)]
 pub struct LogWriter {
     text: Vec<u8>,
 }

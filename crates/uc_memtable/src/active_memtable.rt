@@ -20,7 +20,6 @@ use uc_run::{Memtable, Run, SoughtKey};
 
 /// A memtable that is looked into while it takes writes. A contract sees it as the writes that are shown, and those that
 /// were prepared and wait, in order.
-#[derive(Debug)]
 pub struct ActiveMemtable {
     /// All writes, those that wait too.
     writes: Memtable,
@@ -158,7 +157,7 @@ impl ActiveMemtable {
         let _ = &self.shown;
     }
 
-    /// Takes a write, which then waits behind the others. Its sequence is above all of theirs and at most
+    /// Takes a write, which then waits after the others. Its sequence is above all of theirs and at most
     /// [`MAX_SEQUENCE`](uc_bytes::MAX_SEQUENCE). It costs a copy of the texts, amortized. An `Err` changes nothing.
     pub fn prepare(&mut self, write: &WriteRef<'_>) -> Result<(), AllocError>
         requires above { last_of 0 (self.old.shown ++ self.old.waiting) < write.now.seq }
@@ -215,7 +214,7 @@ impl ActiveMemtable {
         }
     }
 
-    /// Takes and shows copies of the writes that another memtable shows, which lie behind all of these. It costs a copy
+    /// Takes and shows copies of the writes that another memtable shows, which lie after all of these. It costs a copy
     /// of the texts. An `Err` changes nothing.
     pub(crate) fn take_shown(&mut self, other: &ActiveMemtable) -> Result<(), AllocError>
         requires none { self.old.waiting ≡ [] }

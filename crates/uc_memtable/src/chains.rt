@@ -10,7 +10,6 @@ use uc_run_points::make_small;
 
 /// A list of labels, in which the places of a label are found from the newest on: a hash table whose buckets are chains
 /// of falling places. A contract sees it as the labels.
-#[derive(Debug)]
 pub(crate) struct Chains {
     /// For each bucket the end of its newest place: the place and 1, or 0 if there is none.
     heads: Vec<usize>,
@@ -71,7 +70,7 @@ impl Chains {
         Ok(())
     }
 
-    /// Keeps the first labels, and forgets those behind them. It takes no memory.
+    /// Keeps the first labels, and forgets those after them. It takes no memory.
     pub(crate) fn truncate(&mut self, count: usize)
         ensures { self.new ≡ take count self.old }
     {

@@ -6,7 +6,7 @@ use crate::active_memtable::ActiveMemtable;
 use std::alloc::AllocError;
 use uc_run::Memtable;
 
-/// Prepares copies of the writes of a memtable from one place to below another, which lie behind all of the active one.
+/// Prepares copies of the writes of a memtable from one place to below another, which lie after all of the active one.
 /// An `Err` leaves some of them waiting.
 pub(crate) fn prepare_range(
     active: &mut ActiveMemtable,

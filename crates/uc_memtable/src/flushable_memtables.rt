@@ -17,11 +17,10 @@ use uc_model::effects_of_parts_compose;
 use uc_oper::{Effect, EffectRef, Operator};
 use uc_run::{Memtable, Run, SoughtKey};
 
-/// Gathered memtables behind older ones that are set apart, so that another thread flushes them. A contract sees them as
+/// Gathered memtables after older ones that are set apart, so that another thread flushes them. A contract sees them as
 /// [`GatheredMemtables`] of all their writes, and how many of the shown ones are set apart.
 ///
 /// What is set apart stays as it is until it is dropped, and is put together with nothing.
-#[derive(Debug)]
 pub struct FlushableMemtables {
     apart: FrozenMemtables,
     behind: GatheredMemtables,
@@ -139,7 +138,7 @@ impl FlushableMemtables {
         let _ = &self.behind;
     }
 
-    /// Takes a write, which then waits behind the others, as [`ActiveMemtable::prepare`] does. An `Err` changes
+    /// Takes a write, which then waits after the others, as [`ActiveMemtable::prepare`] does. An `Err` changes
     /// nothing.
     pub fn prepare(&mut self, write: &WriteRef<'_>) -> Result<(), AllocError>
         requires above { last_of 0 (self.old.shown ++ self.old.waiting) < write.now.seq }

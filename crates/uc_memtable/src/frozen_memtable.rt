@@ -8,7 +8,7 @@ use std::sync::Arc;
 
 /// A memtable that takes no more writes, and which threads share. A contract sees it as the writes that it shows. What
 /// waits in it is of no account.
-#[derive(Debug, Drop)]
+#[derive(Drop)]
 pub(crate) struct FrozenMemtable {
     memtable: Arc<ActiveMemtable>,
 }

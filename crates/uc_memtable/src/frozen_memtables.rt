@@ -19,7 +19,6 @@ use uc_run::{Run, SoughtKey};
 /// Memtables that take no more writes, the oldest first. A contract sees it as all writes that they show, in order.
 ///
 /// They are few: each has more than twice the bytes of the next one, by [`join_small`](FrozenMemtables::join_small).
-#[derive(Debug)]
 pub(crate) struct FrozenMemtables {
     memtables: Vec<FrozenMemtable>,
     /// How many writes they show.
@@ -125,7 +124,7 @@ impl FrozenMemtables {
         })
     }
 
-    /// The memtables again, and newer ones behind them. They are shared.
+    /// The memtables again, and newer ones after them. They are shared.
     pub(crate) fn with(
         &self,
         alloc: Global,
@@ -146,7 +145,7 @@ impl FrozenMemtables {
         })
     }
 
-    /// Freezes a memtable that shows a write, behind the others. An `Err` hands it back, and changes nothing.
+    /// Freezes a memtable that shows a write, after the others. An `Err` hands it back, and changes nothing.
     fn push(&mut self, alloc: Global, memtable: ActiveMemtable) -> Result<(), ActiveMemtable>
         requires some { memtable.shown ≢ [] }
         requires rising { IsRising 0 (self.old ++ memtable.shown) }

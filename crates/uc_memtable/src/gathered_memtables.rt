@@ -21,7 +21,6 @@ use uc_run::{Memtable, Run, SoughtKey};
 ///
 /// [`share`](GatheredMemtables::share) freezes what is shown. Before its first call each method costs what that of the
 /// active memtable does, and a lookup then asks each frozen one in turn, of which there are few.
-#[derive(Debug)]
 pub struct GatheredMemtables {
     frozen: FrozenMemtables,
     active: ActiveMemtable,
@@ -134,7 +133,7 @@ impl GatheredMemtables {
         Ok(one)
     }
 
-    /// One memtable of copies of what frozen ones show, and of all shown writes behind that.
+    /// One memtable of copies of what frozen ones show, and of all shown writes after that.
     pub(crate) fn to_memtable_behind(
         &self,
         alloc: Global,
@@ -155,7 +154,7 @@ impl GatheredMemtables {
         let _ = &self.active;
     }
 
-    /// Takes a write, which then waits behind the others, as [`ActiveMemtable::prepare`] does. An `Err` changes
+    /// Takes a write, which then waits after the others, as [`ActiveMemtable::prepare`] does. An `Err` changes
     /// nothing.
     pub fn prepare(&mut self, write: &WriteRef<'_>) -> Result<(), AllocError>
         requires above { last_of 0 (self.old.shown ++ self.old.waiting) < write.now.seq }
@@ -206,7 +205,7 @@ impl GatheredMemtables {
         })
     }
 
-    /// Takes what is shown out, frozen behind older memtables, with shares of all of those. An `Err` changes nothing.
+    /// Takes what is shown out, frozen after older memtables, with shares of all of those. An `Err` changes nothing.
     pub(crate) fn take_frozen(
         &mut self,
         alloc: Global,

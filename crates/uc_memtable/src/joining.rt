@@ -13,7 +13,7 @@ use uc_model::effects_of_parts_compose;
 use uc_oper::{EffectRef, Operator, then_is_associative};
 use uc_run::{Run, SoughtKey};
 
-/// Freezes a memtable, behind the others. An `Err` hands it back, and changes nothing.
+/// Freezes a memtable, after the others. An `Err` hands it back, and changes nothing.
 pub(crate) fn push_frozen(
     alloc: Global,
     memtables: &mut Vec<FrozenMemtable>,

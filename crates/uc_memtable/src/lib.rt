@@ -5,7 +5,7 @@
 //! `specs/Gathering.antt` and `active_memtable.rt` first, then `sight.rt` and `lookup.rt`.
 //!
 //! [`GatheredMemtables`] does the same, and [`GatheredMemtables::share`] gives other threads what is shown at a moment:
-//! it freezes the active memtable behind those that are frozen already, and begins another. `gathered_memtables.rt`,
+//! it freezes the active memtable after those that are frozen already, and begins another. `gathered_memtables.rt`,
 //! `frozen_memtables.rt` and `joining.rt` have it. [`FlushableMemtables::set_apart`] gives them to a thread that flushes them,
 //! and keeps them apart until [`FlushableMemtables::drop_apart`] (`flushable_memtables.rt`).
 //!

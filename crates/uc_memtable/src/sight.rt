@@ -6,7 +6,7 @@ use uc_bytes::{OpKind, OpRef, WriteRef};
 use uc_run::{Memtable, SoughtKey, same_text, text_order};
 
 /// How a write bears on the older ones of its key.
-#[derive(Clone, Copy, Debug)]
+#[derive(Clone, Copy)]
 pub(crate) enum Bearing {
     /// It merges into what they leave.
     Merges,

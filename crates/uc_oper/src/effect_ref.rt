@@ -12,7 +12,7 @@ use std::marker::Model;
 use uc_bytes::Bytes;
 
 /// Where an effect lies.
-#[derive(Debug, Drop)]
+#[derive(Drop)]
 enum Kind<'a> {
     /// The value is put, and its text lies where it was written.
     Put(&'a [u8]),
@@ -22,7 +22,7 @@ enum Kind<'a> {
 
 /// What some writes together do to the value of one key: an [`Effect`] whose value may still lie where it was written, so
 /// that a put takes no memory. A contract sees it as the [`Effect`].
-#[derive(Debug, Drop)]
+#[derive(Drop)]
 pub struct EffectRef<'a> {
     kind: Kind<'a>,
 }

@@ -5,7 +5,7 @@ ghost use Rattle.std.specs.Prelude.{◌≡◌, ◌≤◌, length, drop, IfOk};
 use crate::operator::Operator;
 use std::alloc::{AllocError, Global};
 
-/// Puts texts behind one another and keeps the last `N` bytes, as a log of bounded length does. A value that was put
+/// Puts texts after one another and keeps the last `N` bytes, as a log of bounded length does. A value that was put
 /// stays whole until an operand meets it.
 ///
 /// A join or a pair copies at most `N` bytes.

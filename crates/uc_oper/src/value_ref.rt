@@ -7,7 +7,7 @@ use std::marker::Model;
 use uc_bytes::Bytes;
 
 /// Where a value lies.
-#[derive(Debug, Drop)]
+#[derive(Drop)]
 enum Place<'a> {
     /// Where it was written.
     Lent(&'a [u8]),
@@ -16,7 +16,7 @@ enum Place<'a> {
 }
 
 /// A value that may still lie where it was written. A contract sees its bytes.
-#[derive(Debug, Drop)]
+#[derive(Drop)]
 pub struct ValueRef<'a> {
     place: Place<'a>,
 }

@@ -8,7 +8,7 @@ use uc_version::Stretch;
 
 /// What is asked of a store in one owner's hands. Claims are held under names, which are numbers below
 /// [`MOST_CLAIMS`](uc_version::MOST_CLAIMS).
-#[derive(Debug, Drop)]
+#[derive(Drop)]
 pub enum Call {
     /// Claim a stretch of runs under a name.
     Claim(u8, Stretch),

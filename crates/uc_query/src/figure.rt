@@ -1,6 +1,6 @@
-//! [`Figure`]: what stands behind a name in a report.
+//! [`Figure`]: the value of a name in a report.
 
-/// What stands behind a name in a report.
+/// The value of a name in a report.
 #[derive(Clone, Copy, Debug, PartialEq, Eq)]
 pub enum Figure {
     /// A number.
@@ -9,5 +9,5 @@ pub enum Figure {
     Range(u64, u64),
 }
 
-/// A name, and what stands behind it.
+/// A name, and its value.
 pub type Field = (&'static str, Figure);

@@ -20,7 +20,7 @@ use uc_version::{MOST_CLAIMS, Owned, OwnedClaim};
 
 /// Claims of a store under names, from 0 to below [`MOST_CLAIMS`]. A contract sees them as a list, for each name the claim
 /// that it stands for, if it stands for one.
-#[derive(Debug, Drop)]
+#[derive(Drop)]
 pub struct NamedClaims {
     claims: [Option<OwnedClaim>; MOST_CLAIMS],
 }

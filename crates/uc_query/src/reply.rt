@@ -6,7 +6,7 @@ use uc_version::{ClaimError, InstallError, Stretch};
 use uc_version_state::FeedError;
 
 /// What comes of a [`Call`](crate::Call).
-#[derive(Debug, Drop)]
+#[derive(Drop)]
 pub enum Reply {
     /// A stretch is claimed under this name.
     Claimed(u8),

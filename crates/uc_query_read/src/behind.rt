@@ -1,4 +1,4 @@
-//! Reads of a version behind writes that are newer than all its runs.
+//! Reads of a version after writes that are newer than all its runs.
 ghost use Rattle.std.specs.Prelude.{◌≡◌, ◌∷◌, IfOk, map};
 ghost use Rattle.std.specs.Arc.{arc_value};
 ghost use Rattle.uc_oper.specs.Composition.{applied};
@@ -88,7 +88,7 @@ fn runs_behind(alloc: Global, newer: Arc<Run>, runs: &[Placed]) -> Result<Vec<Pl
     Ok(all)
 }
 
-/// The rows of a scan, as [`rows_at`] gives them, of a version behind a run that is newer than all its runs. It copies no run.
+/// The rows of a scan, as [`rows_at`] gives them, of a version after a run that is newer than all its runs. It copies no run.
 pub fn rows_behind<O: Operator>(
     alloc: Global,
     newer: Arc<Run>,

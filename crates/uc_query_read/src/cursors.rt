@@ -17,7 +17,7 @@ use uc_version_state::Placed;
 
 /// The place of a walk over the points of runs. A contract sees it as the runs' contents, the newest first, and the
 /// keys of their points that are still ahead: in order, each once, and below a bound if there is one.
-#[derive(Debug, Drop)]
+#[derive(Drop)]
 pub(crate) struct Cursors<'a> {
     // Before the points that are ahead.
     walkers: Walkers<'a>,

@@ -7,7 +7,7 @@
 //!
 //! [`answer_one`] returns the same answer from a version's runs. Read `answering.rt` first, then `lookup.rt`, and for
 //! scans `specs/Ahead.antt`, `specs/Walks.antt`, `walkers.rt`, `cursors.rt`, `dead_keys.rt` and `scan.rt`. `behind.rt` reads a
-//! version behind newer writes.
+//! version after newer writes.
 //!
 //! An `Err(AllocError)` comes only if an allocation fails.
 //!

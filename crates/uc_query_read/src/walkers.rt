@@ -20,7 +20,7 @@ use uc_run::{Cursor, Head, Heads, keys_at_places_are_next, other_keys_are_kept, 
 use uc_version_state::Placed;
 
 /// The least of the next keys.
-#[derive(Clone, Copy, Debug)]
+#[derive(Clone, Copy)]
 pub(crate) struct Least<'a> {
     /// The key.
     pub(crate) key: &'a [u8],
@@ -32,7 +32,7 @@ pub(crate) struct Least<'a> {
 /// the newer ones' next keys have numbers.
 ///
 /// The oldest run is mostly the largest by far: a row that it has alone costs no look at the others.
-#[derive(Debug, Drop)]
+#[derive(Drop)]
 pub(crate) struct Walkers<'a> {
     cursors: Vec<Cursor<'a>>,
     /// The next key of each but the oldest: a row touches only the cursors that are at its key.
@@ -204,7 +204,7 @@ fn effect_of_all<'a, O: Operator>(
     compose::<O>(alloc, older, newer.into_effect(alloc)?)
 }
 
-/// Moves the cursors that are at a key past it. The others are behind it already.
+/// Moves the cursors that are at a key past it. The others are after it already.
 fn pass_there<'a>(cursors: &mut [Cursor<'a>], heads: &mut Heads<'a>, head: Head<'_>)
     requires number { head.number ≡ number_of heads.old.front head.key.now }
     requires stand { AllByRecursion (StandsAt head.key.now false) cursors.old }

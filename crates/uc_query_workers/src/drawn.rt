@@ -7,7 +7,7 @@ use std::collections::VecDeque;
 use uc_query_read::Answer;
 
 /// What a worker drew. It is taken from the front when the answers to the batch are put together.
-#[derive(Debug, Drop)]
+#[derive(Drop)]
 pub struct Drawn {
     /// The numbers of the pieces, in the order in which it drew them.
     pub numbers: VecDeque<usize>,

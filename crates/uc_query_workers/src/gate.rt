@@ -9,7 +9,7 @@ pub trait Gate: Sync {
 }
 
 /// The gate that returns at once.
-#[derive(Clone, Copy, Debug, Drop)]
+#[derive(Clone, Copy, Drop)]
 pub struct Free;
 
 impl Gate for Free {

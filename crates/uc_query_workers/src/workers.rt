@@ -62,7 +62,7 @@ fn put_back<P: Drop>(places: &mut Vec<P>, place: P)
     }
 }
 
-/// Lets one worker draw pieces, in the calling thread, and puts its place back behind the others, for which there is room.
+/// Lets one worker draw pieces, in the calling thread, and puts its place back after the others, for which there is room.
 /// `answers` is empty.
 fn drawn_here<P: Drop, S: Source<P>, G: Gate>(
     alloc: Global,

@@ -1,6 +1,6 @@
 //! Rows: keys with their values, as a scan shows them, in one buffer.
 //!
-//! [`RowBuffer`] keeps rows one behind the other, each as the length of its key, the key, the length of its value, and the
+//! [`RowBuffer`] keeps rows one after the other, each as the length of its key, the key, the length of its value, and the
 //! value: a row takes no memory of its own. [`Rows`] are those whose keys rise. `specs/RowBytes.antt` says how they are spelled;
 //! read it first, then `row_buffer.rt`.
 //!

@@ -1,4 +1,4 @@
-//! [`RowBuffer`]: keys with their values, one behind the other.
+//! [`RowBuffer`]: keys with their values, one after the other.
 ghost use Rattle.std.specs.Prelude.{◌≡◌, ◌<◌, ◌^◌, ◌↔◌, ◌++◌, ◌∷◌, [], length, map, IfOk, IsTrue, OnOk, OnErr};
 ghost use Rattle.uc_rows.specs.RowBytes.{rows_bytes};
 ghost use Rattle.uc_rows.specs.Rising.{same_rows};
@@ -8,7 +8,7 @@ use crate::spelling::push_row;
 use std::alloc::{AllocError, Global};
 use std::marker::Model;
 
-/// Keys with their values, one behind the other in one buffer. A contract sees the list of pairs.
+/// Keys with their values, one after the other in one buffer. A contract sees the list of pairs.
 #[derive(Debug, Drop)]
 pub struct RowBuffer {
     bytes: Vec<u8>,

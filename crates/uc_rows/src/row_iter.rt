@@ -8,7 +8,7 @@ use std::marker::Model;
 
 /// The rows that are still ahead of a walk, in their order: of each its key and its value, both lent. A contract sees their
 /// list.
-#[derive(Debug, Drop)]
+#[derive(Drop)]
 pub struct RowIter<'a> {
     /// The bytes from the next row on.
     bytes: &'a [u8],

@@ -9,7 +9,7 @@ use std::alloc::AllocError;
 /// The bytes of a text's length.
 const LENGTH: usize = 8;
 
-/// Pushes a text behind its length, 8 bytes, low byte first. An `Err` may leave some of its bytes pushed.
+/// Pushes a text after its length, 8 bytes, low byte first. An `Err` may leave some of its bytes pushed.
 #[inline]
 pub fn push_text(bytes: &mut Vec<u8>, text: &[u8]) -> Result<(), AllocError>
     ensures pushed { OnOk result (bytes.new.items ≡ bytes.old.items ++ text_bytes text.now) }
@@ -45,7 +45,7 @@ pub(crate) fn push_row(bytes: &mut Vec<u8>, key: &[u8], value: &[u8]) -> Result<
     Ok(())
 }
 
-/// The text at the front, and the bytes behind it.
+/// The text at the front, and the bytes after it.
 #[inline]
 fn read_text(bytes: &[u8]) -> (&[u8], &[u8])
     ensures text { result.0.now ≡ (spelling.text_from bytes.now).0 }
@@ -58,7 +58,7 @@ fn read_text(bytes: &[u8]) -> (&[u8], &[u8])
     rest.split_at(length.min(rest.len()))
 }
 
-/// The key and the value of the row at the front, and the bytes behind it.
+/// The key and the value of the row at the front, and the bytes after it.
 #[inline]
 #[tactic(auto, unfolding(crate::specs::RowBytes::row_from))]
 pub(crate) fn read_row(bytes: &[u8]) -> ((&[u8], &[u8]), &[u8])

@@ -21,7 +21,7 @@ use uc_run_points::PointSlice;
 
 /// A place in a run, on a walk in order of key. A contract sees it as the run's contents and how many of its points it
 /// passed.
-#[derive(Debug, Drop)]
+#[derive(Drop)]
 pub struct Cursor<'a> {
     run: &'a Run,
     /// The points that aren't passed.

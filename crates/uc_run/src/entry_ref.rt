@@ -12,7 +12,7 @@ use uc_run_entry::WhatRef;
 use uc_run_points::Points;
 
 /// A point with borrowed texts. A contract sees it as the `Entry`.
-#[derive(Debug, Drop)]
+#[derive(Drop)]
 pub(crate) struct EntryRef<'a> {
     key: &'a [u8],
     seq: u64,
@@ -45,7 +45,7 @@ impl<'a> EntryRef<'a> {
         self.key
     }
 
-    /// Its order to another whose key has the same front of shared bytes: by what is behind it, the newest of a key first.
+    /// Its order to another whose key has the same front of shared bytes: by what is after it, the newest of a key first.
     #[inline]
     pub(crate) fn order_behind(&self, other: &EntryRef<'_>, shared: usize) -> Ordering
         ensures { result ≡ behind_cmp shared self.now other.now }

@@ -22,7 +22,6 @@ const FEW_POINTS: usize = 8;
 
 /// The key of the first point of each block, apart from the points, so that a search touches few cache lines. A
 /// contract sees it as these keys.
-#[derive(Debug)]
 pub(crate) struct Fences {
     keys: Vec<Bytes>,
     /// How many bytes all keys have in common at their front.
@@ -157,7 +156,7 @@ fn further(points: &Points, place: usize, steps: usize, low: &[u8], strict: bool
     }
 }
 
-/// The points that the search finds, and all behind them. It looks into one block, the last whose fence lies before the search:
+/// The points that the search finds, and all after them. It looks into one block, the last whose fence lies before the search:
 /// at the first points of two of its quarters, and at those of the last quarter that begins before the search, one by one.
 pub(crate) fn found_by_fences<'a>(
     points: &'a Points,

@@ -19,7 +19,6 @@ const PARTS: usize = 4;
 
 /// A Bloom filter (Bloom, 1970) in blocks of a cache line (RocksDB wiki, "RocksDB Bloom Filter"): a look at it touches
 /// one line. A contract sees it as its words. One without words admits no key.
-#[derive(Debug)]
 pub(crate) struct Filter {
     words: Vec<u64>,
 }
@@ -163,7 +162,7 @@ fn words_by_parts<R: Threads + Sync>(
 }
 
 /// As [`filter_of`], made of four parts of the points side by side, in threads. It is as large as if each point had a key of its own,
-/// as most have behind a compaction.
+/// as most have after a compaction.
 pub(crate) fn filter_in_threads<R: Threads + Sync>(
     rt: &R,
     alloc: Global,

@@ -13,7 +13,7 @@ pub(crate) const BLOCK_WORDS: usize = 8;
 const HALF_WORDS: usize = 4;
 
 /// Where the bits of a key lie: some in a word of a block's first half, and some in a word of its second half.
-#[derive(Clone, Copy, Debug)]
+#[derive(Clone, Copy)]
 struct Probes {
     first: usize,
     first_bits: u64,

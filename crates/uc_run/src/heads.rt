@@ -16,7 +16,7 @@ use std::marker::Model;
 use uc_run_points::PointSlice;
 
 /// A next key, and the number by which [`Heads::is_at`] finds it.
-#[derive(Clone, Copy, Debug)]
+#[derive(Clone, Copy)]
 pub struct Head<'a> {
     /// The key.
     pub key: &'a [u8],
@@ -26,7 +26,7 @@ pub struct Head<'a> {
 
 /// The next key of each of several walks in order of key, or none where a walk is at its end. A contract sees them as
 /// that, beside a front that most of them begin with.
-#[derive(Debug, Drop)]
+#[derive(Drop)]
 pub struct Heads<'a> {
     front: &'a [u8],
     keys: Vec<Option<&'a [u8]>>,
@@ -81,7 +81,7 @@ fn first_keys<'a>(
     Ok(keys)
 }
 
-/// A number that doesn't fall as keys rise: of the eight bytes behind the front, if the key begins with it.
+/// A number that doesn't fall as keys rise: of the eight bytes after the front, if the key begins with it.
 #[inline]
 fn number_of(front: &[u8], key: &[u8]) -> u64
     ensures number { result ≡ heads.number_of front.now key.now }

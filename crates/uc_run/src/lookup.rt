@@ -153,7 +153,7 @@ fn value_put<'a>(
 }
 
 /// The sequence of the newest range deletion over the key at or below the sequence, among fragments that are there. For a key
-/// before the first fragment or behind the last it is a few comparisons, and otherwise a binary search.
+/// before the first fragment or after the last it is a few comparisons, and otherwise a binary search.
 fn newest_among(fragments: &[Fragment], key: &[u8], at: u64) -> Option<u64>
     requires order { AreInOrder fragments.now }
     requires falling { AllByRecursion (λ f. IsFalling f.seqs) fragments.now }

@@ -16,7 +16,7 @@ use uc_bytes::{Write, WriteRef};
 
 /// The newest writes, before they become a run (RocksDB wiki, "MemTable"). A contract sees it as the list of the
 /// writes that were inserted, in order.
-#[derive(Debug, Drop)]
+#[derive(Drop)]
 pub struct Memtable {
     slots: Slots,
     size: u64,
@@ -108,7 +108,7 @@ impl Memtable {
         Ok(())
     }
 
-    /// Keeps the first writes, and forgets those behind them. It takes no memory, and looks at each write that it keeps.
+    /// Keeps the first writes, and forgets those after them. It takes no memory, and looks at each write that it keeps.
     pub fn truncate(&mut self, count: usize)
         ensures { self.new ≡ take count self.old }
     {

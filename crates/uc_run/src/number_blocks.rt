@@ -12,7 +12,7 @@ const BLOCK_NUMBERS: usize = 16;
 
 /// Numbers, in one piece, and beside them the least of each block: a search looks only into blocks that may have its
 /// number. A contract sees it as the list of the numbers.
-#[derive(Debug, Drop)]
+#[derive(Drop)]
 pub(crate) struct NumberBlocks {
     numbers: Vec<u64>,
     leasts: Vec<u64>,

@@ -88,7 +88,7 @@ impl<'a> Ranked<'a> {
         rank_of(prefix_of(rest), rank, self.bits)
     }
 
-    /// The order of two points, by what is behind the bytes that all keys share. Only few pairs come here: it stands apart,
+    /// The order of two points, by what is after the bytes that all keys share. Only few pairs come here: it stands apart,
     /// so that the sort's loops stay short.
     #[inline(never)]
     fn order_of_points(&self, rank: u64, other: u64, shared: usize) -> Ordering

@@ -32,7 +32,6 @@ use uc_run_points::{PointSlice, Points, points_of};
 
 /// An immutable sorted table (LevelDB `table_format.md`, in memory): points in order of key, fragments of range
 /// deletions, and the range of their sequences. A contract sees it as these.
-#[derive(Debug)]
 pub struct Run {
     low: u64,
     high: u64,

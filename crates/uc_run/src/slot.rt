@@ -13,7 +13,7 @@ const KINDS: u64 = 4;
 
 /// A write whose bytes lie in an arena, up to where those of the next slot start. They are the length of the first text as a
 /// number, the first text, and the second.
-#[derive(Debug, Drop)]
+#[derive(Drop)]
 pub(crate) struct Slot {
     /// The sequence above two bits of the kind.
     trailer: u64,

@@ -10,7 +10,7 @@ use uc_bytes::{OpKind, OpRef, WriteRef};
 use uc_run_entry::{Range, WhatRef};
 
 /// A slot's write, taken apart: its texts stay in the arena. A contract sees it as the `Write`.
-#[derive(Debug, Drop)]
+#[derive(Drop)]
 pub(crate) struct SlotRef<'a> {
     seq: u64,
     kind: OpKind,

@@ -9,7 +9,7 @@ use crate::slot_ref::SlotRef;
 use std::marker::Model;
 
 /// Slots, and the arena up to where their bytes end. It takes no memory. A contract sees the list of the writes.
-#[derive(Debug, Drop)]
+#[derive(Drop)]
 pub(crate) struct SlotSlice<'a> {
     text: &'a [u8],
     slots: &'a [Slot],

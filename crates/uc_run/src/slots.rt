@@ -12,9 +12,8 @@ use uc_bytes::WriteRef;
 use uc_run_points::{make_small, push_number};
 
 /// Writes in the order of their insertion, packed. A contract sees their list.
-#[derive(Debug)]
 pub(crate) struct Slots {
-    /// The arena: the bytes of all writes, one behind the other.
+    /// The arena: the bytes of all writes, one after the other.
     text: Vec<u8>,
     slots: Vec<Slot>,
 }
@@ -121,7 +120,7 @@ impl Slots {
         Ok(())
     }
 
-    /// Keeps the first writes, and forgets those behind them. It takes no memory.
+    /// Keeps the first writes, and forgets those after them. It takes no memory.
     pub(crate) fn truncate(&mut self, count: usize)
         ensures { self.new ≡ take count self.old }
     {

@@ -6,7 +6,7 @@ use crate::hashing::key_hash;
 use std::marker::Model;
 
 /// A key that is looked up in several places: its hash is computed once for all of them. A contract sees it as the key.
-#[derive(Debug, Drop)]
+#[derive(Drop)]
 pub struct SoughtKey<'a> {
     key: &'a [u8],
     /// The key's hash.

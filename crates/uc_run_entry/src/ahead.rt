@@ -8,7 +8,7 @@ use std::alloc::{AllocError, Global};
 use std::marker::Model;
 
 /// The sequences of a fragment that are still ahead, the newest first. A contract sees their list.
-#[derive(Debug, Drop)]
+#[derive(Drop)]
 pub struct SeqsAhead<'a> {
     spans: &'a Spans,
     fragment: usize,

@@ -9,7 +9,7 @@ use std::marker::Model;
 use std::sync::Arc;
 
 /// The sequences of one of many fragments, whose lists stand in one vector. A contract sees the list.
-#[derive(Debug, Drop)]
+#[derive(Drop)]
 pub(crate) struct Few {
     lists: Arc<Lists<u64>>,
     number: usize,

@@ -17,7 +17,7 @@ use std::sync::Arc;
 /// deletions, the newest first.
 ///
 /// Fragments share the cut points that they lie between: one takes 40 bytes, and its end's 8 beside the text.
-#[derive(Debug, Drop)]
+#[derive(Drop)]
 pub struct Fragment {
     cuts: Arc<Lists<u8>>,
     first: usize,

@@ -19,7 +19,6 @@ use std::sync::Arc;
 pub(crate) const FEW: u64 = 8;
 
 /// Fragments, and the spans that those with many sequences share. A contract sees the list of the fragments.
-#[derive(Debug)]
 pub struct Fragments {
     list: Vec<Fragment>,
     spans: Option<Arc<Spans>>,

@@ -10,7 +10,6 @@ use std::marker::Model;
 /// the lists.
 ///
 /// A list takes 8 bytes beside its items.
-#[derive(Debug)]
 pub struct Lists<T> {
     starts: Vec<usize>,
     items: Vec<T>,

@@ -4,7 +4,7 @@ ghost use Rattle.uc_run_entry.specs.Tree as tree;
 
 /// A node of the tree over fragments: its number, and its fragments, from `low` to below `high`. Numbers are in
 /// preorder: the node, the nodes of its first half, then those of its second half.
-#[derive(Clone, Copy, Debug)]
+#[derive(Clone, Copy)]
 pub(crate) struct Node {
     pub(crate) number: usize,
     pub(crate) low: usize,

@@ -6,7 +6,7 @@ use std::marker::Model;
 
 /// A range deletion: it covers the keys from a begin to below an end, and none if the begin is not below the end. A
 /// contract sees it as a `RangeOf`.
-#[derive(Debug, Drop)]
+#[derive(Drop)]
 pub struct Range<'a> {
     begin: &'a [u8],
     end: &'a [u8],

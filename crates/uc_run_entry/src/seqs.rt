@@ -21,7 +21,7 @@ use std::slice;
 use std::sync::Arc;
 
 /// Where the sequences are.
-#[derive(Debug, Drop)]
+#[derive(Drop)]
 enum Kind {
     /// Here: there is one.
     One(u64),
@@ -35,7 +35,7 @@ enum Kind {
 ///
 /// One stands here. Some are one of many lists in one vector. Many are shared: then many fragments share one [`Spans`], and
 /// each takes only its place there, however many sequences it has.
-#[derive(Debug, Drop)]
+#[derive(Drop)]
 pub struct Seqs {
     kind: Kind,
 }

@@ -12,7 +12,7 @@ use std::marker::Model;
 use std::sync::Arc;
 
 /// The sequences of one of the fragments of shared spans. A contract sees their list.
-#[derive(Debug, Drop)]
+#[derive(Drop)]
 pub(crate) struct Share {
     spans: Arc<Spans>,
     fragment: usize,

@@ -37,7 +37,6 @@ fn first_seq(spans: &[Span]) -> Option<u64>
 /// sequences, each of them falling.
 ///
 /// For n spans over m fragments it takes memory for m and for n log m numbers.
-#[derive(Debug)]
 pub struct Spans {
     fragments: usize,
     spans: Vec<Span>,

@@ -1,6 +1,6 @@
 //! Points of a run in little memory: their bytes in one arena.
 //!
-//! [`Points`] keeps entries one behind the other, as bytes, and the place of each fourth. A contract sees it as the list of
+//! [`Points`] keeps entries one after the other, as bytes, and the place of each fourth. A contract sees it as the list of
 //! the entries. `specs/Spelling.antt` says how an entry is spelled; read it first, then `points.rt`.
 //!
 //! A [`PointRef`] is one of the points, and a [`PointSlice`] some that are neighbours. Both borrow: the texts stay where

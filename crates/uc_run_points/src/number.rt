@@ -94,7 +94,7 @@ fn wide_number(bytes: &[u8]) -> u64
     ])
 }
 
-/// The number at the front, and the bytes behind it.
+/// The number at the front, and the bytes after it.
 #[inline]
 #[tactic(auto, unfolding(crate::specs::Numbers::number_from))]
 pub fn read_number(bytes: &[u8]) -> (u64, &[u8])
@@ -112,7 +112,7 @@ pub fn read_number(bytes: &[u8]) -> (u64, &[u8])
     (low_number(low), rest)
 }
 
-/// The bytes behind the number at the front.
+/// The bytes after the number at the front.
 #[inline]
 #[tactic(auto, unfolding(crate::specs::Numbers::number_from))]
 pub(crate) fn skip_number(bytes: &[u8]) -> &[u8]

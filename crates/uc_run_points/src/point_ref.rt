@@ -18,7 +18,7 @@ const DELETION: u64 = 0x0;
 const VALUE: u64 = 0x1;
 
 /// A point of a run, one change of one key, with borrowed texts. A contract sees it as the [`Entry`].
-#[derive(Debug, Drop)]
+#[derive(Drop)]
 pub struct PointRef<'a> {
     key: &'a [u8],
     /// Bytes that begin with the trailer, the sequence above two bits of the tag. Most walks never read it.

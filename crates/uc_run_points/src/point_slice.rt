@@ -10,7 +10,7 @@ use crate::points_ahead::PointsAhead;
 use std::marker::Model;
 
 /// Points that are neighbours, as a slice has elements. It takes no memory. A contract sees their list.
-#[derive(Debug, Drop)]
+#[derive(Drop)]
 pub struct PointSlice<'a> {
     /// All points, of which these are some.
     points: &'a Points,

@@ -20,9 +20,8 @@ use uc_run_entry::{Entry, WhatRef, make_small};
 pub(crate) const QUARTER_POINTS: usize = 4;
 
 /// Points in one arena, with the places at which quarters of blocks begin. A contract sees the list of the entries.
-#[derive(Debug)]
 pub struct Points {
-    /// The arena: the entries' bytes, one behind the other.
+    /// The arena: the entries' bytes, one after the other.
     bytes: Vec<u8>,
     /// The offset of the first entry of each quarter.
     starts: Vec<usize>,
@@ -201,7 +200,7 @@ impl Points {
         Ok(())
     }
 
-    /// Keeps the first points, which have so many bytes, and forgets those behind them.
+    /// Keeps the first points, which have so many bytes, and forgets those after them.
     pub fn truncate(&mut self, count: usize, size: usize)
         requires count { count ≤ length self.old }
         requires size { size ≡ length (spelling.entries_text (take count self.old)) }

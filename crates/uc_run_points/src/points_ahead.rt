@@ -11,11 +11,11 @@ use std::marker::Model;
 /// The points that are still ahead of a walk, in their order. A contract sees their list.
 ///
 /// The next one is read already, so a second look at it costs nothing.
-#[derive(Debug, Drop)]
+#[derive(Drop)]
 pub struct PointsAhead<'a> {
     /// The next point. If none is ahead, it is of no account.
     first: PointRef<'a>,
-    /// The bytes behind it.
+    /// The bytes after it.
     behind: &'a [u8],
     /// How many points are ahead.
     count: usize,
@@ -88,7 +88,7 @@ impl<'a> PointsAhead<'a> {
         Some(self.first.again())
     }
 
-    /// Passes over the next point, if there is one, and reads the one behind it.
+    /// Passes over the next point, if there is one, and reads the one after it.
     #[inline]
     fn step(&mut self)
         ensures { self.new ≡ drop 1 self.old }
@@ -124,7 +124,7 @@ impl<'a> PointsAhead<'a> {
         }
     }
 
-    /// Keeps the next points, so many if there are as many, and forgets those behind them.
+    /// Keeps the next points, so many if there are as many, and forgets those after them.
     #[inline]
     pub(crate) fn truncate(&mut self, count: usize)
         ensures { self.new ≡ take count self.old }

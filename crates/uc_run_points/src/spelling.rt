@@ -49,7 +49,7 @@ pub(crate) fn push_entry(
     Ok(())
 }
 
-/// So many bytes at the front, and those behind them; all and none if there are fewer.
+/// So many bytes at the front, and those after them; all and none if there are fewer.
 #[inline]
 fn split_front(bytes: &[u8], count: u64) -> (&[u8], &[u8])
     ensures front { result.0.now ≡ take count bytes.now }
@@ -58,7 +58,7 @@ fn split_front(bytes: &[u8], count: u64) -> (&[u8], &[u8])
     bytes.split_at(bytes.len().min(count as usize))
 }
 
-/// The entry at the front, and the bytes behind it.
+/// The entry at the front, and the bytes after it.
 #[inline]
 #[tactic(auto, unfolding(crate::specs::Spelling::entry_from))]
 pub(crate) fn read_entry(bytes: &[u8]) -> (PointRef<'_>, &[u8])

@@ -18,7 +18,7 @@ use uc_bytes::Op;
 /// at a time. It gathers the writes of a `feed` on the way, and holds them until then.
 ///
 /// Contracts see it as the calls that are ahead of it.
-#[derive(Debug, Drop)]
+#[derive(Drop)]
 pub struct CallReader<'a> {
     // The lines that are left.
     lines: &'a [u8],

@@ -9,7 +9,7 @@ use thiserror::Error;
 /// Why a script, or the head of a log, could not be read.
 #[derive(Debug, Drop, Error)]
 pub enum ScriptError {
-    /// The number, from 1, of the first faulty line. If only `open`, only a `feed` behind a write, or only `log` is
+    /// The number, from 1, of the first faulty line. If only `open`, only a `feed` after a write, or only `log` is
     /// missing, that is the line after the last.
     #[error("line {0} is not as it should be")]
     Fault(u64),

@@ -10,7 +10,7 @@ use std::alloc::{AllocError, Global};
 use std::mem;
 use uc_bytes::{Items, Op};
 
-/// What a line asks, if it asks anything. Its change is gathered behind the others, and a `feed` takes them all, without
+/// What a line asks, if it asks anything. Its change is gathered after the others, and a `feed` takes them all, without
 /// a copy.
 ///
 /// An `Err` leaves the changes as they were.

@@ -14,7 +14,7 @@ use std::alloc::Global;
 use uc_bytes::Items;
 
 /// The lines before a log, without their queries: a [`QueryReader`](crate::QueryReader) over its bytes returns those.
-#[derive(Debug, Drop)]
+#[derive(Drop)]
 pub struct Head {
     /// The numbers of the `keep` lines in order.
     pub keeps: Keeps,

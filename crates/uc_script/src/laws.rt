@@ -15,9 +15,9 @@ ghost use Rattle.uc_script.specs.Short.{AreNoLonger};
 ghost use Rattle.uc_script.specs.Texts.{number_of, text_of};
 ghost use Rattle.uc_script.specs.declared.script.Script.{Script};
 
-/// A script is setup lines, one `open`, and lines of which each change has a `feed` behind it, and asks what they name in
+/// A script is setup lines, one `open`, and lines of which each change has a `feed` after it, and asks what they name in
 /// the order of the lines. Any other text has its fault at the first line that does not fit, or one past the last line if
-/// no `open` comes, or no `feed` behind a change. There is no other outcome, and no two of them.
+/// no `open` comes, or no `feed` after a change. There is no other outcome, and no two of them.
 pub fn a_script_is_its_lines()
     ensures comes { (text : List ℕ) → ComesTo (lines_of text) (script_of text) }
     ensures alone { (text : List ℕ) (outcome : Result Script ℕ)

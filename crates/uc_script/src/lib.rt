@@ -2,7 +2,7 @@
 //! is wrong with a line.
 //!
 //! A script is lines of fields. The lines before its one `open` say what to write and which sequences to keep, and
-//! those after it what to ask. There too come writes: a `feed` behind them asks that they are written. Either each line
+//! those after it what to ask. There too come writes: a `feed` after them asks that they are written. Either each line
 //! is right, or the script has a fault at one, or its last writes lack their `feed`; nothing else about a script can be
 //! wrong. Scripts are bytes and not UTF-8: a comment may hold any byte but LF.
 //!

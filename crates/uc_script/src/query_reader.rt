@@ -12,7 +12,7 @@ use std::marker::Model;
 /// Goes through the bytes of a head that was read before, front to back, and returns its queries, a few at a time.
 ///
 /// Contracts see it as the queries that are ahead of it.
-#[derive(Debug, Drop)]
+#[derive(Drop)]
 pub struct QueryReader<'a> {
     // The lines that are left.
     lines: &'a [u8],

@@ -12,7 +12,7 @@ pub type Keeps = Items<u64>;
 pub type Calls = Items<Call>;
 
 /// What a script asks: the lines before its `open`, and those after it.
-#[derive(Debug, Drop)]
+#[derive(Drop)]
 pub struct Script {
     /// The changes before `open`, in order. The first has the sequence 1, the next 2, and so on.
     pub ops: Ops,
@@ -24,7 +24,7 @@ pub struct Script {
 
 /// The part of a script up to its `open`. A [`CallReader`](crate::CallReader) over the bytes after it returns its
 /// calls.
-#[derive(Debug, Drop)]
+#[derive(Drop)]
 pub struct Preamble {
     /// The changes before `open`, in order. The first has the sequence 1, the next 2, and so on.
     pub ops: Ops,

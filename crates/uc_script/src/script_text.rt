@@ -39,7 +39,7 @@ struct Opened<'a> {
 /// [`NAMES`](crate::NAMES); and `compact FIRST COUNT`, `pick` and `report`. Keys and values are hexadecimal in either
 /// case, or `.` for no bytes. Numbers are decimal without sign or needless zeros, at most 2^64 - 1.
 ///
-/// An `Err` has the number of the first faulty line, from 1. If only `open` is missing, or a `feed` behind a write, that
+/// An `Err` has the number of the first faulty line, from 1. If only `open` is missing, or a `feed` after a write, that
 /// is one past the last line.
 pub fn read_script(alloc: Global, text: &[u8]) -> Result<Script, ScriptError>
     ensures { Gives (λ script. script) result (script_of text.now) }

@@ -1,4 +1,4 @@
-//! [`Desk`]: what stands behind a store's lock, and what is done there.
+//! [`Desk`]: what stands under a store's lock, and what is done there.
 ghost use Rattle.std.specs.Prelude.{◌≡◌, ◌≢◌, List, None, IfErr, IfOk, IfSome, IfNone, OnOk, fold, option_map};
 ghost use mathlib.Core.List.{IsPrefix};
 ghost use Rattle.uc_version_state.specs.Versions.{contents_of, ids_of};
@@ -40,7 +40,7 @@ fn recall_shown<O: Operator, N: Name>(rt: &impl Wait, pin: &Pin<O, N>, shown: &F
     }
 }
 
-/// What stands behind a store's lock: what shows readers the next version.
+/// What stands under a store's lock: what shows readers the next version.
 #[derive(Drop)]
 pub(crate) struct Desk<O: Operator, N: Name, W: Wait + Drop> {
     pub(crate) publisher: Option<Publisher<O, N, W>>,
@@ -48,7 +48,7 @@ pub(crate) struct Desk<O: Operator, N: Name, W: Wait + Drop> {
 }
 
 impl<O: Operator, N: Name, W: Wait + Drop> Desk<O, N, W> {
-    /// What stands behind the lock of a store that shows so.
+    /// What stands under the lock of a store that shows so.
     pub(crate) fn new(publisher: Publisher<O, N, W>) -> Desk<O, N, W> {
         Desk {
             publisher: Some(publisher),
@@ -91,7 +91,7 @@ impl<O: Operator, N: Name, W: Wait + Drop> Desk<O, N, W> {
     }
 }
 
-/// What shows readers the next version, behind an install.
+/// What shows readers the next version, after an install.
 fn installed<O: Operator, N: Name, W: Wait + Drop, R: Wait>(
     rt: &R,
     alloc: Global,
@@ -179,7 +179,7 @@ fn version_refusal<O: Operator, N: Name, W: Wait + Drop>(
     present_refusal(held.runs(), publisher.shown().version(), made)
 }
 
-/// What the claimed runs themselves were compacted to is refused for two reasons by all versions behind the one that was pinned.
+/// What the claimed runs themselves were compacted to is refused for two reasons by all versions after the one that was pinned.
 /// Proof step: does nothing when it runs.
 fn own_is_refused_for_two_reasons<O: Operator, N: Name>(held: &Held<O, N>)
     ensures { (now : List Event) (error : InstallError) → IsPrefix held.now.pin.events now → MayFollow O.meaning N.base now →

@@ -12,7 +12,7 @@ ghost use Rattle.uc_claims.specs.Holding.{AreDistinct};
 use uc_oper::Operator;
 use uc_version_state::runs_are_replaced_once;
 
-/// What was seen goes behind every legal history with which the store was opened: the longer history is legal, and the version
+/// What was seen goes after every legal history with which the store was opened: the longer history is legal, and the version
 /// after it is the one that what was seen leads to.
 pub fn fronts_go_behind_histories<O: Operator>()
     ensures legal { (h : History) (base : Stored) (events : List Event) → IsLegal O.meaning h →
@@ -22,7 +22,7 @@ pub fn fronts_go_behind_histories<O: Operator>()
         version_after (record h { events = h.events ++ events }) ≡ fold after base events }
 {}
 
-/// No run is replaced twice, in no front: behind every legal history with which the store was opened, the ids of all runs that the
+/// No run is replaced twice, in no front: after every legal history with which the store was opened, the ids of all runs that the
 /// events of a front replace are distinct, and they were replaced by none before.
 pub fn fronts_replace_runs_once<O: Operator>()
     ensures { (h : History) (base : Stored) (events : List Event) → IsLegal O.meaning h →

@@ -1,7 +1,7 @@
 //! The store that threads share: readers pin versions, compactors claim stretches of them, compact beside the readers, and
 //! install what they made, while others feed writes and take snapshots, all in one history.
 //!
-//! An [`Opening`] is opened from writes and becomes a [`Store`] once it has a name. A store has claim words, and behind a lock
+//! An [`Opening`] is opened from writes and becomes a [`Store`] once it has a name. A store has claim words, and under a lock
 //! what shows readers the next version. A [`Reader`] pins versions without waiting. A compactor's turn goes through these types,
 //! each of which is made of the one before by one function alone, so that its steps come in this order:
 //!
@@ -16,7 +16,7 @@
 //! who takes turns alone.
 //!
 //! Meanwhile [`Store::feed`] feeds writes, and [`Store::keep`] and [`Store::release`] take and release snapshots. Each of these, as
-//! each install, is one event behind the history, and shown to all readers at once.
+//! each install, is one event after the history, and shown to all readers at once.
 //!
 //! An `Err(AllocError)` or `Memory` comes only if an allocation fails or too many own what is shared.
 //!

@@ -29,7 +29,7 @@ impl<O: Operator, N: Name, W: Wait + Drop> Store<O, N, W> {
     /// for one, and then for want of memory. The version that the reader then has seen shows it: nothing was fed.
     ///
     /// It looks at a pin first, so most refusals are told before anything is flushed. The writes are flushed before the lock is
-    /// taken, and no text is looked at behind it. It waits for others that publish, and for readers that still look at the version
+    /// taken, and no text is looked at after it. It waits for others that publish, and for readers that still look at the version
     /// before. It costs two copies of each text and a sort of what is fed.
     pub fn feed(
         &self,

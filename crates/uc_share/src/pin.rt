@@ -66,7 +66,7 @@ impl<O: Operator, N: Name> Pin<O, N> {
         self.front.again()
     }
 
-    /// The version is the one after its history, which is legal behind the store's opening. It does nothing.
+    /// The version is the one after its history, which is legal after the store's opening. It does nothing.
     pub fn recall(&self)
         ensures { IsMoment O.meaning N.keeps_stay N.book N.base self.now }
     {

@@ -27,7 +27,7 @@ use uc_run::Run;
 use uc_version_open::version_with_flushed;
 use uc_version_state::{Event, Install, Version};
 
-/// What shows readers the next version. It stands behind the store's lock. It has the store's history, all of which is shown. It
+/// What shows readers the next version. It stands under the store's lock. It has the store's history, all of which is shown. It
 /// keeps a `Wait` handle, since it waits for readers that still look at a version of before, also when it is dropped. Contracts
 /// see what it shows.
 pub struct Publisher<O: Operator, N: Name, W: Wait + Drop> {
@@ -116,7 +116,7 @@ impl<O: Operator, N: Name, W: Wait + Drop> Publisher<O, N, W> {
         self.writer.published()
     }
 
-    /// The store's history. All of it is shown, also behind a refused publication.
+    /// The store's history. All of it is shown, also after a refused publication.
     pub fn history(&self) -> &Front<N>
         ensures { result.now ≡ self.now.events }
     {
@@ -193,7 +193,7 @@ impl<O: Operator, N: Name, W: Wait + Drop> Publisher<O, N, W> {
         }
     }
 
-    /// Shows readers the version after the event that `about` says, whole. All memory is asked for before the event goes behind
+    /// Shows readers the version after the event that `about` says, whole. All memory is asked for before the event goes after
     /// the history, and then it is shown.
     fn show_event<X, M: Plain<X, Event, u64>>(
         self,
@@ -226,7 +226,7 @@ impl<O: Operator, N: Name, W: Wait + Drop> Publisher<O, N, W> {
     }
 }
 
-/// Queues what comes next behind what is queued. The queue has had room since the opening, so the first turn is the last.
+/// Queues what comes next after what is queued. The queue has had room since the opening, so the first turn is the last.
 fn queued<O: Operator, N: Name, W: Wait>(
     rt: &W,
     mut writer: Writer<Shown, Shown, u64, Rises<O, N>>,

@@ -20,7 +20,7 @@ use uc_oper::Operator;
 pub(crate) type Place<O, N> = reader::Reader<Shown, u64, Rises<O, N>>;
 
 /// A thread's reader. It pins versions, and has seen a beginning of the store's history. Contracts see that beginning: the
-/// events since the version that the store was opened with. It is legal behind every history with which that version stands.
+/// events since the version that the store was opened with. It is legal after every history with which that version stands.
 pub struct Reader<O: Operator, N: Name> {
     place: Option<Place<O, N>>,
     front: Front<N>,

@@ -5,7 +5,7 @@
 //!
 //! | Kind of step | Made by | What it does |
 //! |---|---|---|
-//! | add | `Book::add`, by `Publisher::show_event` alone | an event goes behind the history, all of which is shown |
+//! | add | `Book::add`, by `Publisher::show_event` alone | an event goes after the history, all of which is shown |
 //! | publish | `Publisher::show_event` | the version after that event is shown, with the history up to it |
 //! | enter | `Reader::pin` | the reader sees the history that is shown, and what it knew is a beginning of that |
 use crate::name::Name;

@@ -34,7 +34,7 @@ use uc_oper::Operator;
 use uc_version_compact::{ClaimError, InstallError, are_inputs, install_of, pick};
 use uc_version_state::{Options, Stretch, picks_are_unclaimed_runs};
 
-/// A store that threads share by reference: claim words for the slots of its runs, and behind a lock what shows readers the
+/// A store that threads share by reference: claim words for the slots of its runs, and under a lock what shows readers the
 /// next version. Contracts see its table of claim words, which its seats carry too, and how it is compacted.
 pub struct Store<O: Operator, N: Name, W: Wait + Drop> {
     words: Words,
@@ -186,7 +186,7 @@ impl<O: Operator, N: Name, W: Wait + Drop> Store<O, N, W> {
     /// Puts what was compacted of the claimed runs in their place, for all readers at once, and shows it to this one. Of several
     /// refusals the first of these is answered: `WrongInputs`, `WrongKeeps`, `Stale`, `IdsSpent`; and `Memory` only if none of
     /// these holds. What [`Held::compact`] makes is never told the first two, whatever was fed, kept, released and installed
-    /// meanwhile. The inputs' points are compared before the lock is taken, and none behind it. It waits for other installs,
+    /// meanwhile. The inputs' points are compared before the lock is taken, and none after it. It waits for other installs,
     /// and for readers that still look at the version before.
     pub fn install(
         &self,

@@ -12,7 +12,7 @@ pub trait TurnGate: Sync {
 }
 
 /// The gate that returns at once.
-#[derive(Clone, Copy, Debug, Drop)]
+#[derive(Clone, Copy, Drop)]
 pub struct Ungated;
 
 impl TurnGate for Ungated {

@@ -28,7 +28,7 @@ pub(crate) fn numbered(alloc: Global, mut seq: u64, ops: Vec<Op>) -> Result<Vec<
 /// there are more, as [`Owned::feed`] does. If they don't fit one batch, the store doesn't take them or memory runs out,
 /// the store is as it was.
 ///
-/// A log has the same batch, if `write_batch` of uc_batch spells it with the sequence behind the last one.
+/// A log has the same batch, if `write_batch` of uc_batch spells it with the sequence after the last one.
 pub fn feed_batch<O: Operator>(
     alloc: Global,
     store: &mut Owned<O>,

@@ -48,7 +48,7 @@ pub struct Soak<'a, O: Operator, N: Name, W: Wait + Drop, R> {
     pub scene: Scene<'a, O, N, W, R>,
     /// What is done to it.
     pub plan: Plan,
-    /// All writes that may be fed, behind those that it opened with, and how many these are.
+    /// All writes that may be fed, after those that it opened with, and how many these are.
     pub writes: &'a Writes,
     pub count: u64,
     /// Two sequences that it keeps since then: one, and the last one.
@@ -73,7 +73,7 @@ where
     W: Wait + Drop,
     R: Threads + Wait + Sync,
 {
-    /// Feeds so many writes behind the last sequence that is shown, unless another is faster, or too many runs wait for compactors.
+    /// Feeds so many writes after the last sequence that is shown, unless another is faster, or too many runs wait for compactors.
     fn feed(&self, reader: &mut Reader<O, N>, count: u64) -> Option<Done> {
         let last = reader.pin().ok()?.version().last();
         let writes = writes_behind(self.scene.alloc, last, count)?;
@@ -129,7 +129,7 @@ where
         Some(Done::installs(installs))
     }
 
-    /// Feeds a write, unless there are some behind the opening's already.
+    /// Feeds a write, unless there are some after the opening's already.
     fn feed_first(&self, reader: &mut Reader<O, N>) -> Option<Done> {
         let mut done = Done::events(0);
         for _ in 0..TRIES {

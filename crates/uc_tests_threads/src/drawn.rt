@@ -68,7 +68,7 @@ fn write_at(alloc: Global, seq: u64) -> Result<Write, AllocError> {
     })
 }
 
-/// So many writes behind a sequence. Of four sequences one has none.
+/// So many writes after a sequence. Of four sequences one has none.
 pub fn writes_behind(alloc: Global, last: u64, count: u64) -> Option<Writes> {
     let mut writes = Vec::new(alloc);
     let mut seq = last;
@@ -115,7 +115,7 @@ fn drawn_sequence(dice: &mut Dice, keeps: [u64; 3]) -> u64 {
     }
 }
 
-/// So many drawn queries at sequences of which these are kept, and what the plain writes answer, which go on behind them.
+/// So many drawn queries at sequences of which these are kept, and what the plain writes answer, which go on after them.
 pub fn drawn_batch<O: Operator>(
     alloc: Global,
     dice: &mut Dice,

@@ -3,7 +3,7 @@ use std::alloc::{AllocError, Global};
 use uc_bytes::{Bytes, OpRef, Write, WriteRef};
 use uc_query_read::Query;
 
-/// Appends a change, with the sequence behind those that are there.
+/// Appends a change, with the sequence after those that are there.
 fn push_write(writes: &mut Vec<Write>, alloc: Global, change: OpRef<'_>) -> Result<(), AllocError> {
     let seq = (writes.len() as u64).saturating_add(1);
     Ok(writes.push(WriteRef::new(seq, change).to_write(alloc)?)?)

@@ -87,7 +87,7 @@ where
         }
     }
 
-    /// Two compactors at once, one with the two newest runs, and one with the two behind them. Both have pinned the same runs before,
+    /// Two compactors at once, one with the two newest runs, and one with the two after them. Both have pinned the same runs before,
     /// and both must install; one comes back then.
     fn both_install(
         &self,

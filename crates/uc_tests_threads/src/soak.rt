@@ -153,7 +153,7 @@ where
         all_done(&done)
     }
 
-    /// Whether a version is behind all writes that were fed, and each of their runs and of the installs gave an id since a first one.
+    /// Whether a version is after all writes that were fed, and each of their runs and of the installs gave an id since a first one.
     fn leads_to(&self, version: &Version, first_id: u64, done: Done) -> bool {
         let count = self.count.saturating_add(done.writes) as usize;
         let last = match self.writes.list().get(count.saturating_sub(1)) {

@@ -20,7 +20,7 @@ pub(crate) fn log_of(alloc: Global, ops: &[Op]) -> Result<Vec<u8>, Fail> {
     Ok(log.finish())
 }
 
-/// A head, and a log behind it.
+/// A head, and a log after it.
 pub(crate) fn input_of(alloc: Global, head: &[u8], log: &[u8]) -> Result<Vec<u8>, Fail> {
     let mut input = Vec::from_slice(alloc, head)?;
     input.extend_from_slice(log)?;

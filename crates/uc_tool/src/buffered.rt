@@ -4,7 +4,7 @@ use std::io::{BufWriter, Write};
 use uc_tool_io::{Done, Refusal};
 use uc_tool_opening::Outcome;
 
-/// Lets a writer go. Nothing is written behind a failed write: what the buffer holds then is given up, since its drop would
+/// Lets a writer go. Nothing is written after a failed write: what the buffer holds then is given up, since its drop would
 /// try to write it again.
 fn let_go<W: Write + Drop>(writer: BufWriter<W>, done: Done) {
     if done == Done::Device {
@@ -12,7 +12,7 @@ fn let_go<W: Write + Drop>(writer: BufWriter<W>, done: Done) {
     }
 }
 
-/// Runs something through a buffer in front of a writer. Nothing is written behind a write that failed.
+/// Runs something through a buffer in front of a writer. Nothing is written after a write that failed.
 ///
 /// It is refused with [`Refusal::Memory`] if there is no memory for the buffer.
 pub fn through_buffer<W: Write + Drop, F: FnOnce(&mut BufWriter<W>) -> Outcome>(

@@ -15,7 +15,7 @@ use uc_tool_opening::{compacted_line, install_refusal_line};
 use uc_version::{CompactError, InstallError, Owned, picks_can_be_claimed};
 
 /// What is done next.
-#[derive(Debug, Drop)]
+#[derive(Drop)]
 enum Step {
     /// Nothing is picked.
     Nothing,

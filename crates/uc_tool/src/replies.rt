@@ -27,7 +27,7 @@ use uc_version::Owned;
 use uc_version_state::Stretch;
 
 /// What a script's call asks of the store.
-#[derive(Debug, Drop)]
+#[derive(Drop)]
 enum Asked {
     /// An answer, which changes nothing.
     Answer(Query),

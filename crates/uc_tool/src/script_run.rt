@@ -48,7 +48,7 @@ fn judged(alloc: Global, input: &[u8]) -> Result<Preamble, ScriptError>
     judge_script(alloc, input)
 }
 
-/// What stands behind the first `size` bytes of a text, in the memory that the text had.
+/// The bytes after the first `size` of a text, in the memory that the text had.
 fn behind(mut text: Vec<u8>, size: usize) -> Vec<u8>
     requires { size ≤ vec_len text }
     ensures { result.items ≡ drop size text.items }
@@ -86,7 +86,7 @@ fn print_opened<O: Operator + Sync, W: Write>(
 }
 
 /// Opens the store that a script asks for, and prints why it is refused, or that it opened and the replies to the calls that
-/// `lines` name, which stand behind `open`. It returns the reason beside its outcome.
+/// `lines` name, which stand after `open`. It returns the reason beside its outcome.
 fn print_script<O: Operator + Sync, W: Write>(
     rt: &(impl Threads + Sync),
     alloc: Global,
@@ -119,7 +119,7 @@ fn print_script<O: Operator + Sync, W: Write>(
     }
 }
 
-/// Runs a script: opens its store and answers its calls. Of its text the lines behind `open` alone are kept meanwhile.
+/// Runs a script: opens its store and answers its calls. Of its text the lines after `open` alone are kept meanwhile.
 fn run<O: Operator + Sync, W: Write>(
     rt: &(impl Threads + Sync),
     alloc: Global,
@@ -156,7 +156,7 @@ fn run<O: Operator + Sync, W: Write>(
 /// front of a text that says so or of that one. A script that is refused for a fault of a line or at its opening has a reason.
 ///
 /// It reads at most 64 MiB and a byte, in at most 2^27 reads. Of the script, its changes, their log and the store no two are
-/// held but while the one is made from the other, apart from the lines behind `open`: they are held to the end, and each call
+/// held but while the one is made from the other, apart from the lines after `open`: they are held to the end, and each call
 /// is read from them when its turn comes.
 pub fn play<O: Operator + Sync, R: Read, W: Write>(
     rt: &(impl Threads + Sync),

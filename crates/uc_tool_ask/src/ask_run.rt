@@ -43,7 +43,7 @@ use uc_version_open::{InThreads, OpenError, Opener, Recovered, no_refusal_is_lea
 type Asked = (Result<Done, RunError>, Beside);
 
 /// What is told of a run beside how it ended.
-#[derive(Debug, Drop)]
+#[derive(Drop)]
 struct Told {
     /// Why it was refused.
     reason: Option<Reason>,
@@ -166,7 +166,7 @@ fn feeders_of(behind: &[LogWrite]) -> usize
 }
 
 /// Opens the store that has taken some writes, and prints why it is refused, or the answers to the queries of a head. The writes
-/// behind those come meanwhile.
+/// after those come meanwhile.
 fn print_opened<O: Operator + Send + Sync, G: TurnGate, R: Threads + Wait + Sync, V: Write>(
     rt: &R,
     alloc: Global,
@@ -215,7 +215,7 @@ fn print_opened<O: Operator + Send + Sync, G: TurnGate, R: Threads + Wait + Sync
     }
 }
 
-/// Answers the queries of a head over the log that stands behind it, whose last writes come meanwhile.
+/// Answers the queries of a head over the log that stands after it, whose last writes come meanwhile.
 fn answer_log<O: Operator + Send + Sync, G: TurnGate, R: Threads + Wait + Sync, V: Write>(
     rt: &R,
     alloc: Global,
@@ -320,7 +320,7 @@ pub fn ask_through<O: Operator + Send + Sync, R: Read, W: Write, G: TurnGate>(
     (Outcome { done, reason }, beside)
 }
 
-/// Answers the queries in front of a log: reads all of the input, checks its head, opens a store from the log behind that, and
+/// Answers the queries in front of a log: reads all of the input, checks its head, opens a store from the log after that, and
 /// prints the answers in the order of the queries. `workers` threads answer pieces of `piece` queries, from the versions that are
 /// shown meanwhile, while `compactors` threads compact what universal compaction picks, each until nothing is picked, an
 /// allocation fails, or it took 256 turns. The store opens without the log's last `later` writes: without all, where there are

@@ -15,7 +15,7 @@ ghost use Rattle.uc_tool_ask.specs.Readable.{IsReadable};
 
 use uc_oper::Operator;
 
-/// Where a head is read, the log behind it can be read, and the store opens, each query is answered, in the order of the
+/// Where a head is read, the log after it can be read, and the store opens, each query is answered, in the order of the
 /// head, as the log's plain writes answer it, without those that come later, at the sequences that the head keeps and at the
 /// last one.
 pub fn queries_are_answered_from_the_log<O: Operator>()

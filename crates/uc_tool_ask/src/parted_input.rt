@@ -15,8 +15,8 @@ const FIRST_BYTES: usize = 1 << 20;
 /// How many bytes are moved at a time at the most: as many as a piece has, so one comes out as it is.
 const MOVED_BYTES: usize = 1 << 20;
 
-/// A head, and the log behind it.
-#[derive(Debug, Drop)]
+/// A head, and the log after it.
+#[derive(Drop)]
 pub(crate) struct Parted {
     /// What the head keeps, and how many bytes it has.
     pub(crate) head: Head,
@@ -27,7 +27,7 @@ pub(crate) struct Parted {
 }
 
 /// Why an input isn't parted.
-#[derive(Debug, Drop)]
+#[derive(Drop)]
 pub(crate) enum PartError {
     /// The head has a fault: the number of the faulty line, from 1, and the bytes of the input.
     Fault(u64, Vec<u8>),
@@ -58,7 +58,7 @@ fn double_front(alloc: Global, front: &mut Vec<u8>, rest: &mut Pieces) -> Result
     Ok(())
 }
 
-/// Parts an input at the end of its head, which was read in its front. What the front has behind the head goes back to the
+/// Parts an input at the end of its head, which was read in its front. What the front has after the head goes back to the
 /// rest.
 fn part_front(alloc: Global, front: Vec<u8>, rest: Pieces, head: Head) -> Result<Parted, AllocError>
     requires { head.size ≤ vec_len front }
@@ -74,8 +74,8 @@ fn part_front(alloc: Global, front: Vec<u8>, rest: Pieces, head: Head) -> Result
     Ok(Parted { head, lines, log })
 }
 
-/// Parts an input into its head and the log behind it. The head is looked for in the first MiB, and then in twice as many bytes
-/// each time, until it is there or no bytes are left: so the time is linear in the bytes where it was found. The pieces behind
+/// Parts an input into its head and the log after it. The head is looked for in the first MiB, and then in twice as many bytes
+/// each time, until it is there or no bytes are left: so the time is linear in the bytes where it was found. The pieces after
 /// those stay as they are.
 ///
 /// A `Fault` is that of the head of all of the input, whose bytes come in one piece.

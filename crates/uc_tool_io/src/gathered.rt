@@ -18,7 +18,7 @@ pub trait Gathered {
     fn size(&self) -> usize
         ensures { result ≡ length (bytes self.now) };
 
-    /// Adds bytes behind those that are there. After an `Err` some of them may be there.
+    /// Adds bytes after those that are there. After an `Err` some of them may be there.
     fn add(&mut self, alloc: Global, more: &[u8]) -> Result<(), AllocError>
         ensures { OnOk result (bytes self.new ≡ bytes self.old ++ more.now) };
 }

@@ -15,7 +15,7 @@ pub fn push_counted(out: &mut Vec<u8>, words: &[u8], number: u64) -> Result<(), 
     push_number(out, number)
 }
 
-/// Appends a line of words with a number behind each.
+/// Appends a line of words with a number after each.
 pub fn push_fields_line(out: &mut Vec<u8>, fields: &[(&[u8], u64)]) -> Result<(), AllocError>
     ensures { OnOk result (out.new.items ≡ out.old.items ++ lines.fields_line (map (λ f. (f.0.now, f.1)) fields.now)) }
 {
@@ -26,7 +26,7 @@ pub fn push_fields_line(out: &mut Vec<u8>, fields: &[(&[u8], u64)]) -> Result<()
     Ok(())
 }
 
-/// A line of words with a number behind each.
+/// A line of words with a number after each.
 pub fn fields_line(alloc: Global, fields: &[(&[u8], u64)]) -> Result<Vec<u8>, AllocError>
     ensures { IfOk result (λ line. line.items ≡ lines.fields_line (map (λ f. (f.0.now, f.1)) fields.now)) }
 {

@@ -10,7 +10,7 @@ use uc_fold::Totals;
 use uc_query::{Field, Figure, Report, RunLine, total_fields};
 use uc_tool_io::{push_counted, push_numbered_line};
 
-/// Appends a number, or both of a range, each behind a space.
+/// Appends a number, or both of a range, each after a space.
 fn push_figure(out: &mut Vec<u8>, figure: Figure) -> Result<(), AllocError>
     ensures { OnOk result (out.new.items ≡ out.old.items ++ lines.figure_text figure) }
 {
@@ -32,7 +32,7 @@ fn push_field(out: &mut Vec<u8>, name: &str, figure: Figure) -> Result<(), Alloc
     push_figure(out, figure)
 }
 
-/// Appends a line of words with a number, and fields behind it.
+/// Appends a line of words with a number, and fields after it.
 fn push_counted_line(
     out: &mut Vec<u8>,
     words: &[u8],

@@ -65,7 +65,7 @@ pub(crate) fn move_up(claims: &mut [Option<HeldStretch>], first: usize, count: u
     }
 }
 
-/// A held stretch, behind `count` runs more.
+/// A held stretch, after `count` runs more.
 fn moved_down(held: Option<HeldStretch>, count: usize) -> Option<HeldStretch>
     requires { IfSome held (λ stretch. stretch.first + count < 2 ^ 63) }
     ensures { result ≡ feeding.moved_down count held }
@@ -79,7 +79,7 @@ fn moved_down(held: Option<HeldStretch>, count: usize) -> Option<HeldStretch>
     }
 }
 
-/// Moves all stretches down, behind `count` runs more.
+/// Moves all stretches down, after `count` runs more.
 pub(crate) fn move_down(claims: &mut [Option<HeldStretch>], count: usize)
     requires { AllByRecursion (λ held. IfSome held (λ stretch. stretch.first + count < 2 ^ 63)) claims.old }
     ensures { claims.new ≡ map (feeding.moved_down count) claims.old }

@@ -6,7 +6,7 @@ use std::marker::Model;
 /// The right to compact a stretch of an [`Owned`](crate::Owned) store: its number, and the ids of the newest and the
 /// oldest run of the stretch. Give it back by [`abandon`](crate::Owned::abandon) or [`install`](crate::Owned::install):
 /// if it is dropped, its runs stay claimed for good.
-#[derive(Debug, Drop)]
+#[derive(Drop)]
 pub struct OwnedClaim {
     pub(crate) number: usize,
     pub(crate) newest: u64,

@@ -7,7 +7,7 @@ use std::marker::Model;
 use uc_run::{Memtable, Run};
 
 /// A memtable that takes no more writes and waits to be flushed. It isn't empty.
-#[derive(Debug, Drop)]
+#[derive(Drop)]
 pub struct FullMemtable {
     memtable: Memtable,
 }

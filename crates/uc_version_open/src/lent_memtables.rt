@@ -7,7 +7,7 @@ use std::marker::Model;
 use std::sync::Arc;
 
 /// Full memtables, the oldest first, that other threads may flush while the store that owns them takes writes.
-#[derive(Debug, Drop)]
+#[derive(Drop)]
 pub(crate) struct LentMemtables {
     memtables: Option<Arc<Vec<FullMemtable>>>,
 }
@@ -69,7 +69,7 @@ impl LentMemtables {
 }
 
 /// What is lent: memtables, and where their runs belong.
-#[derive(Debug, Drop)]
+#[derive(Drop)]
 pub(crate) struct Loan {
     /// How many memtables are older.
     pub(crate) older: usize,

@@ -14,7 +14,7 @@
 //! [`count_writes`] tells how many there are. Read `recovery.rt`.
 //!
 //! [`recover_pieces`] does so over a log in pieces, and lets go of each when its batches were read. [`recover_first`] takes the first
-//! writes alone, and hands those behind them out.
+//! writes alone, and hands those after them out.
 //!
 //! Each takes [`Workers`] first. [`Alone`] flushes a memtable as soon as it is full. [`InThreads`] lets a few wait, and flushes
 //! several side by side while the calling thread reads on. A store that opens so is the same, whichever flush ends first. Read

@@ -8,7 +8,7 @@ use std::marker::Model;
 use uc_batch::{Advance, BatchReader, BatchWrites, PieceReader, Pieces};
 
 /// A reader of either kind.
-#[derive(Debug, Drop)]
+#[derive(Drop)]
 enum AnyReader<'a> {
     /// Of a log in one piece, which is borrowed.
     Borrowed(BatchReader<'a>),
@@ -17,7 +17,7 @@ enum AnyReader<'a> {
 }
 
 /// The batches of a log, one at a time, whether it is in one piece or in several.
-#[derive(Debug, Drop)]
+#[derive(Drop)]
 pub(crate) struct LogBatches<'a> {
     reader: AnyReader<'a>,
 }

@@ -19,7 +19,7 @@ use uc_run::{Memtable, Run};
 /// The memtables of writes that come one after the other. A full one waits from the next write on, until a [`Workers`] makes
 /// a run of it, or another thread does, to which it is lent. A contract sees the runs of all but the newest, and not which of
 /// these are made already.
-#[derive(Debug, Drop)]
+#[derive(Drop)]
 pub(crate) struct Memtables {
     /// The runs of those that were flushed, the oldest first.
     runs: Vec<Run>,
@@ -93,7 +93,7 @@ fn flush_lent<W: Workers>(
     Ok(())
 }
 
-/// Flushes the memtables that wait behind older runs. An `Err` changes nothing.
+/// Flushes the memtables that wait after older runs. An `Err` changes nothing.
 fn flush_onto<W: Workers>(
     workers: &W,
     alloc: Global,
@@ -112,7 +112,7 @@ fn flush_onto<W: Workers>(
     Ok(())
 }
 
-/// Flushes the memtables that are lent and those that wait behind older runs. An `Err` changes nothing of those that wait.
+/// Flushes the memtables that are lent and those that wait after older runs. An `Err` changes nothing of those that wait.
 fn flush_all<W: Workers>(
     workers: &W,
     alloc: Global,

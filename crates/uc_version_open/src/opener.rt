@@ -30,7 +30,7 @@ use uc_version_state::{Options, Version, opening_gives_a_version, placed_onto};
 /// It refuses nothing before [`finish`](Opener::finish), since a fault of the log comes before a refused opening. It
 /// holds the runs so far, one memtable and, if threads flush, a few more that wait or that are flushed meanwhile; or nothing once
 /// the store can't open any more.
-#[derive(Debug, Drop)]
+#[derive(Drop)]
 pub struct Opener {
     options: Options,
     last: u64,

@@ -46,7 +46,7 @@ pub(crate) fn insert_batch<W: Workers>(
 }
 
 /// How far a log was read, and the store that is being opened with what was read of it.
-#[derive(Debug, Drop)]
+#[derive(Drop)]
 pub(crate) struct Reading<'a> {
     batches: LogBatches<'a>,
     /// The store.

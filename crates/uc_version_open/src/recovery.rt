@@ -17,7 +17,7 @@ use uc_bytes::{Write, WriteRef};
 use uc_version_state::Options;
 
 /// A store that is being opened, with the writes of a log up to the log's first fault, and how far that was read.
-#[derive(Debug, Drop)]
+#[derive(Drop)]
 pub struct Recovered {
     /// The store, which has the writes.
     pub opener: Opener,
@@ -87,7 +87,7 @@ pub fn recover_pieces<W: Workers>(
 }
 
 /// How many writes a log has up to its first fault, and how far it was read.
-#[derive(Clone, Copy, Debug)]
+#[derive(Clone, Copy)]
 pub struct Counted {
     /// The number of its writes.
     pub count: u64,
@@ -121,8 +121,8 @@ pub fn count_writes(alloc: Global, log: &[u8]) -> Result<Counted, AllocError>
     }
 }
 
-/// The writes of a log so far: the first ones in a store that is being opened, and those behind them.
-#[derive(Debug, Drop)]
+/// The writes of a log so far: the first ones in a store that is being opened, and those after them.
+#[derive(Drop)]
 struct Parted {
     opener: Opener,
     /// How many more the store takes.
@@ -173,7 +173,7 @@ fn part_batch<W: Workers>(
     Ok(())
 }
 
-/// As [`recover`], for the first `most` writes alone. Those behind them come as they are, the oldest first. It holds them beside
+/// As [`recover`], for the first `most` writes alone. Those after them come as they are, the oldest first. It holds them beside
 /// what the opener holds, and up to four full memtables, which threads flush side by side.
 pub fn recover_first<W: Workers>(
     workers: &W,

@@ -4,7 +4,7 @@ use uc_bytes::{Items, Write};
 
 /// What changes a store's version. A history is a list of events: contracts speak of them, and a store makes none to
 /// change itself.
-#[derive(Debug, Drop)]
+#[derive(Drop)]
 pub enum Event {
     /// A compaction's output replaces its inputs.
     Installed(Install),

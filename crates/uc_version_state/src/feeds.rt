@@ -55,7 +55,7 @@ fn least_free(alloc: Global, runs: &[Placed]) -> Result<usize, AllocError>
 }
 
 /// Runs with their places before older ones, the newest first. The given ones come oldest first. They get ids from `id`
-/// on, and each the least slot that none of those behind it has.
+/// on, and each the least slot that none of those after it has.
 pub fn placed_onto(
     alloc: Global,
     mut id: u64,

@@ -13,7 +13,7 @@ use uc_run::Run;
 /// A compaction that is installed: its inputs by their ids, the newest first; the keeps that it was made for; whether
 /// the oldest run of all is among its inputs; and its output. A contract sees the output's contents, not how they are
 /// shared.
-#[derive(Debug, Drop)]
+#[derive(Drop)]
 pub struct Install {
     ids: Vec<u64>,
     keeps: Vec<u64>,

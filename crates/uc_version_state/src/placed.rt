@@ -8,7 +8,7 @@ use std::sync::Arc;
 use uc_run::Run;
 
 /// A run with its place in a store. A contract sees its contents, not how they are shared.
-#[derive(Debug, Drop)]
+#[derive(Drop)]
 pub struct Placed {
     /// Its number, which no other run of the store ever has.
     pub id: u64,

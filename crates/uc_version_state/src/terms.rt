@@ -7,7 +7,7 @@ use std::marker::Model;
 
 /// What a compaction requires of a version: the keeps that it was made for, whether it was made for the oldest run of
 /// all, and the greatest sequence of its inputs.
-#[derive(Debug, Drop)]
+#[derive(Drop)]
 pub struct Terms<'a> {
     pub(crate) keeps: &'a [u64],
     pub(crate) oldest: bool,

@@ -8,7 +8,6 @@ use std::marker::Model;
 /// What a store holds at a moment (RocksDB wiki, "Universal Compaction", "Snapshot"): sorted runs, the newest first;
 /// the keeps, at which reads are made; the last sequence; the number of the next run; and from how many bytes on a
 /// memtable is flushed.
-#[derive(Debug)]
 pub struct Version {
     pub(crate) runs: Vec<Placed>,
     pub(crate) keeps: Vec<u64>,
