@@ -55,7 +55,7 @@ impl Dice {
         })
     }
 
-    /// So many writes, with gaps between their sequences.
+    /// This many writes, with gaps between their sequences.
     pub fn writes(&mut self, alloc: Global, count: u64) -> Result<Vec<Write>, AllocError> {
         let mut writes = Vec::new(alloc);
         let mut seq = 0_u64;

@@ -1,4 +1,4 @@
-//! What tests of several crates share.
+//! Helpers that tests of several crates share.
 //!
 //! It has no tests of its own. `lines.rt` writes the lines of scripts and dumps that tests compare with, by a plain
 //! program that knows nothing of the one that is tested; `options.rt` has options that make a run of each write, `dice.rt`

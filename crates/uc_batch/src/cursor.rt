@@ -26,7 +26,7 @@ impl<'a> Cursor<'a> {
         Cursor { total, rest }
     }
 
-    /// How many bytes of the batch come before it.
+    /// The number of the batch's bytes before it.
     pub(crate) fn offset(&self) -> u64
         ensures { result ≡ self.now.total - length self.now.rest.now }
     {

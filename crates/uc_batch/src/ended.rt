@@ -1,11 +1,11 @@
-//! How far a log was read.
+//! [`Ended`]: where a log ended, and why.
 ghost use Rattle.std.specs.Prelude.{◌≡◌};
 ghost use Rattle.uc_batch.specs.Log.{ended_by};
 
 use crate::error::BatchError;
 use uc_logrec::{Ending, LogFault};
 
-/// How far a log was read.
+/// Where a log ended, and why.
 #[derive(Clone, Copy, Debug, PartialEq, Eq)]
 pub enum Ended {
     /// To its end.
@@ -19,7 +19,7 @@ pub enum Ended {
     BatchFault(u64, BatchError),
 }
 
-/// How far a log was read, if none of its payloads is refused.
+/// Where the log ended, if none of its payloads is refused.
 impl From<Ending> for Ended {
     ghost from_gives = { λ ending ended. ended ≡ ended_by ending };
 

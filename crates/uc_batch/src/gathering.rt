@@ -83,7 +83,7 @@ impl WriteBatch {
         set_count(&mut self.bytes, 0);
     }
 
-    /// How many operations there are.
+    /// The number of operations.
     pub fn len(&self) -> u32
         ensures { result ≡ length self.now }
     {

@@ -10,12 +10,12 @@ use uc_bytes::MAX_SEQUENCE;
 /// The bytes of a batch's sequence and count.
 pub(crate) const HEADER_SIZE: usize = 12;
 
-/// What comes before a batch's records.
+/// The header before a batch's records.
 #[derive(Clone, Copy)]
 pub struct Header {
     /// The sequence of the first operation.
     pub sequence: u64,
-    /// How many operations there are.
+    /// The number of operations.
     pub count: u32,
 }
 

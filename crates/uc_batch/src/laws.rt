@@ -1,4 +1,4 @@
-//! What holds of the definitions alone.
+//! Laws about the definitions alone.
 ghost use Rattle.std.specs.Prelude.{◌≡◌, ℕ, ◌+◌, ◌^◌, ◌<◌, ◌≤◌, List, length, Ok, Err};
 ghost use Rattle.uc_bytes.specs.declared.op.Op.{Op as Operation};
 ghost use Rattle.uc_bytes.specs.declared.write.Write.{Write as Written};
@@ -29,7 +29,7 @@ pub fn refusal_stands_in_batch()
         batch_of last bytes ≡ Err fault → IsRefused last bytes fault }
 {}
 
-/// Operations that were gathered as a batch without a sequence are read with those after the last one, if so many are
+/// Operations that were gathered as a batch without a sequence are read with those after the last one, if this many are
 /// left. Else they are refused for that.
 pub fn gathered_batch_is_read()
     ensures text { (seq : ℕ) (ops : List Operation) → numbered_text seq ops ≡ batch_text seq ops }

@@ -16,7 +16,7 @@ pub(crate) enum Payload {
     Joined,
 }
 
-/// What was read at a place of the log.
+/// The outcome of reading at a place of the log.
 #[derive(Clone, Copy)]
 pub(crate) enum Read {
     /// A payload, and the bytes that its text takes.

@@ -11,7 +11,7 @@ use std::alloc::{AllocError, Global};
 use std::marker::Model;
 use uc_logrec::Ending;
 
-/// What comes next in a log.
+/// The next item of a log.
 #[derive(Clone, Copy)]
 pub(crate) enum Next {
     /// A payload.
@@ -62,7 +62,7 @@ impl PayloadReader {
         }
     }
 
-    /// How many payloads it has returned.
+    /// The number of payloads returned before.
     pub(crate) fn payloads_read(&self) -> u64
         ensures { result ≡ self.now.log.payloads_read }
     {

@@ -40,7 +40,7 @@ impl Pieces {
         }
     }
 
-    /// How many bytes there are.
+    /// The number of bytes.
     pub fn len(&self) -> usize
         ensures { result ≡ length self.now }
     {
@@ -178,7 +178,7 @@ impl Pieces {
         Ok(())
     }
 
-    /// Moves the first bytes after others: at most so many, and only of the first piece. After an `Err` nothing was moved.
+    /// Moves the first bytes after others: at most this many, and only of the first piece. After an `Err` nothing was moved.
     fn move_some(&mut self, target: &mut Vec<u8>, most: usize) -> Result<(), AllocError>
         ensures same { target.new.items ++ self.new ≡ target.old.items ++ self.old }
         ensures most { length target.new.items ≤ length target.old.items + most }
@@ -201,7 +201,7 @@ impl Pieces {
     }
 }
 
-/// Whether so many bytes more fit.
+/// Whether this many bytes more fit.
 fn may_hold(length: usize, more: usize) -> bool
     requires { length < 2 ^ 63 }
     ensures { result ≡ nat_lt (length + more) (2 ^ 63) }
@@ -219,7 +219,7 @@ fn first_size(pieces: &VecDeque<Vec<u8>>) -> usize
     }
 }
 
-/// How many bytes may be added to the last piece, if a piece has this size: 0 if there is none.
+/// The number of bytes that may be added to the last piece, if a piece has this size: 0 if there is none.
 fn room_behind(pieces: &VecDeque<Vec<u8>>, size: usize) -> usize
     ensures { 0 < result → 0 < length pieces.now.items }
 {

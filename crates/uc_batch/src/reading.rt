@@ -47,7 +47,7 @@ pub fn read_batch(alloc: Global, bytes: &[u8], last: u64) -> Result<Vec<Write>, 
     ensures complete { (writes : List WriteOf) → Accepts last bytes.now writes →
         Gives (λ read. read.items) result (Ok writes) }
 
-    // Which fault is returned.
+    // The fault that is returned.
     ensures exact { Gives (λ writes. writes.items) result (batch_of last bytes.now) }
 {
     copy_batch(alloc, bytes, last)

@@ -19,7 +19,7 @@ pub(crate) enum Tag {
     RangeDeletion = 0x0F,
 }
 
-/// What follows a record's tag, apart from a column family's number.
+/// The layout after a record's tag, apart from a column family's number.
 #[derive(Clone, Copy, PartialEq, Eq)]
 pub(crate) enum Form {
     /// A key to delete.
@@ -72,7 +72,7 @@ impl Tag {
         })
     }
 
-    /// What the tag announces. A single deletion is read as a deletion.
+    /// The layout that the tag announces. A single deletion is read as a deletion.
     pub(crate) fn layout(self) -> Layout
         ensures { result ≡ tag.layout_of self }
     {

@@ -5,7 +5,7 @@ ghost use Rattle.uc_batch.specs.Varint.{varint_from, room_for};
 
 use crate::error::BatchError;
 
-/// How many bytes a number may have after its first: five hold any of 32 bits.
+/// The most bytes of a number after its first: five hold any of 32 bits.
 pub(crate) const MORE_BYTES: u32 = 4;
 
 /// Reads a number of one byte and at most `more` others, low seven bits first, and returns the bytes after it too.

@@ -86,7 +86,7 @@ impl Writes {
         }
     }
 
-    /// How far the log was read.
+    /// Where the log ended, and why.
     pub fn ended(&self) -> Ended
         ensures { result ≡ self.now.ended }
     {

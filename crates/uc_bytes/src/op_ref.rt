@@ -8,7 +8,7 @@ use crate::op::Op;
 use std::alloc::{AllocError, Global};
 use std::marker::Model;
 
-/// What a change does.
+/// The kind of a change.
 #[derive(Clone, Copy, Debug, PartialEq, Eq)]
 pub enum OpKind {
     /// Sets a key to a value.
@@ -96,7 +96,7 @@ impl<'a> OpRef<'a> {
         }
     }
 
-    /// What it does, and its texts in the order of [`Op`]'s. The second is ignored if `Op` has only one.
+    /// Its kind, and its byte strings in the order of [`Op`]'s. The second is ignored if `Op` has only one.
     pub fn parts(&self) -> (OpKind, &'a [u8], &'a [u8])
         ensures { op_of result.0 result.1.now result.2.now ≡ self.now }
     {

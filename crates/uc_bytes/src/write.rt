@@ -12,7 +12,7 @@ pub const MAX_SEQUENCE: u64 = (1 << 56) - 1;
 pub struct Write {
     /// Its place in the order of all writes, from 1 to [`MAX_SEQUENCE`].
     pub seq: u64,
-    /// What it changes.
+    /// The change.
     pub op: Op,
 }
 

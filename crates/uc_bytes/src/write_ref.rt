@@ -43,7 +43,7 @@ impl<'a> WriteRef<'a> {
         self.seq
     }
 
-    /// What it changes.
+    /// The change.
     pub fn op(&self) -> &OpRef<'a>
         ensures { result.now ≡ self.now.op }
     {

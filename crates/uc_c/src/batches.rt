@@ -129,7 +129,7 @@ pub extern "C" fn ucstore_batch_clear(alloc: Global, batch: &mut BatchHandle) ->
     OK
 }
 
-/// How many operations the batch has.
+/// The number of operations in the batch.
 #[unsafe(no_mangle)]
 pub extern "C" fn ucstore_batch_count(
     alloc: Global,
@@ -146,7 +146,7 @@ pub extern "C" fn ucstore_batch_count(
     OK
 }
 
-/// How many operations a batch has that was taken out of its handle.
+/// The number of operations in a batch that was taken out of its handle.
 fn count_of(held: &Option<Box<WriteBatch>>) -> u64
     ensures { result ≡ length (ops_held (option_map (λ b. b.value) held.now)) }
 {

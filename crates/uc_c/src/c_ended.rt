@@ -22,7 +22,7 @@ pub fn ends_are_numbered()
     ensures { ends.CLEAN ∷ ends.TORN ∷ ends.LOG_FAULT ∷ ends.BATCH_FAULT ∷ [] ≡ 0 ∷ 1 ∷ 2 ∷ 3 ∷ [] }
 {}
 
-/// How a log ended, as C sees it.
+/// The end of a log, as C sees it.
 #[repr(C)]
 #[derive(Clone, Copy, Debug, PartialEq, Eq)]
 pub struct CEnded {
@@ -37,7 +37,7 @@ pub struct CEnded {
 impl CEnded {
     ghost use Rattle.uc_c.specs.Numbers.{ended_in};
 
-    /// How a log ended, as C sees it.
+    /// The end of a log, as C sees it.
     pub fn of(ended: Ended) -> CEnded
         ensures { result ≡ ended_in ended }
     {

@@ -6,7 +6,7 @@ use crate::status::OK;
 use std::mem::size_of;
 use uc_engine::{LiveOptions, Options, StoreId};
 
-/// How many bytes the struct has.
+/// The size of the struct in bytes.
 pub const OPTIONS_SIZE: usize = 48;
 
 /// A store's options, as C writes them. [`LiveOptions`](uc_engine::LiveOptions) says what each means.
@@ -31,7 +31,7 @@ pub struct COptions {
     pub max_merge_width: u32,
     /// Not 0 if the store compacts after a flush.
     pub compacts_itself: u32,
-    /// How many memtables it gathers at most.
+    /// The most memtables that it gathers.
     pub max_write_buffer_number: u32,
 }
 

@@ -11,18 +11,18 @@ use std::mem::size_of;
 use uc_engine::EngineReport;
 use uc_handle::{Handle, ViewHandle};
 
-/// How many bytes the struct has.
+/// The size of the struct in bytes.
 pub const REPORT_SIZE: usize = 64;
 
-/// What a store holds, in numbers, as C sees it.
+/// The figures of a store, as C sees them.
 #[repr(C)]
 #[derive(Clone, Copy, Debug, PartialEq, Eq)]
 pub struct CReport {
     /// [`REPORT_SIZE`], which C writes. A later library may have more fields after these.
     pub size: usize,
-    /// How many runs there are.
+    /// The number of runs.
     pub runs: u64,
-    /// How many sequences snapshots protect.
+    /// The number of sequences that snapshots protect.
     pub snapshots: u64,
     /// Points of all runs: writes of a single key. It is held at 2^64 - 1, as the next two are.
     pub points: u64,
@@ -30,7 +30,7 @@ pub struct CReport {
     pub fragments: u64,
     /// Bytes of all runs, with 8 for each sequence.
     pub bytes: u64,
-    /// How many writes are gathered, which no run has yet.
+    /// The number of gathered writes, which no run has yet.
     pub gathered: u64,
     /// The last sequence; 0 if nothing was written.
     pub last: u64,
@@ -41,7 +41,7 @@ const _: () = prove!(size_of::<CReport>() == REPORT_SIZE);
 impl CReport {
     ghost use Rattle.uc_c.specs.Numbers.{report_in};
 
-    /// What an engine holds, as C sees it.
+    /// The figures of an engine, as C sees them.
     pub fn of(report: EngineReport) -> CReport
         ensures { result ≡ report_in report }
     {

@@ -56,7 +56,7 @@ fn hold(
     }
 }
 
-/// Copies what a log of so many bytes gets for the next rows, at most `most` of them, into the room, if there is room for it, and
+/// Copies what a log of this many bytes gets for the next rows, at most `most` of them, into the room, if there is room for it, and
 /// says how many bytes that is. If there is too little room, no row is laid out. It says too whether no row was left. It is
 /// refused if a row has a text of 2^32 bytes or more, and for want of memory.
 #[unsafe(no_mangle)]
@@ -85,7 +85,7 @@ pub extern "C" fn ucstore_checkpoint_next(
     }
 }
 
-/// Tells of a piece of so many bytes that was to go into a room of so many, or that no row was left.
+/// Tells of a piece of this many bytes that was to go into a room of this many, or that no row was left.
 fn tell(laid: Option<usize>, room: usize, size: &mut usize, done: &mut bool) -> i32
     ensures tells { TellsPiece result laid room size.new done.new }
     ensures untold { (result ≡ OK) ⊎ ((result ≡ ROOM) × (done.new ≡ done.old)) }

@@ -1,4 +1,4 @@
-//! What holds of jobs that C takes.
+//! Laws about jobs that C takes.
 ghost use Rattle.std.specs.Prelude.{◌≡◌, ℤ, Bool, Option, Some, None};
 ghost use Rattle.uc_engine.specs.declared.store_job.StoreJob.{StoreJob as Job};
 ghost use Rattle.uc_engine.specs.Engines.{Engined};

@@ -123,7 +123,7 @@ pub extern "C" fn ucstore_job_run(alloc: Global, job: &mut JobHandle) -> i32
 /// says, and lets the store flush its writes or compact its runs again. It frees no run and no memtable: the job keeps what it had until
 /// it is closed. It is refused if the job has ended, and if it was taken from another store.
 ///
-/// What it requires is that a job with the store's id is the store's own, as `taken_jobs_are_own` says of those that were taken
+/// It requires that a job with the store's id is the store's own, as `taken_jobs_are_own` says of those that were taken
 /// from it. Each store has a number of its own, so C owes nothing for it.
 #[unsafe(no_mangle)]
 pub extern "C" fn ucstore_job_end(

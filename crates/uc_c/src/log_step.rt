@@ -19,13 +19,13 @@ use uc_rows::push_text;
 pub(crate) struct LaidWrites {
     /// The writes, one after the other.
     pub(crate) bytes: Vec<u8>,
-    /// How many these are.
+    /// Their number.
     pub(crate) count: u64,
     /// The last sequence with them.
     pub(crate) last: u64,
 }
 
-/// What comes next in a log.
+/// The next item of a log.
 #[derive(Drop)]
 pub(crate) enum LogStep {
     /// A batch, and the place after it.
@@ -34,7 +34,7 @@ pub(crate) enum LogStep {
     Ended(Ended),
 }
 
-/// What comes next at a place of a log.
+/// The next item at a place of a log.
 pub(crate) fn step_from(alloc: Global, log: &[u8], place: CLogPlace) -> Result<LogStep, AllocError>
     requires { place.batches ≤ place.offset }
     ensures { IfOk result (λ step. StepsTo step log.now place) }
@@ -48,7 +48,7 @@ pub(crate) fn step_from(alloc: Global, log: &[u8], place: CLogPlace) -> Result<L
     }
 }
 
-/// What the payload is that lies between a place and an offset.
+/// The payload between a place and an offset, judged as a batch.
 fn batch_step(
     alloc: Global,
     payload: &[u8],

@@ -16,7 +16,7 @@ use uc_handle::Handle;
 /// The length that is told of a key without a value.
 const NO_VALUE: u64 = u64::MAX;
 
-/// What was found for many keys.
+/// The values found for many keys.
 #[derive(Drop)]
 struct Found {
     // The length of each value, and the bytes of all, one after the other.

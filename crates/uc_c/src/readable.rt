@@ -9,7 +9,7 @@ pub trait Readable {
     ghost use Rattle.uc_live.specs.Sources.{source_of};
     ghost use Rattle.uc_engine.specs.EngineViews.{Viewed, answer_seen, rows_seen, value_seen};
 
-    /// What is seen of it.
+    /// The part of it that contracts see.
     ghost viewed: { Self → Viewed };
 
     /// The value that a key has at the last sequence, if it has one. One that was put stays where it is.

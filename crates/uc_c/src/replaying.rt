@@ -16,7 +16,7 @@ use uc_engine::{Engine, RoomError};
 use uc_handle::Handle;
 use uc_logrec::{Next, next_payload};
 
-/// What was done with the next batch of a log.
+/// The outcome for the next batch of a log.
 #[derive(Clone, Copy)]
 pub(crate) enum Replayed {
     /// It was written, and this is the place after it.

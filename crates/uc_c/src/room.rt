@@ -1,4 +1,4 @@
-//! What is written into the room that C gives.
+//! Writes into the buffer that C gives.
 ghost use Rattle.std.specs.Prelude.{◌≡◌};
 ghost use Rattle.uc_c.specs.Room.{filled};
 

@@ -15,7 +15,7 @@ use std::alloc::{AllocError, Global};
 use uc_engine::{Answer, Bytes, Query, Rows};
 use uc_handle::Handle;
 
-/// How many gathered writes a scan sorts: if there are more, they become a run first.
+/// The most gathered writes that a scan sorts: if there are more, they become a run first.
 const MOST_SORTED: usize = 256;
 
 /// The end of a scan, if it is bounded.

@@ -1,4 +1,4 @@
-//! What a function of this library answers.
+//! [`Status`]: the answer of a function of this library.
 ghost use Rattle.std.specs.Prelude.{◌≡◌, List, [], ◌∷◌, ℤ, pos};
 ghost use Rattle.uc_c.specs.declared.status.TheConstants as statuses;
 ghost use Rattle.uc_c.specs.Statuses.{BatchSays, GatheredSays, OpenSays, PushSays, RoomSays, WriteSays};

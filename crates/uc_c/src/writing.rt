@@ -121,7 +121,7 @@ pub extern "C" fn ucstore_delete_range(
     write(alloc, handle, OpRef::delete_range(begin, end))
 }
 
-/// Prepares a batch, and copies the record that it adds to a log of so many bytes, if there is room for it, and says
+/// Prepares a batch, and copies the record that it adds to a log of this many bytes, if there is room for it, and says
 /// how long that is. If there is too little room, nothing is prepared. Returns the status, or why the batch isn't
 /// taken.
 fn prepare(
@@ -149,7 +149,7 @@ fn prepare(
 }
 
 /// Prepares the operations of a batch, so that `ucstore_commit` can take them, with the sequences after the last one,
-/// and copies the bytes that they add to a log of so many bytes, if there is room for them. It says how many these are.
+/// and copies the bytes that they add to a log of this many bytes, if there is room for them. It says how many these are.
 /// If there is too little room, nothing is prepared. It is refused as `ucstore_write` would be. The batch stays as it
 /// was.
 #[unsafe(no_mangle)]

@@ -30,7 +30,7 @@ pub struct Checkpoint<O: Operator> {
     view: View<O>,
     /// Each row below it is laid out, and no other. None once all are.
     next: Option<Bytes>,
-    /// How many rows are laid out: the sequence of the last one.
+    /// The number of rows laid out: the sequence of the last one.
     rows: u64,
 }
 
@@ -60,12 +60,12 @@ impl<O: Operator> Drop for Checkpoint<O> {
 #[derive(Drop)]
 struct Page {
     rows: Rows,
-    /// How many are the piece's.
+    /// The number of the piece's rows.
     count: usize,
     next: Option<Bytes>,
 }
 
-/// What a log gets for the next rows, and where the checkpoint goes on after them.
+/// The bytes that a log gets for the next rows, and where the checkpoint goes on after them.
 #[derive(Drop)]
 struct Piece {
     text: Vec<u8>,
@@ -130,7 +130,7 @@ fn numbered(alloc: Global, batch: &WriteBatch, seq: u64) -> Result<Vec<u8>, Allo
 }
 
 impl<O: Operator> Checkpoint<O> {
-    /// That of a view, of which nothing is laid out yet. What no run of the view has is sorted, once. An `Err` loses the
+    /// A checkpoint of a view, of which nothing is laid out yet. It sorts the writes that no run of the view has, once. An `Err` loses the
     /// view.
     pub fn of(alloc: Global, view: View<O>) -> Result<Checkpoint<O>, AllocError>
         ensures { IfOk result (λ checkpoint. checkpoint ≡ record { seen = view; rows = 0 }) }
@@ -144,7 +144,7 @@ impl<O: Operator> Checkpoint<O> {
         })
     }
 
-    /// How many rows are laid out.
+    /// The number of rows laid out.
     pub fn rows(&self) -> u64
         ensures { result ≡ self.now.rows }
     {

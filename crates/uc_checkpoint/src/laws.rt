@@ -1,4 +1,4 @@
-//! What holds of the logs of checkpoints.
+//! Laws about the logs of checkpoints.
 ghost use Rattle.std.specs.Prelude.{◌≡◌, ◌≤◌, ℕ, List, [], ◌++◌, Some, length, take};
 ghost use Rattle.uc_bytes.specs.declared.write.Write.{Write};
 ghost use Rattle.uc_batch.specs.declared.ended.Ended.TheVariants.{Clean};

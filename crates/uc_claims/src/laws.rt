@@ -1,4 +1,4 @@
-//! What the claim rule means, as a law that the check proves.
+//! The meaning of the claim rule, as a law that the check proves.
 ghost use Rattle.std.specs.Prelude.{ℕ, List, ◌≤◌, All};
 ghost use Rattle.uc_claims.specs.Claims.{Claims, AreApart};
 ghost use Rattle.uc_claims.specs.declared.rule.Claimant.{Claimant};

@@ -18,7 +18,7 @@
 use atomic_table::{Join, Play, Split, TableRule};
 use std::collections::LinkedList;
 
-/// What a seat knows: whether it was never split, and the slots that it holds, in the order in which they
+/// The state of a seat: whether it was never split, and the slots that it holds, in the order in which they
 /// were taken. It exists in proofs alone, and no value of it is made.
 pub struct Claimant {
     pub whole: bool,

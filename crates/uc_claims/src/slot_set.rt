@@ -5,10 +5,10 @@ ghost use Rattle.uc_claims.specs.Claims.{slot_bit};
 
 use crate::table::MOST_SLOTS;
 
-/// How many slots share a group.
+/// The number of slots in a group.
 const BITS: usize = 64;
 
-/// How many groups there are.
+/// The number of groups.
 const GROUPS: usize = MOST_SLOTS / BITS;
 
 /// A set of slots. Each take and give moves it, so it is only a few numbers.

@@ -250,7 +250,7 @@ impl ClaimTable {
     }
 }
 
-/// Which words of a closed table are not 0.
+/// The words of a closed table that are not 0, as flags.
 fn taken_flags(closed: &Closed<(), Global>, count: usize) -> [bool; MOST_SLOTS]
     requires counts { (count ≡ slots_len closed.now.words) × (count ≤ MOST_SLOTS) }
     requires full { IsFull closed.now.words }

@@ -1,16 +1,16 @@
 //! [`AskNumbers`]: how many threads `ucstore ask` works by, and on what.
 use clap::ArgMatches;
 
-/// How many threads `ucstore ask` answers and compacts by, how it cuts the queries, and what it opens.
+/// The numbers of `ucstore ask`: threads that answer and compact, the size of a piece of queries, and the part of the log it opens.
 #[derive(Clone, Copy, Debug, PartialEq, Eq)]
 pub struct AskNumbers {
-    /// How many workers answer.
+    /// The number of workers that answer.
     pub workers: usize,
-    /// How many queries a worker takes at a time.
+    /// The number of queries that a worker takes at a time.
     pub piece: usize,
-    /// How many threads compact.
+    /// The number of threads that compact.
     pub compactors: usize,
-    /// How many of the log's last writes come while it answers.
+    /// The number of the log's last writes that come while it answers.
     pub later: u64,
 }
 

@@ -1,4 +1,4 @@
-//! Which keeps, points and sequences this crate accepts.
+//! The keeps, points and sequences that this crate accepts.
 ghost use Rattle.std.specs.Prelude.{◌≡◌, ◌≢◌, ◌<◌, ◌↔◌, IsTrue, map};
 ghost use Rattle.std.specs.List.{AllByRecursion};
 ghost use Rattle.std.specs.List.Sorted.{IsStrictlySortedBy};

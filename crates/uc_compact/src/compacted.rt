@@ -88,7 +88,7 @@ impl<O: Operator> Compacted<O> {
         output
     }
 
-    /// What holds of every value: the runs are runs, and they and the keeps may be compacted together. Proof step: does
+    /// The invariant of every value: the runs are runs, and they and the keeps may be compacted together. Proof step: does
     /// nothing when it runs.
     pub fn recall_standing(&self)
         ensures runs { AreRuns self.now.inputs }

@@ -80,7 +80,7 @@ pub fn compact_by<O: Operator, M: Merger<O>>(
     compacted_of::<O>(alloc, inputs, keeps, oldest, output)
 }
 
-/// Several runs made into one as [`compact`] does, in at most so many parts of the key space, with about as many points
+/// Several runs made into one as [`compact`] does, in at most this many parts of the key space, with about as many points
 /// each. Each but the first is merged in a thread of its own, or in this one if none can be started. The output is the
 /// same for any number of parts.
 pub fn compact_by_parts<O: Operator + Sync>(

@@ -18,7 +18,7 @@ use uc_run_points::{PointRef, PointSlice, PointsAhead};
 pub(crate) struct Cursor<'a> {
     /// The next point: each is decoded once.
     next: Option<PointRef<'a>>,
-    /// Those after it.
+    /// The points after it.
     behind: PointsAhead<'a>,
 }
 

@@ -10,7 +10,7 @@ use uc_run::Run;
 /// About how many fences are drawn of all runs together.
 const SAMPLE: u64 = 256;
 
-/// How many blocks the points of all runs fill.
+/// The number of blocks that the points of all runs fill.
 fn blocks_in(inputs: &[Arc<Run>]) -> u64 {
     let mut blocks = 0_u64;
     for run in inputs {
@@ -66,7 +66,7 @@ fn push_above<'a>(cuts: &mut Vec<&'a [u8]>, least: &[u8], key: &'a [u8]) -> Resu
     Ok(())
 }
 
-/// Keys that cut the key space into at most so many parts, with about as many of the runs' points each. They rise. A key
+/// Keys that cut the key space into at most this many parts, with about as many of the runs' points each. They rise. A key
 /// with many points isn't cut, so there may be fewer parts, and none below the least fence.
 ///
 /// They are the quantiles of a sample of the runs' fences, which takes about a thousand comparisons of keys.

@@ -4,7 +4,7 @@ ghost use Rattle.uc_compact.specs.Choice.{PointsFall};
 
 use uc_run_points::PointRef;
 
-/// How many points are above a sequence. They come first.
+/// The number of points above a sequence. They come first.
 pub(crate) fn points_above(points: &[PointRef<'_>], seq: u64) -> usize
     requires { PointsFall points.now }
     ensures bound { result ≤ length points.now }

@@ -11,12 +11,12 @@ use uc_run_points::PointRef;
 /// More points than this are folded in two threads.
 const MANY: usize = 5_000;
 
-/// Who folds what a key's points do. What comes of it is the same, whoever does it.
+/// A folder of a key's points into one effect. The result is the same for every folder.
 pub trait Folder<O: Operator> {
-    /// What is asked of a folder.
+    /// The condition under which a folder may fold.
     ghost can_fold: { Self → Type 0 };
 
-    /// What points of one key, the newest first, make of an effect before them. An `Err` loses that effect.
+    /// The effect of points of one key, the newest first, after an older effect. An `Err` loses that effect.
     fn fold(
         &self,
         alloc: Global,

@@ -1,4 +1,4 @@
-//! What a key's points do, as one effect.
+//! The effect of a key's points.
 ghost use Rattle.std.specs.Prelude.{◌≡◌, map, IfOk};
 ghost use Rattle.std.specs.Option.{option_to_list};
 ghost use Rattle.uc_oper.specs.Operation.{Operation};
@@ -24,7 +24,7 @@ fn lasting<'b, 'a>(points: &'b [PointRef<'a>]) -> &'b [PointRef<'a>]
     }
 }
 
-/// What points of one key, the newest first, make of an effect before them. An `Err` loses that effect.
+/// The effect of points of one key, the newest first, after an older effect. An `Err` loses that effect.
 fn points_effect<O: Operator, F: Folder<O>>(
     folder: &F,
     alloc: Global,
@@ -37,7 +37,7 @@ fn points_effect<O: Operator, F: Folder<O>>(
     folder.fold(alloc, before, lasting(points))
 }
 
-/// What a key's points, the newest first, and the range deletions over it do. `newest` is the newest of those
+/// The effect of a key's points, the newest first, and of the range deletions over it. `newest` is the newest of those
 /// deletions, if there is one.
 pub(crate) fn effect_above_newest<O: Operator, F: Folder<O>>(
     folder: &F,

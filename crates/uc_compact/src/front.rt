@@ -13,7 +13,7 @@ use std::marker::Model;
 use uc_run::{Run, text_order};
 use uc_run_entry::Fragment;
 
-/// How many fragments are looked at one by one before a search among all.
+/// The number of fragments that are looked at one by one before a search among all.
 const NEAR: usize = 8;
 
 /// A run, and the place among its fragments that a walk over rising keys has come to. A contract sees only the run: the

@@ -1,4 +1,4 @@
-//! Which runs may be compacted together.
+//! The runs that may be compacted together.
 ghost use Rattle.std.specs.Prelude.{◌≡◌, ◌↔◌, IsTrue, IfOk, map};
 ghost use Rattle.std.specs.Arc.{arc_value};
 ghost use Rattle.uc_compact.specs.Inputs.{AreRuns, AreNewestFirst, Stand, low_of, high_of};

@@ -7,7 +7,7 @@ ghost use Rattle.uc_compact.specs.Stripes as stripes;
 use crate::stripe::Stripe;
 use std::marker::Model;
 
-/// What a compaction keeps: the sequences of reads, which rise, and a sequence of the bottom stripe if nothing lies
+/// The terms of a compaction: the sequences of reads, which rise, and a sequence of the bottom stripe if nothing lies
 /// below its inputs. A contract sees it as these.
 #[derive(Drop)]
 pub struct Keeping<'a> {

@@ -18,7 +18,7 @@ use uc_oper::{Effect, Operator};
 use uc_run_entry::{What, WhatRef};
 use uc_run_points::{PointRef, Points};
 
-/// What a point says that replaces an effect. No value needs no point if something else clears the key.
+/// The point that replaces an effect. No value needs no point if something else clears the key.
 fn what_of(effect: Effect, cleared: bool) -> Option<What>
     ensures { result ≡ output.what_of effect cleared }
 {
@@ -31,7 +31,7 @@ fn what_of(effect: Effect, cleared: bool) -> Option<What>
     }
 }
 
-/// What replaces a stripe's effect. In the bottom stripe it is the value that the effect makes of none.
+/// The point that replaces a stripe's effect. In the bottom stripe it is the value that the effect makes of none.
 fn what_kept<O: Operator>(
     alloc: Global,
     bottom: bool,

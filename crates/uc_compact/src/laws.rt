@@ -1,4 +1,4 @@
-//! What holds of a compaction's output, under every operator.
+//! Laws about a compaction's output, under every operator.
 ghost use Rattle.std.specs.Prelude.{◌≡◌, ℕ, ◌<◌, ◌^◌, ◌∷◌, List, filter, length};
 ghost use Rattle.std.specs.List.{flat_map};
 ghost use Rattle.std.specs.List.Sorted.{IsStrictlySortedBy, IsNonDecreasingBy};
@@ -70,7 +70,7 @@ pub fn compaction_of_the_oldest_leaves_values<O: Operator>()
         HasValuesAlone (keeping_of c) (output_of O.meaning c) }
 {}
 
-/// What a compaction keeps of the points, key by key. It depends only on the key's points, the newest first, and on the
+/// The points that a compaction keeps, key by key. They depend only on the key's points, the newest first, and on the
 /// sequences over the key in the pieces of all range deletions. Both fall, and no sequence is in both.
 pub fn points_are_chosen_key_by_key<O: Operator>()
     ensures points { (c : Compaction) → AreRuns c.inputs → Stand c.inputs c.keeps →

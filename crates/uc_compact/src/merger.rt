@@ -11,10 +11,10 @@ use std::sync::Arc;
 use uc_oper::Operator;
 use uc_run::Run;
 
-/// Who makes one run of several: the calling thread [`Alone`], or [`By`] a function that may start threads. What comes of
-/// it is the same, whoever does it.
+/// A merger of several runs into one: the calling thread [`Alone`], or [`By`] a function that may start threads. The result
+/// is the same, whoever does it.
 pub trait Merger<O: Operator> {
-    /// What is asked of a merger.
+    /// The condition under which a merger may merge.
     ghost can_merge: { Self → Type 0 };
 
     /// The run that several runs become, the newest first. `oldest` says that the last of them is the oldest run of all.

@@ -50,7 +50,7 @@ fn points_alone<O: Operator>(
     points_kept_alone::<O>(alloc, inputs, &keeping)
 }
 
-/// The points of the run that the runs become, of at most so many parts of the key space side by side.
+/// The points of the run that the runs become, of at most this many parts of the key space side by side.
 fn points_by_parts<O: Operator + Sync>(
     rt: &(impl Threads + Sync),
     alloc: Global,
@@ -111,7 +111,7 @@ pub(crate) fn merge_alone<O: Operator>(
     Run::from_points(alloc, low_seq(inputs), high_seq(inputs), points, fragments)
 }
 
-/// The run that the runs become, of at most so many parts of the key space that are merged side by side. If there is more
+/// The run that the runs become, of at most this many parts of the key space that are merged side by side. If there is more
 /// than one, its filter is made in threads too.
 pub(crate) fn merge_by_parts<O: Operator + Sync>(
     rt: &(impl Threads + Sync),
@@ -141,7 +141,7 @@ pub(crate) fn merge_by_parts<O: Operator + Sync>(
     }
 }
 
-/// How many points the runs have together.
+/// The number of points in all runs together.
 fn count_points(inputs: &[Arc<Run>]) -> u64 {
     let mut points = 0_u64;
     for run in inputs {

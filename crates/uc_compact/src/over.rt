@@ -78,7 +78,7 @@ impl<'a> Over<'a> {
         newest_of_all(self.lists, at)
     }
 
-    /// What holds of every value: the sequences fall. Proof step: does nothing when it runs.
+    /// The invariant of every value: the sequences fall. Proof step: does nothing when it runs.
     pub fn recall_falling(&self)
         ensures { IsFalling self.now }
     {

@@ -38,7 +38,7 @@ impl PointTest for IsBelow<'_> {
     }
 }
 
-/// How many of the points have keys below a key.
+/// The number of points whose keys are below a key.
 ///
 /// It is a binary search.
 fn count_below(points: &PointSlice<'_>, key: &[u8]) -> usize
@@ -72,7 +72,7 @@ fn sides_of<'a>(
     Ok((below, from))
 }
 
-/// What is kept of runs' points, key by key. Many points of one key are folded in two threads.
+/// The points kept of runs' points, key by key. Many points of one key are folded in two threads.
 fn points_kept_in_threads<O: Operator + Sync, R: Threads + Sync>(
     rt: &R,
     alloc: Global,
@@ -97,7 +97,7 @@ fn points_kept_in_threads<O: Operator + Sync, R: Threads + Sync>(
     points_kept::<O, _>(&folder, alloc, runs, inputs, keeping)
 }
 
-/// What is kept of runs' points, key by key. The points from the last cut on are merged in a thread of their own, those
+/// The points kept of runs' points, key by key. The points from the last cut on are merged in a thread of their own, those
 /// between two cuts too, and those below the first in this one. Wherever the cuts are, the result is the same.
 ///
 /// The calling thread starts all others, one after the other. If one can't be started, its part is merged here.
@@ -171,7 +171,7 @@ fn points_in<'a>(alloc: Global, inputs: &'a [Arc<Run>]) -> Result<Vec<PointSlice
     Ok(runs)
 }
 
-/// What is kept of the points of runs, key by key, in one thread.
+/// The points kept of the points of runs, key by key, in one thread.
 pub(crate) fn points_kept_alone<O: Operator>(
     alloc: Global,
     inputs: &[Arc<Run>],
@@ -192,7 +192,7 @@ pub(crate) fn points_kept_alone<O: Operator>(
     points_kept::<O, _>(&Alone, alloc, &runs, inputs, keeping)
 }
 
-/// What is kept of the points of runs, key by key. The parts of the key space between the cuts are merged side by side.
+/// The points kept of the points of runs, key by key. The parts of the key space between the cuts are merged side by side.
 pub(crate) fn points_kept_by_parts<O: Operator + Sync>(
     rt: &(impl Threads + Sync),
     alloc: Global,

@@ -54,7 +54,7 @@ fn push_groups<O: Operator, F: Folder<O>>(
     Ok(())
 }
 
-/// What is kept of runs' points, key by key, with the range deletions of the inputs over them.
+/// The points kept of runs' points, key by key, with the range deletions of the inputs over them.
 ///
 /// For each key it takes a few steps for each input that has fragments.
 pub(crate) fn points_kept<O: Operator, F: Folder<O>>(

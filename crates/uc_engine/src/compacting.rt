@@ -35,7 +35,7 @@ impl Engine {
         with_each!(AnyStore, &mut self.store, store => store.compact_once(alloc))
     }
 
-    /// Flushes if more than so many writes are gathered and no batch is prepared, as `LiveStore::settle` does.
+    /// Flushes if more than this many writes are gathered and no batch is prepared, as `LiveStore::settle` does.
     pub fn settle(&mut self, alloc: Global, most: usize)
         ensures kind { self.new.kind ≡ self.old.kind }
         ensures prepares { Prepares (meaning_of self.old.kind) self.old.live self.new.live self.old.live.prepared }

@@ -1,4 +1,4 @@
-//! What is done alike to a store of each operator, and to its views, jobs and checkpoints: the only matches over them all.
+//! Calls that a store of each operator has alike, and its views, jobs and checkpoints: the only matches over all operators.
 
 /// Does the same with what is inside.
 macro_rules! with_each {
@@ -28,7 +28,7 @@ macro_rules! map_each {
 
 pub(crate) use map_each;
 
-/// Which operator it has.
+/// The operator of a store.
 macro_rules! kind_of {
     ($any:ident, $value:expr) => {
         match $value {

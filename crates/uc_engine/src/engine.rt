@@ -46,7 +46,7 @@ impl Drop for Engine {
 }
 
 impl Engine {
-    /// What holds of every engine, as `LiveStore::recall` says it. Proof step: does nothing when it runs.
+    /// The invariant of every engine, as `LiveStore::recall` says it. Proof step: does nothing when it runs.
     pub fn recall(&self)
         ensures owner { IsOwner (owner_in self.now.live) }
         ensures rising { IsRising self.now.live.version.last self.now.live.gathered }
@@ -54,21 +54,21 @@ impl Engine {
         with_each!(AnyStore, &self.store, store => store.recall())
     }
 
-    /// Which operator merges.
+    /// The merge operator.
     pub fn kind(&self) -> OperatorKind
         ensures { result ≡ self.now.kind }
     {
         kind_of!(AnyStore, &self.store)
     }
 
-    /// Which store it is, as its options say.
+    /// The store's id, as its options say.
     pub fn id(&self) -> StoreId
         ensures { result ≡ self.now.live.options.id }
     {
         with_each!(AnyStore, &self.store, store => store.id())
     }
 
-    /// What its runs hold.
+    /// Its runs and snapshots.
     pub(crate) fn version(&self) -> &Version
         ensures { result.now ≡ self.now.live.version }
     {
@@ -82,7 +82,7 @@ impl Engine {
         with_each!(AnyStore, &self.store, store => store.last())
     }
 
-    /// How many writes are gathered.
+    /// The number of gathered writes.
     pub fn gathered(&self) -> usize
         ensures { result ≡ length self.now.live.gathered }
     {

@@ -60,7 +60,7 @@ impl EngineView {
 }
 
 impl EngineCheckpoint {
-    /// How many rows are laid out.
+    /// The number of rows laid out.
     pub fn rows(&self) -> u64
         ensures { result ≡ self.now.progress.rows }
     {

@@ -55,21 +55,21 @@ impl Drop for EngineJob {
 }
 
 impl EngineJob {
-    /// Which operator merges.
+    /// The merge operator.
     pub fn kind(&self) -> OperatorKind
         ensures { result ≡ self.now.kind }
     {
         kind_of!(AnyJob, &self.job)
     }
 
-    /// How far it is.
+    /// The stage that it has reached.
     pub fn stage(&self) -> JobStage
         ensures { result ≡ self.now.task.stage }
     {
         with_each!(AnyJob, &self.job, job => job.stage())
     }
 
-    /// How many bytes the runs have together that it compacts, with 8 for each sequence, at most 2^64 - 1.
+    /// The size of the runs that it compacts together in bytes, with 8 for each sequence, at most 2^64 - 1.
     pub fn input_size(&self) -> u64
         ensures { result ≡ input_size self.now.task }
     {

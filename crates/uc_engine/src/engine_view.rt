@@ -28,8 +28,8 @@ pub(crate) enum AnyView {
     Tail(View<LastBytes>),
 }
 
-/// What an engine holds at a moment. It stays so, whatever happens to the engine, and also when that is dropped. Threads
-/// share it: each read only reads. A contract sees which operator merges, and what the store holds.
+/// The contents of an engine at a moment. They stay so, whatever happens to the engine, and also when that is dropped. Threads
+/// share it: each read only reads. A contract sees the operator, and the contents.
 pub struct EngineView {
     pub(crate) view: AnyView,
 }
@@ -51,7 +51,7 @@ impl Drop for EngineView {
 }
 
 impl Engine {
-    /// What it holds now, as `LiveStore::view` gives it. What is prepared isn't in it. It is refused for want of memory.
+    /// A view of its contents now, as `LiveStore::view` gives it. A prepared batch isn't in it. It is refused for want of memory.
     /// It changes nothing.
     pub fn view(&mut self, alloc: Global) -> Result<EngineView, AllocError>
         ensures view { IfOk result (λ view. view ≡ viewed_in self.old) }
@@ -71,14 +71,14 @@ impl EngineView {
         Ok(EngineView { view })
     }
 
-    /// Which operator merges.
+    /// The merge operator.
     pub fn kind(&self) -> OperatorKind
         ensures { result ≡ self.now.kind }
     {
         kind_of!(AnyView, &self.view)
     }
 
-    /// What its runs hold.
+    /// Its runs and snapshots.
     pub(crate) fn version(&self) -> &Version
         ensures { result.now ≡ self.now.seen.version }
     {
@@ -92,7 +92,7 @@ impl EngineView {
         with_each!(AnyView, &self.view, view => view.last())
     }
 
-    /// How many writes are gathered.
+    /// The number of gathered writes.
     pub fn gathered(&self) -> usize
         ensures { result ≡ length self.now.seen.gathered }
     {

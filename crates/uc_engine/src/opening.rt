@@ -20,7 +20,7 @@ use uc_live::{LiveOpenError, LiveOptions, LiveStore};
 pub struct OpenedEngine {
     /// The engine, which has the writes before the log's first fault.
     pub engine: Engine,
-    /// How the log ended: clean, torn as after a crash, or at a fault, which is named with its place.
+    /// The end of the log: clean, torn as after a crash, or at a fault, which is named with its place.
     pub ended: Ended,
 }
 

@@ -7,7 +7,7 @@ use uc_oper::{Append, Tail};
 /// The delimiter of [`OperatorKind::Append`].
 pub(crate) const COMMA: u8 = b',';
 
-/// How many bytes [`OperatorKind::Tail`] keeps.
+/// The number of bytes that [`OperatorKind::Tail`] keeps.
 pub(crate) const KEPT: usize = 4;
 
 /// The operator of [`OperatorKind::Append`].
@@ -16,7 +16,7 @@ pub(crate) type Texts = Append<COMMA>;
 /// The operator of [`OperatorKind::Tail`].
 pub(crate) type LastBytes = Tail<KEPT>;
 
-/// Which operator merges (RocksDB wiki, "Merge Operator").
+/// The merge operator (RocksDB wiki, "Merge Operator").
 #[derive(Clone, Copy, Debug, PartialEq, Eq)]
 pub enum OperatorKind {
     /// Texts joined by commas, as RocksDB's `StringAppendOperator` does.

@@ -9,23 +9,23 @@ use uc_fold::Totals;
 use uc_live::Version;
 use uc_version_state::Placed;
 
-/// What an engine holds, in numbers.
+/// The figures of an engine.
 #[derive(Clone, Copy, Debug, PartialEq, Eq)]
 pub struct EngineReport {
-    /// How many runs there are.
+    /// The number of runs.
     pub runs: u64,
-    /// How many sequences snapshots protect.
+    /// The number of sequences that snapshots protect.
     pub keeps: u64,
     /// The sums of all runs: points, fragments of range deletions, and bytes, with 8 for each sequence. Each is held at
     /// 2^64 - 1.
     pub total: Totals,
-    /// How many writes are gathered, which no run has yet.
+    /// The number of gathered writes, which no run has yet.
     pub gathered: u64,
     /// The last sequence.
     pub last: u64,
 }
 
-/// What a run adds to the totals.
+/// A run's share of the totals.
 fn totals_of(placed: &Placed) -> Totals
     ensures { result ≡ reports.totals_of placed.now }
 {
@@ -63,7 +63,7 @@ fn total(runs: &[Placed]) -> Totals
     total
 }
 
-/// The report of a version after which so many writes are gathered, up to a last sequence.
+/// The report of a version after which this many writes are gathered, up to a last sequence.
 fn report_with(version: &Version, gathered: usize, last: u64) -> EngineReport
     ensures { result ≡ reports.report_with version.now gathered last }
 {
@@ -77,7 +77,7 @@ fn report_with(version: &Version, gathered: usize, last: u64) -> EngineReport
 }
 
 impl Engine {
-    /// What it holds, in numbers. It looks at each run once, and at no point.
+    /// Its figures. It looks at each run once, and at no point.
     pub fn report(&self) -> EngineReport
         ensures { result ≡ reports.report_of self.now.live }
     {
@@ -86,7 +86,7 @@ impl Engine {
 }
 
 impl EngineView {
-    /// What it holds, in numbers, as [`Engine::report`] tells them.
+    /// Its figures, as [`Engine::report`] tells them.
     pub fn report(&self) -> EngineReport
         ensures { result ≡ reports.report_seen self.now.seen }
     {

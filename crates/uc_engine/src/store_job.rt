@@ -18,14 +18,14 @@ pub struct StoreJob {
 }
 
 impl StoreJob {
-    /// How far it is.
+    /// The stage that it has reached.
     pub fn stage(&self) -> JobStage
         ensures { result ≡ jobs.stage_of self.now }
     {
         self.job.stage()
     }
 
-    /// How many bytes the runs have together that it compacts, as [`TakenJob::input_size`] counts them.
+    /// The size of the runs that it compacts together in bytes, as [`TakenJob::input_size`] counts them.
     pub fn input_size(&self) -> u64
         ensures { result ≡ jobs.input_size self.now }
     {

@@ -18,7 +18,7 @@ pub enum TakenJob {
 }
 
 impl TakenJob {
-    /// How far it is.
+    /// The stage that it has reached.
     pub fn stage(&self) -> JobStage
         ensures { result ≡ jobs.stage_of self.now }
     {
@@ -28,7 +28,7 @@ impl TakenJob {
         }
     }
 
-    /// How many bytes the runs have together that it compacts, with 8 for each sequence, at most 2^64 - 1. A flush compacts none.
+    /// The size of the runs that it compacts together in bytes, with 8 for each sequence, at most 2^64 - 1. A flush compacts none.
     pub fn input_size(&self) -> u64
         ensures { result ≡ jobs.input_size self.now }
     {

@@ -6,7 +6,7 @@ use uc_store::{Answer, Bytes, Op, Query};
 /// The key that is counted under.
 pub(crate) const VISITS: &[u8] = b"visits";
 
-/// A batch that counts so many visits.
+/// A batch that counts this many visits.
 pub(crate) fn batch_of(alloc: Global, visits: u64) -> Result<Vec<Op>, AllocError> {
     let operand = Bytes::from_slice(alloc, &visits.to_le_bytes())?;
     let op = Op::Merge(Bytes::from_slice(alloc, VISITS)?, operand);

@@ -5,22 +5,22 @@ ghost use Rattle.uc_fold.specs.Joining.{IsLawful};
 use std::alloc::{AllocError, Global};
 use std::marker::Send;
 
-/// How an older part and the newer one after it become one part.
+/// A way to join an older part and the newer one after it into one part.
 ///
 /// An implementation is a type of which no value is needed, so parts that are joined in two ways are never mixed.
 /// Neighbours may be joined in any grouping, but in no other order (RocksDB wiki, "Merge Operator": an associative
 /// merge).
 pub trait Joins {
-    /// What is joined.
+    /// The type of a part.
     type Part: Send + Drop;
 
-    /// Which values a part can have. A `u64` has no greatest value in proofs, so it is said here.
+    /// The values that a part can have. A `u64` has no greatest value in proofs, so it is said here.
     ghost fits: { Self.Part → Type 0 };
 
-    /// What [`Joins::unit`] returns.
+    /// The part that [`Joins::unit`] returns.
     ghost unit: { Self.Part };
 
-    /// What [`Joins::join`] makes of an older and a newer part.
+    /// The part that [`Joins::join`] makes of an older and a newer one.
     ghost join: { Self.Part → Self.Part → Self.Part };
 
     /// The part that changes none that it is joined with.

@@ -1,4 +1,4 @@
-//! What holds of every way to join, of effects and of totals.
+//! Laws about every way to join, about effects and about totals.
 ghost use Rattle.std.specs.Prelude.{◌≡◌, ℕ, List, Option, ◌++◌, fold};
 ghost use Rattle.std.specs.List.{AllByRecursion};
 ghost use Rattle.uc_oper.specs.declared.effect.Effect.{Effect as EffectOf};

@@ -5,7 +5,7 @@ ghost use Rattle.uc_fold.specs.Adding.{IsHeld, nothing, added, adding_lawful};
 use crate::joins::Joins;
 use std::alloc::{AllocError, Global};
 
-/// How much some runs hold in all.
+/// The sums over some runs.
 #[derive(Clone, Copy, Debug, PartialEq, Eq)]
 pub struct Totals {
     /// Points: writes of a single key.

@@ -26,7 +26,7 @@ impl Model for Handle {
     ghost also_owns = { λ h. address_owns the_row h.alloc h.at h.held };
 }
 
-// What an engine owns may be freed by any thread, so a handle may go to another.
+// Any thread may free the memory of an engine, so a handle may go to another.
 unsafe impl Send for Handle {}
 
 impl Handle {

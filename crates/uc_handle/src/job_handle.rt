@@ -23,7 +23,7 @@ impl Model for JobHandle {
     ghost also_owns = { λ h. address_owns the_row h.alloc h.at h.held };
 }
 
-// What a job owns may be freed by any thread, so a handle may go to another.
+// Any thread may free the memory of a job, so a handle may go to another.
 unsafe impl Send for JobHandle {}
 
 impl JobHandle {

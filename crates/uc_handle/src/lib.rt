@@ -1,4 +1,4 @@
-//! What C holds, in a struct of one address: an engine, a batch that is gathered, a view of an engine, a checkpoint of a
+//! Handles for C, each a struct of one address: of an engine, a batch that is gathered, a view of an engine, a checkpoint of a
 //! view, or a job.
 //!
 //! C cannot hold a `Box`. So [`Handle`] is a struct of one address, which C sees, and the box at it, which a

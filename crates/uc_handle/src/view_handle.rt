@@ -23,7 +23,7 @@ impl Model for ViewHandle {
     ghost also_owns = { λ h. address_owns the_row h.alloc h.at h.held };
 }
 
-// What a view owns may be freed by any thread, so a handle may go to another.
+// Any thread may free the memory of a view, so a handle may go to another.
 unsafe impl Send for ViewHandle {}
 
 impl ViewHandle {

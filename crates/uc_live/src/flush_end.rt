@@ -2,7 +2,7 @@
 
 use uc_version::FeedError;
 
-/// What came of a flush job that was ended.
+/// The outcome of a flush job that was ended.
 #[derive(Clone, Copy, Debug, PartialEq, Eq)]
 pub enum FlushEnd {
     /// Its run was installed, with this id.

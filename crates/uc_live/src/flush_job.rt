@@ -14,7 +14,7 @@ use uc_memtable::FlushableMemtables;
 use uc_run::Run;
 use uc_version::JobStage;
 
-/// How far a flush job is, with the run that was made.
+/// The stage of a flush job, with the run that was made.
 #[derive(Drop)]
 enum Progress {
     Taken,
@@ -78,7 +78,7 @@ impl FlushJob {
         self.number
     }
 
-    /// How far it is.
+    /// The stage that it has reached.
     pub fn stage(&self) -> JobStage
         ensures { result ≡ self.now.stage }
     {
@@ -96,7 +96,7 @@ impl FlushJob {
         self.memtables.last()
     }
 
-    /// What holds of every flush job: it has writes. Proof step: does nothing when it runs.
+    /// The invariant of every flush job: it has writes. Proof step: does nothing when it runs.
     pub(crate) fn recall(&self)
         ensures { self.now.writes ≢ [] }
     {

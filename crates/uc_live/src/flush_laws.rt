@@ -1,4 +1,4 @@
-//! What holds of flushes that are done away from their store.
+//! Laws about flushes that are done away from their store.
 ghost use Rattle.std.specs.Prelude.{◌≡◌, ◌≢◌, ◌⊎◌, ℕ, List, Option, Some, None, Contains};
 ghost use Rattle.uc_bytes.specs.declared.write.Write.{Write};
 ghost use Rattle.uc_batch.specs.Rising.{IsRising};

@@ -1,4 +1,4 @@
-//! What is gathered becomes a run.
+//! Flushes: gathered writes become a run.
 ghost use Rattle.std.specs.Prelude.{◌≡◌, ◌≢◌, ◌<◌, ◌⊎◌, [], Some, None, false, OnOk, IfErr, length};
 ghost use Rattle.uc_batch.specs.Rising.{IsRising};
 ghost use Rattle.uc_claims.specs.declared.table.TheConstants.{MOST_SLOTS};
@@ -105,7 +105,7 @@ impl<O: Operator> LiveStore<O> {
         Ok(())
     }
 
-    /// Flushes if more than so many writes are gathered and no batch is prepared, so that a scan has no more to sort.
+    /// Flushes if more than this many writes are gathered and no batch is prepared, so that a scan has no more to sort.
     /// Want of memory or of ids leaves them gathered.
     pub fn settle(&mut self, alloc: Global, most: usize)
         ensures { Prepares O.meaning self.old self.new self.old.prepared }

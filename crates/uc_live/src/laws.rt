@@ -1,4 +1,4 @@
-//! What holds of live stores, whatever happened to them.
+//! Laws about live stores, whatever happened to them.
 ghost use Rattle.std.specs.Prelude.{◌≡◌, ◌≢◌, ◌++◌, ℕ, true, List, [], Option, Some, Contains};
 ghost use Rattle.uc_bytes.specs.declared.write.Write.{Write};
 ghost use Rattle.uc_batch.specs.Rising.{IsRising, last_of};

@@ -10,7 +10,7 @@ use uc_version::Options;
 /// The greatest number of runs from which on writes stop: one slot stays free for a run.
 pub const GREATEST_STOP: u32 = MOST_SLOTS as u32 - 1;
 
-/// How many range deletions fill a memtable: a lookup asks each of them.
+/// The number of range deletions that fill a memtable: a lookup asks each of them.
 pub const MOST_RANGES: usize = 64;
 
 /// Writes stop at 255 runs at the latest, and 64 range deletions fill a memtable.
@@ -19,22 +19,22 @@ pub fn limits_have_their_numbers()
     ensures ranges { limits.MOST_RANGES ≡ 64 }
 {}
 
-/// How a live store is kept.
+/// The options of a live store.
 #[derive(Clone, Copy, Debug, PartialEq, Eq)]
 pub struct LiveOptions {
-    /// How its runs are compacted, and from how many bytes on the active memtable is full (`write_buffer_size`).
+    /// The options of its compactions, and the size in bytes from which on the active memtable is full (`write_buffer_size`).
     pub store: Options,
     /// From how many runs on it compacts before it flushes (`level0_stop_writes_trigger`): no fewer than the store's
     /// `trigger`, and at most [`GREATEST_STOP`].
     pub stop_trigger: u32,
-    /// How many memtables it gathers at most (`max_write_buffer_number`), at least 1. With 1, a write that finds the
+    /// The most memtables that it gathers (`max_write_buffer_number`), at least 1. With 1, a write that finds the
     /// memtable full flushes it. With more, it leaves a full one to a flush job, until as many as these are full: then it
     /// flushes all that is gathered.
     pub max_write_buffer_number: u32,
     /// Whether it compacts after each flush while runs are picked. Else its owner does, and the store only from
     /// `stop_trigger` runs on.
     pub compacts_itself: bool,
-    /// Which store it is.
+    /// The store's id.
     pub id: StoreId,
 }
 

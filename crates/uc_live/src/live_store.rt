@@ -22,13 +22,13 @@ use uc_version_state::{feeds_and_keeps_give_versions, opening_gives_a_version};
 /// A store with one owner that gathers what is written to it in memtables.
 pub struct LiveStore<O: Operator> {
     pub(crate) owned: Owned<O>,
-    /// What is gathered, and what is prepared.
+    /// The gathered writes, and the prepared ones.
     pub(crate) active: FlushableMemtables,
     /// The sequence of each snapshot, the oldest first, as often as it was taken.
     pub(crate) snapshots: Vec<u64>,
-    /// How many flush jobs were taken out. Each has the number that this became with it.
+    /// The number of flush jobs that were taken out. Each has the number that this became with it.
     pub(crate) flushes: u64,
-    /// How many of the writes that are gathered the last one has, while it is out. They are set apart.
+    /// The number of gathered writes that the last flush job has, while it is out. They are set apart.
     pub(crate) leaving: Option<usize>,
     pub(crate) options: LiveOptions,
 }
@@ -93,7 +93,7 @@ impl<O: Operator> LiveStore<O> {
         })
     }
 
-    /// What holds of every live store: its runs and its claims are an owner's, what is gathered lies after the runs, and its
+    /// The invariant of every live store: its runs and its claims are an owner's, gathered writes come after the runs, and its
     /// options are good. Proof step: does nothing when it runs.
     pub fn recall(&self)
         ensures owner { IsOwner (owner_in self.now) }
@@ -103,14 +103,14 @@ impl<O: Operator> LiveStore<O> {
         self.owned.recall();
     }
 
-    /// Which store it is, as its options say.
+    /// The store's id, as its options say.
     pub fn id(&self) -> StoreId
         ensures { result ≡ self.now.options.id }
     {
         self.options.id
     }
 
-    /// What its runs hold. What is gathered isn't in it.
+    /// Its runs and snapshots. Gathered writes aren't in it.
     pub fn version(&self) -> &Version
         ensures { result.now ≡ self.now.version }
     {
@@ -124,7 +124,7 @@ impl<O: Operator> LiveStore<O> {
         last_sequence(self.owned.version(), &self.active)
     }
 
-    /// How many writes are gathered.
+    /// The number of gathered writes.
     pub fn gathered(&self) -> usize
         ensures { result ≡ length self.now.gathered }
     {

@@ -20,7 +20,7 @@ use uc_oper::Operator;
 pub struct OpenedStore<O: Operator> {
     /// The store, which has the writes before the log's first fault.
     pub store: LiveStore<O>,
-    /// How the log ended: clean, torn as after a crash, or at a fault, which is named with its place.
+    /// The end of the log: clean, torn as after a crash, or at a fault, which is named with its place.
     pub ended: Ended,
 }
 

@@ -1,4 +1,4 @@
-//! What holds of logs that a store's batches are recorded in.
+//! Laws about logs in which a store's batches are recorded.
 ghost use Rattle.std.specs.Prelude.{◌≡◌, ◌≤◌, ℕ, List, [], ◌++◌, Ok};
 ghost use Rattle.uc_bytes.specs.declared.write.Write.{Write};
 ghost use Rattle.uc_logrec.specs.Position.{LiesIn};

@@ -1,4 +1,4 @@
-//! What a program appends to its write-ahead log.
+//! The bytes that a program appends to its write-ahead log.
 ghost use Rattle.std.specs.Prelude.{◌≡◌, [], IfOk, IfErr};
 ghost use Rattle.uc_batch.specs.Batch.{batch_of};
 ghost use Rattle.uc_logrec.specs.Log.{payload_text};

@@ -1,4 +1,4 @@
-//! What holds of the value of a key, by where a lookup of it is answered.
+//! Laws about the value of a key, by where a lookup of it is answered.
 ghost use Rattle.std.specs.Prelude.{◌≡◌, ◌≢◌, ◌≤◌, ◌++◌, ℕ, List, []};
 ghost use Rattle.std.specs.List.{AllByRecursion};
 ghost use Rattle.uc_bytes.specs.declared.write.Write.{Write};

@@ -1,7 +1,7 @@
 //! [`StoreId`]: which store it is.
 ghost use Rattle.std.specs.Prelude.{◌≡◌, ◌↔◌, IsTrue};
 
-/// Which store it is: a number by which the jobs of a store are told from those of others. Who makes stores that exchange
+/// The id of a store: a number by which its jobs are told from those of others. Who makes stores that exchange
 /// jobs gives each another one; 0 is for those that don't.
 #[derive(Clone, Copy, Debug, PartialEq, Eq)]
 pub struct StoreId {

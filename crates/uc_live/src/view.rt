@@ -29,7 +29,7 @@ struct ViewParts {
     gathered: FlushableMemtables,
 }
 
-/// What a live store holds at a moment. It stays so, whatever is written to the store, flushed and compacted, and also
+/// The contents of a live store at a moment. They stay so, whatever is written to the store, flushed and compacted, and also
 /// when the store is dropped. Threads share it: each read only reads.
 pub struct View<O: Operator> {
     parts: Arc<ViewParts>,
@@ -61,7 +61,7 @@ impl<O: Operator> Drop for View<O> {
 }
 
 impl<O: Operator> LiveStore<O> {
-    /// What it holds now. A batch that is prepared isn't in it, and stays prepared. Nothing is flushed. No run is
+    /// A view of its contents now. A batch that is prepared isn't in it, and stays prepared. Nothing is flushed. No run is
     /// copied, and of what is gathered only what [`FlushableMemtables::share`] says.
     ///
     /// It is refused for want of memory. It changes nothing.
@@ -107,7 +107,7 @@ impl<O: Operator> View<O> {
         Ok(())
     }
 
-    /// What the runs hold. What is gathered isn't in it.
+    /// The runs and snapshots. Gathered writes aren't in it.
     pub fn version(&self) -> &Version
         ensures { result.now ≡ self.now.version }
     {
@@ -121,14 +121,14 @@ impl<O: Operator> View<O> {
         last_sequence(&self.parts.version, &self.parts.gathered)
     }
 
-    /// How many writes are gathered.
+    /// The number of gathered writes.
     pub fn gathered(&self) -> usize
         ensures { result ≡ length self.now.gathered }
     {
         self.parts.gathered.len()
     }
 
-    /// What holds of every view: what is gathered lies after the runs. Proof step: does nothing when it runs.
+    /// The invariant of every view: gathered writes come after the runs. Proof step: does nothing when it runs.
     pub fn recall(&self)
         ensures { IsRising self.now.version.last self.now.gathered }
     {

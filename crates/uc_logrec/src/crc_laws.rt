@@ -1,4 +1,4 @@
-//! What holds of the definitions alone.
+//! Laws about the definitions alone.
 ghost use Rattle.std.specs.Prelude.{◌≡◌, ◌≤◌, Bool, List, length};
 ghost use Rattle.uc_logrec.specs.Division.{IsDivision, remainder};
 

@@ -1,7 +1,7 @@
-//! How a log ends.
+//! [`Ending`]: the end of a log.
 use crate::fault::LogFault;
 
-/// How a log ends. Offsets are in bytes from the log's start.
+/// The end of a log. Offsets are in bytes from the log's start.
 #[derive(Clone, Copy, Debug, PartialEq, Eq)]
 pub enum Ending {
     /// After a complete payload. Zero bytes to the log's end may follow.

@@ -1,7 +1,7 @@
-//! What may be wrong with a log's records.
+//! [`LogFault`]: a fault of a log's records.
 use thiserror::Error;
 
-/// What is wrong with a record of a log.
+/// A fault of a record of a log.
 ///
 /// Reading ends at the first fault. The types and the order of fragments are those of LevelDB's `log_format.md`.
 #[derive(Clone, Copy, Debug, PartialEq, Eq, Error)]

@@ -2,7 +2,7 @@
 ghost use Rattle.std.specs.Prelude.{◌≡◌};
 ghost use Rattle.uc_logrec.specs.Format.{code_of, kind_of};
 
-/// Which part of a payload a record holds. The numbers are the types in the log.
+/// The part of a payload that a record holds. The numbers are the types in the log.
 #[derive(Clone, Copy, PartialEq, Eq)]
 pub(crate) enum Kind {
     /// All of it.

@@ -1,4 +1,4 @@
-//! What holds of the definitions alone.
+//! Laws about the definitions alone.
 ghost use Rattle.std.specs.Prelude.{ℕ, ◌+◌, List, [], ◌∷◌, ◌++◌, length};
 ghost use Rattle.uc_logrec.specs.Log.{IsReadAgain, payloads_of, ending_of, payload_text};
 ghost use Rattle.uc_logrec.specs.Grammar.{AreBytes, IsMeaning};

@@ -11,12 +11,12 @@ use uc_bytes::{Bytes, Items};
 /// A list of payloads, in the order of the log.
 pub type Payloads = Items<Bytes>;
 
-/// What a log holds.
+/// The payloads of a log, and its end.
 #[derive(Drop)]
 pub struct LogRead {
     /// The complete payloads before the ending.
     pub payloads: Payloads,
-    /// How the log ends after them.
+    /// The end of the log after them.
     pub ending: Ending,
 }
 

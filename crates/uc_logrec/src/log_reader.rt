@@ -11,7 +11,7 @@ use crate::step::{Step, Unfinished, step_at};
 use std::alloc::AllocError;
 use std::marker::Model;
 
-/// What comes next in a log.
+/// The next item of a log.
 #[derive(Clone, Copy)]
 pub enum Next<'a> {
     /// A payload that the log has in one piece.
@@ -56,7 +56,7 @@ impl<'a> LogReader<'a> {
         }
     }
 
-    /// How many payloads it has returned.
+    /// The number of payloads returned before.
     pub fn payloads_read(&self) -> u64
         ensures { result ≡ self.now.payloads_read }
     {
@@ -82,7 +82,7 @@ impl<'a> LogReader<'a> {
     }
 }
 
-/// What comes at an offset of a log, and the offset after that payload; if the log ends there, the same offset.
+/// The item at an offset of a log, and the offset after that payload; if the log ends there, the same offset.
 ///
 /// Offsets are in bytes. A payload may begin at 0 and where an earlier call led. At an offset above its length the log
 /// ends clean. The buffer is for a payload of several pieces, as at [`LogReader::next`]. After an `Err` the call can be
@@ -105,7 +105,7 @@ pub fn next_payload<'a>(
     }
 }
 
-/// What comes next at a place of a log, if these bytes are there; then the place after that payload, and the bytes from
+/// The next item at a place of a log, if these bytes are there; then the place after that payload, and the bytes from
 /// there.
 ///
 /// Places are offsets in bytes. A payload may begin at 0 and where an earlier call led. The bytes may be cut off: a payload
@@ -145,7 +145,7 @@ pub fn next_payload_at<'a>(
     }
 }
 
-/// How the log ends at an offset where no record is. The open payload's data is ignored.
+/// The end of the log at an offset where no record is. The open payload's data is ignored.
 fn ending_at(stop: Stop, unfinished: &Option<Unfinished>, offset: u64) -> Ending
     ensures { (joined : List ℕ) → result ≡ definitions.ending_at stop (open_in unfinished.now joined) offset }
 {

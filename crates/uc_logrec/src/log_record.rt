@@ -21,7 +21,7 @@ pub(crate) const MAX_FRAGMENT: usize = BLOCK_SIZE - HEADER_SIZE;
 /// A record: a part of a payload.
 #[derive(Clone, Copy)]
 pub(crate) struct Record<'a> {
-    /// Which part it is.
+    /// The part of the payload.
     pub(crate) kind: Kind,
     /// Its data.
     pub(crate) fragment: &'a [u8],

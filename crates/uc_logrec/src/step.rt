@@ -1,4 +1,4 @@
-//! What a record does to the payload that is not complete yet.
+//! [`Step`]: the effect of a record on the payload that is not complete yet.
 ghost use Rattle.std.specs.Prelude.{◌≡◌, IfOk};
 ghost use Rattle.uc_logrec.specs.Log as log;
 ghost use Rattle.uc_logrec.specs.Steps.{fragments_of, open_in, step_with_data};
@@ -18,7 +18,7 @@ pub(crate) struct Unfinished {
     pub(crate) is_empty_first: bool,
 }
 
-/// What a record does to the payload that is open.
+/// The effect of a record on the payload that is open.
 #[derive(Clone, Copy)]
 pub(crate) enum Step {
     /// Its data is a complete payload in place, and none is open now.
@@ -31,7 +31,7 @@ pub(crate) enum Step {
     Refused(LogFault),
 }
 
-/// What a record at an offset does.
+/// The effect of a record at an offset.
 pub(crate) fn step_at(
     unfinished: Option<Unfinished>,
     joined: &mut Vec<u8>,
@@ -47,7 +47,7 @@ pub(crate) fn step_at(
     }
 }
 
-/// What a record does if no payload is open.
+/// The effect of a record if no payload is open.
 fn step_outside(joined: &mut Vec<u8>, offset: u64, found: Record<'_>) -> Result<Step, AllocError>
     ensures { IfOk result (λ step. step_with_data step joined.new.items found.entry.fragment.now ≡
         log.step_outside offset found.entry.kind found.entry.fragment.now) }
@@ -67,7 +67,7 @@ fn step_outside(joined: &mut Vec<u8>, offset: u64, found: Record<'_>) -> Result<
     }
 }
 
-/// What a record does to an open payload.
+/// The effect of a record on an open payload.
 fn step_inside(
     unfinished: Unfinished,
     joined: &mut Vec<u8>,

@@ -25,13 +25,13 @@ pub struct ActiveMemtable {
     writes: Memtable,
     /// The labels of all writes.
     chains: Chains,
-    /// How many writes are range deletions.
+    /// The number of range deletions among all writes.
     all_ranges: usize,
-    /// How many writes are shown.
+    /// The number of writes that are shown.
     shown: usize,
     size: u64,
     last: u64,
-    /// How many of the shown writes are range deletions.
+    /// The number of range deletions among the shown writes.
     ranges: usize,
 }
 
@@ -83,14 +83,14 @@ impl ActiveMemtable {
         self.shown == 0
     }
 
-    /// How many writes are shown.
+    /// The number of writes that are shown.
     pub fn len(&self) -> usize
         ensures { result ≡ length self.now.shown }
     {
         self.shown
     }
 
-    /// How many bytes the shown writes have, as [`Memtable::size`] counts them.
+    /// The size of the shown writes in bytes, as [`Memtable::size`] counts them.
     pub fn size(&self) -> u64
         ensures { result ≡ memtable_size self.now.shown }
     {
@@ -111,7 +111,7 @@ impl ActiveMemtable {
         self.writes.last()
     }
 
-    /// How many bytes all writes have, those that wait too.
+    /// The size of all writes in bytes, those that wait too.
     pub fn size_of_all(&self) -> u64
         ensures { result ≡ memtable_size (self.now.shown ++ self.now.waiting) }
     {
@@ -133,7 +133,7 @@ impl ActiveMemtable {
         &self.writes
     }
 
-    /// How many of the shown writes are range deletions.
+    /// The number of range deletions among the shown writes.
     pub fn ranges(&self) -> usize
         ensures { result ≡ count_by deletes_range self.now.shown }
     {
@@ -150,7 +150,7 @@ impl ActiveMemtable {
         self.writes.write(place)
     }
 
-    /// What holds of every such memtable: the sequences of its writes rise. Proof step: does nothing when it runs.
+    /// The invariant of every such memtable: the sequences of its writes rise. Proof step: does nothing when it runs.
     pub fn recall(&self)
         ensures { IsRising 0 (self.now.shown ++ self.now.waiting) }
     {
@@ -254,7 +254,7 @@ impl ActiveMemtable {
             .into_effect(alloc)
     }
 
-    /// What the shown writes at or below a sequence together do to a key. It looks at the range deletions, the newest
+    /// The effect of the shown writes at or below a sequence on a key. It looks at the range deletions, the newest
     /// first, down to one over the key, and then at the writes of the key above it, down to a put or a delete. Merges
     /// above that one cost the length of the text that they give. A value that is put, and that nothing is merged into, stays
     /// where it is.

@@ -20,7 +20,7 @@ use uc_run::{Memtable, Run, SoughtKey};
 /// Gathered memtables after older ones that are set apart, so that another thread flushes them. A contract sees them as
 /// [`GatheredMemtables`] of all their writes, and how many of the shown ones are set apart.
 ///
-/// What is set apart stays as it is until it is dropped, and is put together with nothing.
+/// Memtables that are set apart stay as they are until they are dropped, and are joined with no others.
 pub struct FlushableMemtables {
     apart: FrozenMemtables,
     behind: GatheredMemtables,
@@ -64,14 +64,14 @@ impl FlushableMemtables {
         self.apart.is_empty() && self.behind.is_empty()
     }
 
-    /// How many writes are shown.
+    /// The number of writes that are shown.
     pub fn len(&self) -> usize
         ensures { result ≡ length self.now.shown }
     {
         self.apart.len() + self.behind.len()
     }
 
-    /// How many bytes the shown writes have, as [`Memtable::size`] counts them.
+    /// The size of the shown writes in bytes, as [`Memtable::size`] counts them.
     pub fn size(&self) -> u64
         ensures { result ≡ memtable_size self.now.shown }
     {
@@ -92,7 +92,7 @@ impl FlushableMemtables {
         self.apart.last().max(self.behind.last_prepared())
     }
 
-    /// How many bytes all writes have, those that wait too.
+    /// The size of all writes in bytes, those that wait too.
     pub fn size_of_all(&self) -> u64
         ensures { result ≡ memtable_size (self.now.shown ++ self.now.waiting) }
     {
@@ -106,7 +106,7 @@ impl FlushableMemtables {
         self.behind.is_waiting()
     }
 
-    /// How many of the shown writes are range deletions.
+    /// The number of range deletions among the shown writes.
     pub fn ranges(&self) -> usize
         ensures { result ≡ count_by deletes_range self.now.shown }
     {
@@ -131,7 +131,7 @@ impl FlushableMemtables {
         self.behind.to_memtable_behind(alloc, &self.apart)
     }
 
-    /// What holds of all such memtables: the sequences of their writes rise. Proof step: does nothing when it runs.
+    /// The invariant of all such memtables: the sequences of their writes rise. Proof step: does nothing when it runs.
     pub fn recall(&self)
         ensures { IsRising 0 (self.now.shown ++ self.now.waiting) }
     {
@@ -218,7 +218,7 @@ impl FlushableMemtables {
             .into_effect(alloc)
     }
 
-    /// What the shown writes at or below a sequence together do to a key. It asks the memtables from the newest on, up
+    /// The effect of the shown writes at or below a sequence on a key. It asks the memtables from the newest on, up
     /// to the first that puts or deletes the key. A value that is put, and that nothing is merged into, stays where it is.
     pub fn effect_of_sought<O: Operator>(
         &self,

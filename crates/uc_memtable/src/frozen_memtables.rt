@@ -21,11 +21,11 @@ use uc_run::{Run, SoughtKey};
 /// They are few: each has more than twice the bytes of the next one, by [`join_small`](FrozenMemtables::join_small).
 pub(crate) struct FrozenMemtables {
     memtables: Vec<FrozenMemtable>,
-    /// How many writes they show.
+    /// The number of writes that they show.
     len: usize,
     size: u64,
     last: u64,
-    /// How many of these are range deletions.
+    /// The number of range deletions among these.
     ranges: usize,
 }
 
@@ -81,14 +81,14 @@ impl FrozenMemtables {
         self.len == 0
     }
 
-    /// How many writes they show.
+    /// The number of writes that they show.
     pub(crate) fn len(&self) -> usize
         ensures { result ≡ length self.now }
     {
         self.len
     }
 
-    /// How many bytes these have, as [`Memtable::size`](uc_run::Memtable::size) counts them.
+    /// The size of these in bytes, as [`Memtable::size`](uc_run::Memtable::size) counts them.
     pub(crate) fn size(&self) -> u64
         ensures { result ≡ memtable_size self.now }
     {
@@ -102,7 +102,7 @@ impl FrozenMemtables {
         self.last
     }
 
-    /// How many of the writes are range deletions.
+    /// The number of range deletions among the writes.
     pub(crate) fn ranges(&self) -> usize
         ensures { result ≡ count_by deletes_range self.now }
     {
@@ -196,7 +196,7 @@ impl FrozenMemtables {
         join_small(alloc, &mut self.memtables)
     }
 
-    /// What holds of all such memtables: the sequences of their writes rise. Proof step: does nothing when it runs.
+    /// The invariant of all such memtables: the sequences of their writes rise. Proof step: does nothing when it runs.
     pub(crate) fn recall(&self)
         ensures { IsRising 0 self.now }
     {
@@ -218,7 +218,7 @@ impl FrozenMemtables {
         run_of_all(alloc, &self.memtables)
     }
 
-    /// What their writes at or below a sequence do to a key, and then a newer effect. It asks the memtables from the
+    /// The effect of their writes at or below a sequence on a key, and then of a newer effect. It asks the memtables from the
     /// newest on, and stops where the key is put or deleted.
     pub(crate) fn effect_before<'a, O: Operator>(
         &'a self,

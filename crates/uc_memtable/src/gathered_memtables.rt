@@ -64,14 +64,14 @@ impl GatheredMemtables {
         self.frozen.is_empty() && self.active.is_empty()
     }
 
-    /// How many writes are shown.
+    /// The number of writes that are shown.
     pub fn len(&self) -> usize
         ensures { result ≡ length self.now.shown }
     {
         self.frozen.len() + self.active.len()
     }
 
-    /// How many bytes the shown writes have, as [`Memtable::size`] counts them.
+    /// The size of the shown writes in bytes, as [`Memtable::size`] counts them.
     pub fn size(&self) -> u64
         ensures { result ≡ memtable_size self.now.shown }
     {
@@ -92,7 +92,7 @@ impl GatheredMemtables {
         self.frozen.last().max(self.active.last_prepared())
     }
 
-    /// How many bytes all writes have, those that wait too.
+    /// The size of all writes in bytes, those that wait too.
     pub fn size_of_all(&self) -> u64
         ensures { result ≡ memtable_size (self.now.shown ++ self.now.waiting) }
     {
@@ -106,7 +106,7 @@ impl GatheredMemtables {
         self.active.is_waiting()
     }
 
-    /// How many of the shown writes are range deletions.
+    /// The number of range deletions among the shown writes.
     pub fn ranges(&self) -> usize
         ensures { result ≡ count_by deletes_range self.now.shown }
     {
@@ -147,7 +147,7 @@ impl GatheredMemtables {
         Ok(one)
     }
 
-    /// What holds of all such memtables: the sequences of their writes rise. Proof step: does nothing when it runs.
+    /// The invariant of all such memtables: the sequences of their writes rise. Proof step: does nothing when it runs.
     pub fn recall(&self)
         ensures { IsRising 0 (self.now.shown ++ self.now.waiting) }
     {
@@ -191,7 +191,7 @@ impl GatheredMemtables {
     /// A share of what is shown, for other threads: it shows the same from now on, whatever is written here. Nothing
     /// waits in it.
     ///
-    /// What is shown is frozen. No text is copied, but those of small frozen memtables, which are put together, and of
+    /// Freezes the shown writes. It copies the bytes of small frozen memtables, which are joined, and of
     /// the writes that wait. It is refused for want of memory. No write changes here.
     pub fn share(&mut self, alloc: Global) -> Result<GatheredMemtables, AllocError>
         ensures shared { IfOk result (λ shared. shared ≡ record { shown = self.old.shown; waiting = [] }) }
@@ -247,7 +247,7 @@ impl GatheredMemtables {
             .into_effect(alloc)
     }
 
-    /// What the shown writes at or below a sequence together do to a key. It asks the active memtable as
+    /// The effect of the shown writes at or below a sequence on a key. It asks the active memtable as
     /// [`ActiveMemtable::effect`] does, and then the frozen ones, from the newest on, up to the first that puts or
     /// deletes the key. A value that is put, and that nothing is merged into, stays where it is.
     pub fn effect_of_sought<O: Operator>(

@@ -126,7 +126,7 @@ pub(crate) fn join_small(
     Ok(())
 }
 
-/// What memtables do to a key at a sequence, and then a newer effect. It stops at the newest that sets the key.
+/// The effect of memtables on a key at a sequence, and then of a newer effect. It stops at the newest that sets the key.
 pub(crate) fn effect_before<'a, O: Operator>(
     alloc: Global,
     memtables: &'a [FrozenMemtable],

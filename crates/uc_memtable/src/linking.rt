@@ -6,7 +6,7 @@ ghost use Rattle.uc_memtable.specs.Linked.{HaveHeads, AreChained, has_label, lie
 
 use std::alloc::AllocError;
 
-/// How many buckets the first label makes.
+/// The number of buckets that the first label makes.
 const LEAST_BUCKETS: usize = 16;
 
 /// The bucket of a label, among a power of two of them.

@@ -1,4 +1,4 @@
-//! What the shown writes do to a key.
+//! The effect of the shown writes on a key.
 ghost use Rattle.std.specs.Prelude.{◌≡◌, ◌≤◌, ℕ, [], length, map, take, IfOk, IfSome};
 ghost use Rattle.std.specs.Option.{option_map};
 ghost use Rattle.uc_oper.specs.Operation.{Operation};
@@ -187,7 +187,7 @@ fn after_merges<'a, O: Operator>(
     Ok(EffectRef::own(effect))
 }
 
-/// What the writes that the lookup may see do to its key. A value that is put, and that nothing is merged into, stays where it
+/// The effect of the writes that the lookup may see on its key. A value that is put, and that nothing is merged into, stays where it
 /// is.
 pub(crate) fn effect_seen<'a, O: Operator>(
     alloc: Global,

@@ -5,7 +5,7 @@ ghost use Rattle.uc_model.specs.Meaning as meaning;
 use uc_bytes::{OpKind, OpRef, WriteRef};
 use uc_run::{Memtable, SoughtKey, same_text, text_order};
 
-/// How a write bears on the older ones of its key.
+/// The bearing of a write on the older ones of its key.
 #[derive(Clone, Copy)]
 pub(crate) enum Bearing {
     /// It merges into what they leave.
@@ -18,7 +18,7 @@ pub(crate) enum Bearing {
 #[derive(Drop)]
 pub(crate) struct Sight<'a, 'k> {
     pub(crate) writes: &'a Memtable,
-    /// How many of the writes it may see.
+    /// The number of writes that it may see.
     pub(crate) shown: usize,
     pub(crate) key: &'k SoughtKey<'k>,
     pub(crate) at: u64,

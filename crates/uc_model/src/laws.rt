@@ -1,4 +1,4 @@
-//! What holds of the meaning of reads, under every operator.
+//! Laws about the meaning of reads, under every operator.
 ghost use Rattle.std.specs.Prelude.{◌≡◌, ◌<◌, ◌≤◌, ◌&&◌, ◌++◌, ◌↔◌, [], ◌∷◌, ℕ, List, Option, Some, None};
 ghost use Rattle.std.specs.Prelude.{false, nat_le, IsTrue, Any, if◌then◌else◌};
 ghost use Rattle.std.specs.List.{AllByRecursion};

@@ -1,4 +1,4 @@
-//! What a read means, and the plain slow program that computes it.
+//! The meaning of a read, and the plain slow program that computes it.
 //!
 //! The model is one flat list of writes, oldest first, and one left fold for each key. It knows no run, memtable or
 //! compaction: any other way to keep the writes must answer as this crate does. Read `specs/Meaning.antt` first.

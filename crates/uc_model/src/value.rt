@@ -62,7 +62,7 @@ pub fn value_at<O: Operator>(
     Ok(value)
 }
 
-/// What the writes at or below a sequence together do to a key: their single effects, composed. The list is oldest
+/// The effect of the writes at or below a sequence on a key: their single effects, composed. The list is oldest
 /// first. It looks at every write.
 pub fn effect_at<O: Operator>(
     alloc: Global,
@@ -81,7 +81,7 @@ pub fn effect_at<O: Operator>(
     Ok(effect)
 }
 
-/// What one operation does to a key that it touches.
+/// The effect of one operation on a key that it touches.
 fn effect_of(op: &Op) -> Result<Effect, AllocError>
     ensures { IfOk result (λ effect. effect ≡ meaning.effect_of op.now) }
 {

@@ -35,7 +35,7 @@ fn sum_of(alloc: Global, older: &[u8], newer: &[u8]) -> Result<Vec<u8>, AllocErr
     Vec::from_slice(alloc, &wrapped_sum(older, newer).to_le_bytes())
 }
 
-/// That sum in the memory of the older number.
+/// The same sum in the memory of the older number.
 #[inline]
 fn add_onto(mut older: Vec<u8>, newer: &[u8]) -> Result<Vec<u8>, AllocError>
     ensures { IfOk result (λ value. value.items ≡ counting.sum_of older.items newer.now) }

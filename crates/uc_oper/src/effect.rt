@@ -7,7 +7,7 @@ use crate::operator::Operator;
 use std::alloc::{AllocError, Global};
 use uc_bytes::Bytes;
 
-/// What some writes together do to the value of one key.
+/// The effect of some writes together on the value of one key.
 #[derive(Debug, PartialEq, Eq, Drop)]
 pub enum Effect {
     /// The value stays as it was.

@@ -20,7 +20,7 @@ enum Kind<'a> {
     Own(Effect),
 }
 
-/// What some writes together do to the value of one key: an [`Effect`] whose value may still lie where it was written, so
+/// The effect of some writes together on the value of one key: an [`Effect`] whose value may still lie where it was written, so
 /// that a put takes no memory. A contract sees it as the [`Effect`].
 #[derive(Drop)]
 pub struct EffectRef<'a> {

@@ -1,4 +1,4 @@
-//! What holds of effects under every operator.
+//! Laws about effects under every operator.
 ghost use Rattle.std.specs.Prelude.{◌≡◌, ℕ, List, Option};
 ghost use Rattle.uc_oper.specs.declared.effect.Effect.{Effect as EffectOf};
 ghost use Rattle.uc_oper.specs.Composition.{composed, applied};

@@ -1,4 +1,4 @@
-//! What an operand makes of a value, or of none.
+//! Merges of an operand into a value, or into none.
 ghost use Rattle.std.specs.Prelude.{◌≡◌, IfOk};
 ghost use Rattle.uc_oper.specs.Merging as merging;
 

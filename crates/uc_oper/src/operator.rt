@@ -4,7 +4,7 @@ ghost use Rattle.uc_oper.specs.Operation.{Operation, IsLawful};
 
 use std::alloc::{AllocError, Global};
 
-/// How the operands of merges combine (RocksDB wiki, "Merge Operator": an associative merge with a partial merge that
+/// A rule by which the operands of merges combine (RocksDB wiki, "Merge Operator": an associative merge with a partial merge that
 /// may always be made).
 ///
 /// An operator is a type without values, so values of two operators are never mixed. An implementation provides the

@@ -59,7 +59,7 @@ fn answer_by<O: Operator + Sync>(
 ///
 /// # Errors
 ///
-/// Those of [`ask_refusal`], and `Memory`.
+/// Refused as [`ask_refusal`] says, and with `Memory`.
 pub(crate) fn answer_batch<O: Operator + Sync>(
     rt: &(impl Threads + Sync),
     alloc: Global,

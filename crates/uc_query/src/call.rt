@@ -6,7 +6,7 @@ use uc_bytes::Items;
 use uc_query_read::Query;
 use uc_version::Stretch;
 
-/// What is asked of a store in one owner's hands. Claims are held under names, which are numbers below
+/// A call of a store in one owner's hands. Claims are held under names, which are numbers below
 /// [`MOST_CLAIMS`](uc_version::MOST_CLAIMS).
 #[derive(Drop)]
 pub enum Call {
@@ -18,9 +18,9 @@ pub enum Call {
     Abandon(u8),
     /// Claim a stretch, compact it and put it in place.
     Compact(Stretch),
-    /// Which stretch would be compacted next.
+    /// The stretch that would be compacted next.
     Pick,
-    /// What the store holds, in numbers.
+    /// The figures of the store.
     Report,
     /// Answer these queries, by a number of workers, in pieces of a number of queries. One worker is the calling thread, which
     /// answers each query in turn.
@@ -34,7 +34,7 @@ pub enum Call {
 }
 
 impl Call {
-    /// What it feeds rises, as all [`Writes`] do. It does nothing.
+    /// The writes that it feeds rise, as all [`Writes`] do. It does nothing.
     pub fn recall(&self)
         ensures { Rises self.now }
     {

@@ -1,4 +1,4 @@
-//! What holds of lists of calls.
+//! Laws about lists of calls.
 ghost use Rattle.std.specs.Prelude.{◌≡◌, ℕ, Some, true, List, length, take};
 ghost use Rattle.std.specs.List.{AllByRecursion};
 ghost use Rattle.uc_version_state.specs.Histories.{History, IsLegal, version_after, known};

@@ -5,18 +5,18 @@ use uc_query_read::Answer;
 use uc_version::{ClaimError, InstallError, Stretch};
 use uc_version_state::FeedError;
 
-/// What comes of a [`Call`](crate::Call).
+/// The reply to a [`Call`](crate::Call).
 #[derive(Drop)]
 pub enum Reply {
     /// A stretch is claimed under this name.
     Claimed(u8),
     /// The stretch can't be claimed.
     Refused(ClaimError),
-    /// What was claimed is compacted, and is the run with this id now.
+    /// The claimed runs are compacted to the run with this id.
     Installed(u64),
     /// The compaction isn't put in place, since no id is left; what was claimed under a name still is.
     NotInstalled(InstallError),
-    /// What was claimed under this name is given back.
+    /// The claim of this name is given back.
     Abandoned(u8),
     /// Nothing is claimed under this name.
     NoClaim(u8),
@@ -24,13 +24,13 @@ pub enum Reply {
     NameHeld(u8),
     /// The stretch is compacted, and is the run with this id now.
     Compacted(u64),
-    /// What would be compacted next, if anything.
+    /// The stretch that would be compacted next, if there is one.
     Picked(Option<Stretch>),
-    /// What the store holds.
+    /// The figures of the store.
     Reported(Report),
     /// The answers, in the order of the queries.
     Answers(Items<Answer>),
-    /// The writes are fed, and became so many runs.
+    /// The writes are fed, and became this many runs.
     Fed(u64),
     /// The writes aren't fed, and the store is as it was. It never says that memory ran out: that ends the list of calls.
     NotFed(FeedError),

@@ -22,7 +22,7 @@ fn lines_of(alloc: Global, runs: &[Placed]) -> Result<Vec<RunLine>, AllocError>
     Ok(lines)
 }
 
-/// What each line adds to the totals.
+/// The share of each line in the totals.
 fn parts_of(alloc: Global, lines: &[RunLine]) -> Result<Vec<Totals>, AllocError>
     ensures { IfOk result (λ parts. parts.items ≡ map reports.totals_of lines.now) }
 {
@@ -33,7 +33,7 @@ fn parts_of(alloc: Global, lines: &[RunLine]) -> Result<Vec<Totals>, AllocError>
     Ok(parts)
 }
 
-/// What a version holds: a line for each run, the newest first, their sums, the sequences that it keeps, and the last one.
+/// The report of a version: a line for each run, the newest first, their sums, the sequences that it keeps, and the last one.
 /// It fails only for want of memory.
 pub fn report(
     rt: &(impl Threads + Sync),

@@ -6,16 +6,16 @@ use crate::figure::{Field, Figure};
 use uc_fold::Totals;
 use uc_version_state::Placed;
 
-/// What a run holds, and where it stands.
+/// The figures of a run, and where it stands.
 #[derive(Clone, Copy, Debug, PartialEq, Eq)]
 pub struct RunLine {
     /// Its number, which no other run of the store ever has.
     pub id: u64,
     /// Its slot.
     pub slot: usize,
-    /// How many points it has: writes of a single key.
+    /// The number of points: writes of a single key.
     pub points: u64,
-    /// How many fragments it has: stretches of keys that range deletions cover.
+    /// The number of fragments: stretches of keys that range deletions cover.
     pub fragments: u64,
     /// Its size in bytes, with 8 for each sequence, held at 2^64 - 1.
     pub size: u64,
@@ -42,7 +42,7 @@ impl RunLine {
         }
     }
 
-    /// What it adds to the totals.
+    /// Its share of the totals.
     pub(crate) fn totals(&self) -> Totals
         ensures { result ≡ reports.totals_of self.now }
     {

@@ -3,7 +3,7 @@ use crate::run_line::RunLine;
 use uc_bytes::Items;
 use uc_fold::Totals;
 
-/// What a version holds: its runs, the newest first, and all of them together; the sequences that it keeps, which rise; and
+/// The report of a version: its runs, the newest first, and all of them together; the sequences that it keeps, which rise; and
 /// the last sequence.
 #[derive(Debug, PartialEq, Drop)]
 pub struct Report {

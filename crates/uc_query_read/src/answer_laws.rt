@@ -1,4 +1,4 @@
-//! What holds of answers.
+//! Laws about answers.
 ghost use Rattle.std.specs.Prelude.{◌≡◌, ◌↔◌, ℕ, List, Option, Contains};
 ghost use Rattle.std.specs.List.Sorted.{IsStrictlySortedBy};
 ghost use Rattle.uc_bytes.specs.Bytes.{bytes_cmp};

@@ -1,4 +1,4 @@
-//! What holds of answers over versions.
+//! Laws about answers over versions.
 ghost use Rattle.std.specs.Prelude.{◌≡◌, ◌++◌, List, Contains};
 ghost use Rattle.uc_query_read.specs.declared.query.Query.{Query};
 ghost use Rattle.uc_query_read.specs.Query.{at_of};
@@ -25,7 +25,7 @@ pub fn histories_keep_answers<O: Operator>()
     equal_values_give_equal_answers::<O>();
 }
 
-/// What happens later leaves an answer alone where its sequence stays kept: writes that come later are above every sequence that was
+/// Later events leave an answer alone where its sequence stays kept: writes that come later are above every sequence that was
 /// kept before. So if no keep comes and none goes, every query keeps its answer.
 pub fn later_events_leave_answers_alone<O: Operator>()
     ensures kept { (h : History) (events : List Event) (query : Query) →

@@ -27,7 +27,7 @@ pub(crate) fn compose<'a, O: Operator>(
     older.then::<O>(alloc, newer)
 }
 
-/// What the writes of runs, the newest first, at or below a sequence together do to a key. It stops at the first run
+/// The effect of the writes of runs, the newest first, at or below a sequence on a key. It stops at the first run
 /// that puts or deletes the key, since older writes are overwritten.
 fn effect_of_runs<'a, O: Operator>(
     alloc: Global,

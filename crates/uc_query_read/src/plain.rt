@@ -88,7 +88,7 @@ fn is_protected(keeps: &[u64], at: u64) -> bool
     keeps.iter().any(|keep| *keep == at)
 }
 
-/// What is read, at a sequence that is protected.
+/// The answer at a sequence that is protected.
 fn reading<O: Operator>(
     alloc: Global,
     writes: &[Write],

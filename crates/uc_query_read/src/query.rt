@@ -3,7 +3,7 @@ ghost use Rattle.std.specs.Prelude.{◌≡◌};
 
 use uc_bytes::Bytes;
 
-/// What is asked of a store, at a sequence.
+/// A query of a store, at a sequence.
 #[derive(Debug, PartialEq, Eq, Drop)]
 pub enum Query {
     /// The value of a key.
@@ -21,7 +21,7 @@ pub enum Query {
         high: Option<Bytes>,
         /// The sequence at which the rows are read.
         at: u64,
-        /// How many rows there are at most.
+        /// The most rows.
         limit: u64,
     },
 }

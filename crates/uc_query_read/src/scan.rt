@@ -16,7 +16,7 @@ use uc_rows::{RowBuffer, Rows};
 use uc_run::plain_list_is_in_order;
 use uc_version_state::Placed;
 
-/// How many bytes a scan has memory for at first, for each of its rows: as many as a small row takes.
+/// The bytes of memory that a scan has at first for each of its rows: as many as a small row takes.
 const ROW_ROOM: usize = 64;
 
 /// For how many rows at most it has memory at first.

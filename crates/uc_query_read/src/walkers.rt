@@ -39,7 +39,7 @@ pub(crate) struct Walkers<'a> {
     heads: Heads<'a>,
     /// The least of these keys.
     newer: Option<Head<'a>>,
-    /// Which of the runs have range deletions, which say something of other keys too.
+    /// The runs that have range deletions, as flags. These say something of other keys too.
     with_ranges: Vec<bool>,
 }
 
@@ -71,7 +71,7 @@ fn cursors_from<'a>(
     Ok(cursors)
 }
 
-/// Which of the cursors' runs have range deletions.
+/// The cursors' runs that have range deletions, as flags.
 fn ranges_of(alloc: Global, cursors: &[Cursor<'_>]) -> Result<Vec<bool>, AllocError>
     ensures { IfOk result (λ ranges. ranges.items ≡ map has_ranges cursors.now) }
 {
@@ -136,7 +136,7 @@ fn is_there(heads: &Heads<'_>, place: usize, least: Least<'_>) -> bool
     }
 }
 
-/// What the writes of the newer cursors' runs at or below a sequence together do to the least key. The key's points must be
+/// The effect of the writes of the newer cursors' runs at or below a sequence on the least key. The key's points must be
 /// the first ahead. It stops at the first run that puts or deletes the key, since older writes are overwritten.
 fn effect_of_newer<'a, O: Operator>(
     alloc: Global,
@@ -172,7 +172,7 @@ fn effect_of_newer<'a, O: Operator>(
     Ok(EffectRef::own(newer))
 }
 
-/// What the writes of all cursors' runs at or below a sequence together do to the least key. The key's points must be the
+/// The effect of the writes of all cursors' runs at or below a sequence on the least key. The key's points must be the
 /// first ahead.
 fn effect_of_all<'a, O: Operator>(
     alloc: Global,

@@ -81,7 +81,7 @@ pub fn answer_all<O: Operator + Sync, N: Name + Send, G: Gate>(
     }
 }
 
-/// What readers have seen is legal. Proof step: does nothing when it runs.
+/// The histories that readers have seen are legal. Proof step: does nothing when it runs.
 fn are_legal<O: Operator, N: Name>(readers: &[Reader<O, N>])
     ensures { AllByRecursion (MayFollow O.meaning N.base) readers.now }
 {

@@ -1,4 +1,4 @@
-//! What holds of the answers from pinned versions.
+//! Laws about the answers from pinned versions.
 ghost use Rattle.std.specs.Prelude.{◌≡◌, List, fold};
 ghost use Rattle.uc_query_read.specs.Answers.{answer_of};
 ghost use Rattle.uc_query_read.specs.declared.query.Query.{Query};

@@ -6,7 +6,7 @@ use uc_query_read::{Answer, Query};
 use uc_query_workers::{Source, push_answers};
 use uc_share::{Name, Reader};
 
-/// What is shown to a worker's reader. Each piece is answered from the version that is pinned for it.
+/// The pins of a worker's reader. Each piece is answered from the version that is pinned for it.
 #[derive(Drop)]
 pub(crate) struct Pins;
 

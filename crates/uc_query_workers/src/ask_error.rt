@@ -5,7 +5,7 @@ ghost use Rattle.uc_query_workers.specs.declared.ask_error.AskError.TheVariants.
 use std::alloc::AllocError;
 use thiserror::Error;
 
-/// How many workers answer a batch at the most.
+/// The most workers that answer a batch.
 pub const MOST_WORKERS: usize = 64;
 
 /// Why a batch of queries isn't answered.

@@ -33,14 +33,14 @@ impl<'a> Batch<'a> {
         Batch { queries, piece }
     }
 
-    /// How many queries there are.
+    /// The number of queries.
     pub fn len(&self) -> usize
         ensures { result ≡ length self.now.queries }
     {
         self.queries.len()
     }
 
-    /// How many pieces there are.
+    /// The number of pieces.
     pub fn pieces(&self) -> usize
         ensures numbers { AreNumbers self.now result }
         ensures enough { length self.now.queries ≤ result * self.now.piece }

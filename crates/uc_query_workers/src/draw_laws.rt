@@ -1,4 +1,4 @@
-//! What the rule of the counter means, as a law that the check proves.
+//! The meaning of the counter's rule, as a law that the check proves.
 ghost use Rattle.std.specs.Prelude.{◌≡◌, ℕ, ◌+◌, ◌≤◌, List, nat_lt, slice_index, if◌then◌else◌};
 ghost use Rattle.uc_query_workers.specs.declared.rule.Drawer.{Drawer};
 ghost use Rattle.uc_query_workers.specs.declared.rule.Shares.{Shares};

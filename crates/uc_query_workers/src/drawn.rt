@@ -6,7 +6,7 @@ use std::alloc::AllocError;
 use std::collections::VecDeque;
 use uc_query_read::Answer;
 
-/// What a worker drew. It is taken from the front when the answers to the batch are put together.
+/// The pieces that a worker drew. They are taken from the front when the answers to the batch are put together.
 #[derive(Drop)]
 pub struct Drawn {
     /// The numbers of the pieces, in the order in which it drew them.

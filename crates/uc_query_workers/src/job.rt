@@ -4,8 +4,8 @@ ghost use Rattle.uc_query_workers.specs.Pieces.{AreNumbers};
 use crate::batch::Batch;
 use crate::counter::PieceCounter;
 
-/// What the workers of a batch share: its pieces, the counter that these are drawn from, the gate, where the answers come from, and
-/// for how many answers each worker's list has room.
+/// The parts of a batch that its workers share: its pieces, the counter that these are drawn from, the gate, the source of answers, and
+/// the number of answers that each worker's list has room for.
 #[derive(Drop)]
 pub(crate) struct Job<'a, S, G> {
     pub(crate) batch: &'a Batch<'a>,

@@ -1,4 +1,4 @@
-//! What the answers that are given to queries mean.
+//! The meaning of the answers that are given to queries.
 ghost use Rattle.std.specs.Prelude.{◌≡◌, List, map};
 ghost use Rattle.std.specs.List.{AllZip};
 ghost use Rattle.uc_query_read.specs.declared.answer.Answer.{Answer};

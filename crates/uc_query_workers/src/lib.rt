@@ -9,7 +9,7 @@
 //!
 //! A [`PieceCounter`] has one word, the number of draws so far. A thread acts at it through a [`PieceSeat`], a token that knows
 //! the numbers that it drew. [`PieceCounter::draw`] takes one `fetch_add`; no call takes a lock or waits for another thread.
-//! What is proved over every interleaving of any number of seats: the seats' lists together hold the numbers below the word,
+//! A rule is proved over every interleaving of any number of seats: the seats' lists together hold the numbers below the word,
 //! each once, and the word is at most pieces and workers together, so it never wraps. So once all workers have met the end,
 //! the numbers of all pieces stand in the joined seat's list, each once ([`PieceCounter::recall_all_drawn`]). `rule.rt` has the rule
 //! and the kinds of step that keep it; read it before `counter.rt`.

@@ -13,7 +13,7 @@
 use atomic_table::{Join, Play, Split, TableRule};
 use std::collections::LinkedList;
 
-/// What a seat knows: how many parts all seats have together, its own parts, and the numbers that it drew, in their order.
+/// The state of a seat: the number of parts of all seats together, its own parts, and the numbers that it drew, in their order.
 /// It exists in proofs alone, and no value of it is made.
 pub struct Drawer {
     pub all: u64,
@@ -21,7 +21,7 @@ pub struct Drawer {
     pub numbers: LinkedList<u64>,
 }
 
-/// How many pieces there are to draw, and how many workers to draw them.
+/// The number of pieces to draw, and of workers that draw them.
 #[derive(Clone, Copy, Drop)]
 pub struct Shares {
     pub pieces: u64,

@@ -11,10 +11,10 @@ pub trait Source<Place>: Sync {
     ghost use Rattle.uc_query_read.specs.declared.query.Query.{Query as QueryOf};
     ghost use Rattle.uc_query_workers.specs.Given.{Appended};
 
-    /// Which answer may be given to a query while a worker's place goes from one state to another.
+    /// The answers that may be given to a query while a worker's place goes from one state to another.
     ghost gives: { Self → Place → Place → QueryOf → AnswerOf → Type 0 };
 
-    /// What a worker's place may become.
+    /// The states that a worker's place may go on to.
     ghost goes_on: { Place → Place → Type 0 };
 
     /// Appends an answer to each query of a piece. After an `Err` some of them are there.
@@ -36,7 +36,7 @@ pub trait Source<Place>: Sync {
     ghost goes_further: { (first second third : Place) → goes_on first second → goes_on second third →
         goes_on first third };
 
-    /// What may be given on a part of a place's way may be given on all of it.
+    /// An answer that may be given on a part of a place's way may be given on all of it.
     ghost gives_on: { (source : Self) (first start end last : Place) (query : QueryOf) (answer : AnswerOf) →
         goes_on first start → goes_on end last → gives source start end query answer →
         gives source first last query answer };

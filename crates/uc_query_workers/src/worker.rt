@@ -39,7 +39,7 @@ fn draw_pieces<P, S: Source<P>, G: Gate>(
     Ok(numbers)
 }
 
-/// What a worker drew by a seat, which comes back with it.
+/// The pieces that a worker drew by a seat, which comes back with them.
 pub(crate) type Share = Result<(PieceSeat, Drawn), AllocError>;
 
 /// Lets a worker draw pieces. Its place comes back also if memory ran out. `answers` is empty.

@@ -18,17 +18,17 @@ use std::marker::{Send, Sync};
 use std::thread::{Threads, join};
 use uc_query_read::Answer;
 
-/// What workers drew, and the seat that took in those of all of them.
+/// The pieces that workers drew, and the seat that took in the seats of all of them.
 pub(crate) type Shares = Result<(PieceSeat, Vec<Drawn>), AllocError>;
 
-/// What one worker drew by a seat, as what workers drew.
+/// The pieces that one worker drew by a seat, as those of several workers.
 fn alone(alloc: Global, seat: PieceSeat, drawn: Drawn) -> Shares
     ensures { IfOk result (λ shares. (shares.0 ≡ seat) × (shares.1.items ≡ drawn ∷ [])) }
 {
     Ok((seat, vec![in alloc; drawn]?))
 }
 
-/// What workers drew by a seat, and what one more drew by a part, which the seat takes in.
+/// The pieces that workers drew by a seat, and those that one more drew by a part, which the seat takes in.
 fn together(
     counter: &PieceCounter,
     mut seat: PieceSeat,

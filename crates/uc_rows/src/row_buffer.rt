@@ -37,7 +37,7 @@ impl RowBuffer {
         }
     }
 
-    /// No rows, and memory for so many bytes of them.
+    /// No rows, and memory for this many bytes of them.
     pub fn with_capacity(alloc: Global, bytes: usize) -> Result<RowBuffer, AllocError>
         ensures { IfOk result (λ rows. rows ≡ []) }
     {
@@ -58,7 +58,7 @@ impl RowBuffer {
         Ok(rows)
     }
 
-    /// How many rows there are.
+    /// The number of rows.
     #[inline]
     pub fn len(&self) -> usize
         ensures count { result ≡ length self.now }

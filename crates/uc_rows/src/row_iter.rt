@@ -25,7 +25,7 @@ impl<'a> Model for RowIter<'a> {
 }
 
 impl<'a> RowIter<'a> {
-    /// So many rows, whose bytes begin here.
+    /// This many rows, whose bytes begin here.
     #[inline]
     pub(crate) fn new(bytes: &'a [u8], count: usize) -> RowIter<'a>
         ensures { result ≡ rows_from count bytes.now }
@@ -33,7 +33,7 @@ impl<'a> RowIter<'a> {
         RowIter { bytes, count }
     }
 
-    /// How many rows are ahead.
+    /// The number of rows ahead.
     #[inline]
     pub fn len(&self) -> usize
         ensures { result ≡ length self.now }
@@ -41,7 +41,7 @@ impl<'a> RowIter<'a> {
         self.count
     }
 
-    /// Passes over so many rows, or all if there are fewer.
+    /// Passes over this many rows, or all if there are fewer.
     #[inline]
     pub fn pass(&mut self, count: usize)
         ensures { self.new ≡ drop count self.old }

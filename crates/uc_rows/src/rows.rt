@@ -57,7 +57,7 @@ fn keys_rise(rows: &RowBuffer) -> bool
 /// The bytes of the two lengths in a row.
 const LENGTHS: usize = 16;
 
-/// How many of the first rows fit a room, and the size of these.
+/// The number of first rows that fit a buffer, and the size of these.
 fn count_fitting(rows: RowIter<'_>, room: usize) -> (usize, usize)
     requires count { length rows < 2 ^ 63 }
     requires room { room < 2 ^ 63 }
@@ -109,7 +109,7 @@ impl Rows {
         Rows { rows }
     }
 
-    /// How many rows there are.
+    /// The number of rows.
     #[inline]
     pub fn len(&self) -> usize
         ensures count { result ≡ length self.now }

@@ -1,10 +1,10 @@
-//! What keys begin with: the bytes that they have in common at their front.
+//! The common front of keys: the bytes with which all of them begin.
 use crate::cursor::Cursor;
 use crate::ranks::begins_with;
 use crate::run::Run;
 use uc_run_points::PointSlice;
 
-/// What a front and a key both begin with; if there is only one of them, all of it.
+/// The common front of a front and a key; if there is only one of them, all of it.
 fn narrowed<'a>(front: Option<&'a [u8]>, key: Option<&'a [u8]>) -> Option<&'a [u8]> {
     match (front, key) {
         (Some(front), Some(key)) => Some(&front[..begins_with(front, key)]),
@@ -13,14 +13,14 @@ fn narrowed<'a>(front: Option<&'a [u8]>, key: Option<&'a [u8]>) -> Option<&'a [u
     }
 }
 
-/// What the keys of points in order begin with, if there are points: what the first and the last do.
+/// The common front of the keys of points in order, if there are points: that of the first and the last.
 fn front_of_points<'a>(points: &PointSlice<'a>) -> Option<&'a [u8]> {
     let first = points.first()?;
     let last = points.get(points.len().saturating_sub(1))?;
     narrowed(Some(first.key()), Some(last.key()))
 }
 
-/// What most keys of a run begin with, if it has points. The fences tell, and the last point, which may be in no cache,
+/// The common front of most keys of a run, if it has points. The fences tell, and the last point, which may be in no cache,
 /// isn't looked at; but one fence alone tells nothing of the other keys.
 fn front_of_run(run: &Run) -> Option<&[u8]> {
     if run.blocks() > 1 {
@@ -29,7 +29,7 @@ fn front_of_run(run: &Run) -> Option<&[u8]> {
     front_of_points(&run.entries().as_slice())
 }
 
-/// What the keys of all runs begin with.
+/// The common front of the keys of all runs.
 pub(crate) fn front_of_runs<'a>(runs: &[PointSlice<'a>]) -> &'a [u8] {
     let mut front = None;
     for points in runs {
@@ -38,7 +38,7 @@ pub(crate) fn front_of_runs<'a>(runs: &[PointSlice<'a>]) -> &'a [u8] {
     front.unwrap_or(&[])
 }
 
-/// What most keys of the runs of all cursors begin with.
+/// The common front of most keys of the runs of all cursors.
 pub(crate) fn front_of_cursors<'a>(cursors: &[Cursor<'a>]) -> &'a [u8] {
     let mut front = None;
     for cursor in cursors {

@@ -52,7 +52,7 @@ impl<'a> Cursor<'a> {
         }
     }
 
-    /// What holds of every run: its contents make one. Proof step: does nothing when it runs.
+    /// The invariant of every run: its contents make one. Proof step: does nothing when it runs.
     #[inline]
     pub fn recall_run(&self)
         ensures { IsRun self.now.run.low self.now.run.high self.now.run.points self.now.run.fragments }
@@ -103,7 +103,7 @@ impl<'a> Cursor<'a> {
         self.effect_ref::<O>(alloc, key, at)?.into_effect(alloc)
     }
 
-    /// What the run's writes at or below a sequence together do to a key, if the cursor is just before the key's
+    /// The effect of the run's writes at or below a sequence on a key, if the cursor is just before the key's
     /// points. It costs a step for each of the key's points down to the last put or delete at or below the sequence; above
     /// the sequence, if they are many, a search. A key past the end of the cursor's fragment costs a search too. A value that
     /// is put stays in the run.

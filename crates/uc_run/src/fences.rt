@@ -14,17 +14,17 @@ use std::marker::Model;
 use uc_bytes::Bytes;
 use uc_run_points::{PointRef, PointSlice, PointTest, Points, make_small};
 
-/// How many points each block has; the last may have fewer.
+/// The number of points in each block; the last may have fewer.
 const BLOCK_POINTS: usize = 16;
 
-/// How many points are passed one by one before the fences are searched.
+/// The number of points that are passed one by one before the fences are searched.
 const FEW_POINTS: usize = 8;
 
 /// The key of the first point of each block, apart from the points, so that a search touches few cache lines. A
 /// contract sees it as these keys.
 pub(crate) struct Fences {
     keys: Vec<Bytes>,
-    /// How many bytes all keys have in common at their front.
+    /// The number of bytes that all keys have in common at their front.
     shared: usize,
     /// The prefix of each key after these bytes, in one piece: most steps of a search look at no key.
     prefixes: Vec<u64>,
@@ -63,7 +63,7 @@ impl Fences {
         &self.keys
     }
 
-    /// What all of the keys begin with, if there are keys.
+    /// The common front of all keys, if there are keys.
     #[inline]
     pub(crate) fn front(&self) -> Option<&[u8]> {
         self.keys.first()?.as_slice().get(..self.shared)
@@ -98,7 +98,7 @@ pub(crate) fn fences_of(alloc: Global, points: &Points) -> Result<Fences, AllocE
     })
 }
 
-/// How many of the keys lie before the search, if those that do come first.
+/// The number of keys before the search, if those before it do come first.
 fn keys_passed(keys: &[Bytes], low: &[u8], strict: bool) -> usize
     requires { IsPartitionedBy (seek.is_passed low.now strict) keys.now }
     ensures bound { result ≤ length keys.now }
@@ -124,7 +124,7 @@ impl PointTest for IsPassed<'_> {
     }
 }
 
-/// How many fences lie before the search.
+/// The number of fences before the search.
 fn fences_passed(points: &Points, fences: &Fences, low: &[u8], strict: bool) -> usize
     requires sorted { IsStrictlySortedBy entry_cmp points.now }
     requires fenced { IsFenced points.now fences.now }
@@ -181,7 +181,7 @@ pub(crate) fn found_by_fences<'a>(
     found
 }
 
-/// How many points lie before the search.
+/// The number of points before the search.
 pub(crate) fn seek_by_fences(points: &Points, fences: &Fences, low: &[u8], strict: bool) -> usize
     requires sorted { IsStrictlySortedBy entry_cmp points.now }
     requires fenced { IsFenced points.now fences.now }

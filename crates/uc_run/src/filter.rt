@@ -11,7 +11,7 @@ use std::marker::{Model, Sync};
 use std::thread::{Threads, join};
 use uc_run_points::{PointSlice, Points, PointsAhead, make_small};
 
-/// How many keys share a block: ten bits for each, of which six are set. Of other keys about 1.1 % are admitted.
+/// The number of keys that share a block: ten bits for each, of which six are set. Of other keys about 1.1 % are admitted.
 const BLOCK_KEYS: usize = 51;
 
 /// Into how many parts points are cut whose filter is made in threads.
@@ -48,14 +48,14 @@ impl Filter {
     }
 }
 
-/// How many words a filter of so many keys has.
+/// The number of words in a filter for a number of keys.
 fn count_words(keys: usize) -> usize
     ensures { 0 < keys → BLOCK_WORDS ≤ result }
 {
     keys.div_ceil(BLOCK_KEYS) * BLOCK_WORDS
 }
 
-/// How many keys some points have, from a key on, that one among them.
+/// The number of keys that some points have, from a key on, that one among them.
 fn count_keys_from(first: &[u8], mut ahead: PointsAhead<'_>) -> usize
     ensures { 0 < result }
 {
@@ -69,7 +69,7 @@ fn count_keys_from(first: &[u8], mut ahead: PointsAhead<'_>) -> usize
     count
 }
 
-/// How many keys the points have, where those of a key are neighbours.
+/// The number of keys that the points have, where those of a key are neighbours.
 fn count_keys(points: &Points) -> usize
     ensures { 0 < length points.now → 0 < result }
 {
@@ -91,7 +91,7 @@ fn admit_all(words: &mut [u64], points: &PointSlice<'_>)
     }
 }
 
-/// So many words that admit the keys of the points.
+/// This many words that admit the keys of the points.
 fn words_of(alloc: Global, count: usize, points: &PointSlice<'_>) -> Result<Vec<u64>, AllocError>
     requires { 0 < length points.now → BLOCK_WORDS ≤ count }
     ensures count { IfOk result (λ words. length words.items ≡ count) }
@@ -123,7 +123,7 @@ fn add_bits(words: &mut [u64], other: &[u64])
     }
 }
 
-/// So many words that admit the keys of the points between two places, which are cut into parts. Those of each part are
+/// This many words that admit the keys of the points between two places, which are cut into parts. Those of each part are
 /// made by a thread of its own, or by the one that would wait for it, if none can be had.
 #[cycle(side_by_side)]
 fn words_by_parts<R: Threads + Sync>(

@@ -6,10 +6,10 @@ ghost use Rattle.uc_run.specs.Filters.{HasBits, Admits};
 use crate::hashing::key_hash;
 use crate::sought_key::SoughtKey;
 
-/// How many words each block has: one cache line.
+/// The number of words in each block: one cache line.
 pub(crate) const BLOCK_WORDS: usize = 8;
 
-/// How many words half a block has.
+/// The number of words in half a block.
 const HALF_WORDS: usize = 4;
 
 /// Where the bits of a key lie: some in a word of a block's first half, and some in a word of its second half.
@@ -48,7 +48,7 @@ fn three_bits(hash: u64) -> u64
     one_bit(hash) | one_bit(hash >> 6) | one_bit(hash >> 12)
 }
 
-/// Where the bits of a key with this hash lie, among so many words.
+/// Where the bits of a key with this hash lie, among this many words.
 #[inline]
 #[tactic(auto, unfolding(crate::specs::Filters::probes_of))]
 fn probes_of(hash: u64, words: usize) -> Probes

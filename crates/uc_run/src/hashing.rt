@@ -4,13 +4,13 @@ ghost use Rattle.uc_run.specs.KeyHash as hash;
 
 use crate::prefixes::byte_or_zero;
 
-/// What a word of a key is multiplied by (the first number of `_wyp` in `wyhash.h`).
+/// The factor for a word of a key (the first number of `_wyp` in `wyhash.h`).
 const WORD_FACTOR: u64 = 0xa076_1d64_78bd_642f;
 
-/// What all is multiplied by at the end (the second one).
+/// The factor for the product at the end (the second one).
 const LAST_FACTOR: u64 = 0xe703_7ed1_a0b4_28db;
 
-/// How many bytes a word has.
+/// The size of a word in bytes.
 const WORD_BYTES: usize = 8;
 
 /// The halves of a product, combined by exclusive or (`_wymix`).

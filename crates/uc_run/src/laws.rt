@@ -1,4 +1,4 @@
-//! What holds of runs, and of the run that rising writes are flushed to.
+//! Laws about runs, and about the run that rising writes are flushed to.
 ghost use Rattle.std.specs.Prelude.{◌≡◌, ◌≢◌, ℕ, Bool, false, List, [], Option, Some};
 ghost use Rattle.uc_bytes.specs.declared.write.Write.{Write};
 ghost use Rattle.uc_batch.specs.Rising.{IsRising};

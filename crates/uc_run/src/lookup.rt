@@ -1,4 +1,4 @@
-//! What a lookup of a key finds among points and fragments.
+//! Lookups of a key among points and fragments.
 ghost use Rattle.std.specs.Prelude.{◌≡◌, Bool, not, ◌&&◌, filter, IfOk, IfSome, nat_le};
 ghost use Rattle.std.specs.List.{AllByRecursion, flat_map, slice_get};
 ghost use Rattle.std.specs.List.Sorted.{IsStrictlySortedBy, IsPartitionedBy};
@@ -18,7 +18,7 @@ use uc_oper::{Effect, EffectRef, Operator};
 use uc_run_entry::{Fragment, WhatRef, covering_fragment};
 use uc_run_points::{PointRef, PointSlice, PointTest};
 
-/// How many points are gathered at a time.
+/// The number of points that are gathered at a time.
 const FEW_POINTS: usize = 16;
 
 /// Passes the points of a key that overwrite nothing, above a sequence if there is one.
@@ -64,7 +64,7 @@ fn gathered<'a>(alloc: Global, points: &PointSlice<'a>) -> Result<Vec<PointRef<'
     Ok(refs)
 }
 
-/// What a few points, the newest first, make of an effect before them. An `Err` loses that effect.
+/// The effect of a few points, the newest first, after an older effect. An `Err` loses that effect.
 fn few_effect<O: Operator>(
     alloc: Global,
     before: Effect,
@@ -83,7 +83,7 @@ fn few_effect<O: Operator>(
     Ok(effect)
 }
 
-/// What points, the newest first, make of an effect before them: the oldest few first. An `Err` loses that effect.
+/// The effect of points, the newest first, after an older effect: the oldest few first. An `Err` loses that effect.
 fn points_effect<O: Operator>(
     alloc: Global,
     before: Effect,
@@ -101,7 +101,7 @@ fn points_effect<O: Operator>(
     Ok(effect)
 }
 
-/// What the points of the key above the sequence, which come first, make of an effect before them. If the newest is a put or
+/// The effect of the points of the key above the sequence, which come first, after an older effect. If the newest is a put or
 /// a delete, no other is looked at, and the value of a put stays where it is. An `Err` loses that effect.
 fn effect_above<'a, O: Operator>(
     alloc: Global,
@@ -214,7 +214,7 @@ fn effect_searched<'a, O: Operator>(
     effect_above::<O>(alloc, effect_before(newest), &on, key, newest)
 }
 
-/// What a lookup of the key at the sequence finds: what the key's points at or below the sequence do above the newest
+/// The effect that a lookup of the key at the sequence finds: that of the key's points at or below the sequence, above the newest
 /// range deletion over it. That deletion is one of the fragments' sequences.
 #[inline]
 pub(crate) fn effect_found<'a, O: Operator>(

@@ -54,7 +54,7 @@ impl Memtable {
         self.slots.len() == 0
     }
 
-    /// How many writes it has.
+    /// The number of writes.
     pub fn len(&self) -> usize
         ensures count { result ≡ length self.now }
         ensures bound { result < 2 ^ 63 }
@@ -69,7 +69,7 @@ impl Memtable {
         Some(self.slots.as_slice().get(place)?.write())
     }
 
-    /// How many bytes its writes have: for each the lengths of its texts, and 8; nothing for a range whose begin isn't
+    /// The size of its writes in bytes: for each the lengths of its byte strings, and 8; nothing for a range whose begin isn't
     /// below its end. At most 2^64 - 1.
     pub fn size(&self) -> u64
         ensures { result ≡ memtable_size self.now }

@@ -7,7 +7,7 @@ use std::alloc::{AllocError, Global};
 use std::cmp;
 use std::marker::Model;
 
-/// How many numbers each block has; the last may have fewer.
+/// The number of numbers in each block; the last may have fewer.
 const BLOCK_NUMBERS: usize = 16;
 
 /// Numbers, in one piece, and beside them the least of each block: a search looks only into blocks that may have its

@@ -15,7 +15,7 @@ use crate::texts::{same_text, text_order};
 use std::cmp::Ordering;
 use uc_run_points::{PointRef, PointSlice, PointTest, Points};
 
-/// How many points are passed one by one before a binary search.
+/// The number of points that are passed one by one before a binary search.
 const FEW_POINTS: usize = 16;
 
 /// Among how many points a binary search begins.
@@ -61,7 +61,7 @@ impl PointTest for IsNewer<'_> {
     }
 }
 
-/// How many of the points come before the key's at or below the sequence. It is a binary search, at first among the nearest:
+/// The number of points before the key's at or below the sequence. It is a binary search, at first among the nearest:
 /// few keys have more points.
 fn count_newer(points: &PointSlice<'_>, key: &[u8], at: u64) -> usize
     requires { IsStrictlySortedBy entry_cmp points.now }

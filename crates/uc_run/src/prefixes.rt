@@ -11,7 +11,7 @@ use crate::places::is_passed;
 use std::alloc::{AllocError, Global};
 use uc_bytes::Bytes;
 
-/// How many bytes of a key a prefix is made of.
+/// The number of bytes of a key that make a prefix.
 pub(crate) const PREFIX_BYTES: usize = 8;
 
 /// The byte at a place, or 0 if there is none.
@@ -54,7 +54,7 @@ pub(crate) fn prefix_of(bytes: &[u8]) -> u64
     }
 }
 
-/// How many bytes two keys have in common at their front.
+/// The number of bytes that two keys have in common at their front.
 pub(crate) fn common_prefix_len(first: &[u8], last: &[u8]) -> usize
     ensures { result ≡ list.common_prefix_len nat_eq first.now last.now }
 {
@@ -67,7 +67,7 @@ pub(crate) fn common_prefix_len(first: &[u8], last: &[u8]) -> usize
     short
 }
 
-/// How many bytes at their front all of some keys in order have in common.
+/// The number of bytes that all of some keys in order have in common at their front.
 pub(crate) fn shared_front(keys: &[Bytes]) -> usize
     ensures { result ≡ prefixes.shared_front keys.now }
 {
@@ -106,7 +106,7 @@ fn is_at(prefixes: &[u64], place: usize, wanted: u64) -> bool
     }
 }
 
-/// How many prefixes are below one, and how many at or below it. Few searches have an equal prefix: only those cost a second
+/// The number of prefixes below one, and at or below it. Few searches have an equal prefix: only those cost a second
 /// search.
 fn equal_range(prefixes: &[u64], wanted: u64) -> (usize, usize)
     requires { IsNonDecreasing prefixes.now }

@@ -29,11 +29,11 @@ const POINTS_AT_ONCE: usize = 64;
 #[derive(Drop)]
 pub(crate) struct Ranked<'a> {
     pub(crate) slots: SlotSlice<'a>,
-    /// How many bits of a rank tell the number of the slot.
+    /// The number of a rank's bits that tell the number of the slot.
     pub(crate) bits: u32,
 }
 
-/// How many bits a number below this takes.
+/// The number of bits that a number below this takes.
 pub(crate) fn bits_below(count: usize) -> u32
     requires { count < 2 ^ 63 }
     ensures { count ≤ of_rank.room result }
@@ -113,7 +113,7 @@ impl<'a> Ranked<'a> {
     }
 }
 
-/// How many bytes of a front a key begins with.
+/// The number of bytes of a front that a key begins with.
 pub(crate) fn begins_with(front: &[u8], key: &[u8]) -> usize
     ensures bound { result ≤ length front.now }
     ensures front { HasFront result front.now key.now }
@@ -144,7 +144,7 @@ pub(crate) fn numbers_of_points(
     Ok(numbers)
 }
 
-/// How many bytes at their front the keys of some points have in common with a key.
+/// The number of bytes that the keys of some points have in common with a key at their front.
 fn shared_with(ranked: &Ranked<'_>, first: &[u8], ranks: &[u64]) -> usize
     ensures front { HaveFront result first.now (points_of ranked.now.slots ranked.now.bits ranks.now) }
     ensures bytes { HaveBytes (points_of ranked.now.slots ranked.now.bits ranks.now) }
@@ -156,7 +156,7 @@ fn shared_with(ranked: &Ranked<'_>, first: &[u8], ranks: &[u64]) -> usize
     shared
 }
 
-/// How many bytes at their front the keys of some points have in common.
+/// The number of bytes that the keys of some points have in common at their front.
 fn shared_by(ranked: &Ranked<'_>, ranks: &[u64]) -> usize
     ensures front { let points = points_of ranked.now.slots ranked.now.bits ranks.now in
         HaveFront result (first_key points) points }
@@ -177,7 +177,7 @@ fn rank_each(ranked: &Ranked<'_>, ranks: &mut [u64], shared: usize)
     }
 }
 
-/// How many ranks at the front have the first bits of the first one.
+/// The number of ranks at the front that have the first bits of the first one.
 #[inline]
 fn tied(ranks: &[u64], bits: u32) -> usize
     requires { 0 < length ranks.now }

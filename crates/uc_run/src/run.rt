@@ -184,14 +184,14 @@ impl Run {
         self.high
     }
 
-    /// How many points it has.
+    /// The number of points.
     pub fn points(&self) -> u64
         ensures { result ≡ length self.now.points }
     {
         self.points.len() as u64
     }
 
-    /// What holds of every run: its contents make one. Proof step: does nothing when it runs.
+    /// The invariant of every run: its contents make one. Proof step: does nothing when it runs.
     #[inline]
     pub fn recall(&self)
         ensures { IsRun self.now.low self.now.high self.now.points self.now.fragments }
@@ -225,7 +225,7 @@ impl Run {
         Some((point.key(), point.seq(), point.what()))
     }
 
-    /// How many blocks its points fill.
+    /// The number of blocks that its points fill.
     pub fn blocks(&self) -> u64
         ensures { result ≡ blocks_of self.now.points }
     {
@@ -292,7 +292,7 @@ impl Run {
         self.effect_ref::<O>(alloc, key, at)?.into_effect(alloc)
     }
 
-    /// What the run's writes at or below a sequence together do to a key. It costs the logarithms of the numbers of
+    /// The effect of the run's writes at or below a sequence on a key. It costs the logarithms of the numbers of
     /// points and fragments, and a step for each of the key's points from its last put or delete on. For a key without
     /// points it mostly costs a look at the filter in place of the first logarithm. A value that is put stays in the run.
     pub fn effect_ref<O: Operator>(
@@ -330,7 +330,7 @@ impl Run {
             && self.fragments.same(&other.fragments)
     }
 
-    /// How many bytes its points and fragments have, with 8 for each sequence, at most 2^64 - 1.
+    /// The size of its points and fragments in bytes, with 8 for each sequence, at most 2^64 - 1.
     pub fn size(&self) -> u64
         ensures { result ≡ size.size_of self.now }
     {

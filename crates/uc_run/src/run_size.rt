@@ -1,4 +1,4 @@
-//! How large points and fragments are, in bytes as a picker of compactions counts them.
+//! The size of points and fragments, in bytes as a picker of compactions counts them.
 ghost use Rattle.std.specs.Prelude.{◌≡◌, ◌+◌, ◌-◌, ◌^◌, min};
 ghost use Rattle.std.specs.List.{sum_by};
 ghost use Rattle.uc_run_entry.specs.Size as size;

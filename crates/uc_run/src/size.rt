@@ -1,4 +1,4 @@
-//! How large a write is, in bytes as the owner of a memtable counts them.
+//! The size of a write, in bytes as the owner of a memtable counts them.
 ghost use Rattle.std.specs.Prelude.{◌≡◌, ◌+◌, ◌-◌, ◌^◌, min};
 ghost use Rattle.std.specs.Ordering.{is_lt};
 ghost use Rattle.uc_bytes.specs.Bytes.{bytes_cmp};

@@ -8,7 +8,7 @@ use crate::texts::split_front;
 use uc_bytes::OpKind;
 use uc_run_points::read_number;
 
-/// How many kinds of changes there are.
+/// The number of kinds of changes.
 const KINDS: u64 = 4;
 
 /// A write whose bytes lie in an arena, up to where those of the next slot start. They are the length of the first text as a

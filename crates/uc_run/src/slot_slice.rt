@@ -83,7 +83,7 @@ impl<'a> SlotSlice<'a> {
         }
     }
 
-    /// How many writes there are.
+    /// The number of writes.
     #[inline]
     pub(crate) fn len(&self) -> usize
         ensures count { result ≡ length self.now }

@@ -1,4 +1,4 @@
-//! What slots have together: their size, and their first and last sequence.
+//! Totals of slots: their size, and their first and last sequence.
 ghost use Rattle.std.specs.Prelude.{◌≡◌};
 ghost use Rattle.uc_batch.specs.Rising.{last_of};
 ghost use Rattle.uc_run.specs.Flush as flush;

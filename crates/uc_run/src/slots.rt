@@ -93,7 +93,7 @@ impl Slots {
         }
     }
 
-    /// How many writes there are.
+    /// The number of writes.
     #[inline]
     pub(crate) fn len(&self) -> usize
         ensures count { result ≡ length self.now }

@@ -41,7 +41,7 @@ pub fn same_text(text: &[u8], other: &[u8]) -> bool
     }
 }
 
-/// So many bytes at the front, and those after them; all and none if there are fewer.
+/// This many bytes at the front, and those after them; all and none if there are fewer.
 #[inline]
 pub(crate) fn split_front(text: &[u8], count: usize) -> (&[u8], &[u8])
     ensures front { result.0.now ≡ take count text.now }

@@ -1,4 +1,4 @@
-//! Which points and fragments make a run.
+//! The points and fragments that make a run.
 ghost use Rattle.std.specs.Prelude.{◌≡◌, ◌≤◌, ◌&&◌, [], ◌∷◌, filter, IfSome, IfNone, MatchOption, if◌then◌else◌};
 ghost use Rattle.std.specs.Prelude.{◌↔◌, true, Contains, IsTrue};
 ghost use Rattle.std.specs.List.{AllByRecursion};

@@ -4,7 +4,7 @@ ghost use Rattle.std.specs.Prelude.{◌≡◌, IfOk};
 use std::alloc::AllocError;
 use uc_bytes::Bytes;
 
-/// What a point says of its key.
+/// The change that a point makes to its key.
 #[derive(Debug, PartialEq, Eq, Drop)]
 pub enum What {
     /// The key has this value.
@@ -37,7 +37,7 @@ pub struct Entry {
     pub key: Bytes,
     /// Its place in the order of all writes, from 1 to 2^56 - 1.
     pub seq: u64,
-    /// What it says of the key.
+    /// The change to the key.
     pub what: What,
 }
 

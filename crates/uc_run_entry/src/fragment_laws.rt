@@ -1,4 +1,4 @@
-//! What holds of the fragments of ranges.
+//! Laws about the fragments of ranges.
 ghost use Rattle.std.specs.Prelude.{◌≡◌, ◌≢◌, ℕ, List, [], filter, map};
 ghost use Rattle.std.specs.List.{AllByRecursion, flat_map};
 ghost use Rattle.uc_run_entry.specs.Order.{IsFalling, AreInOrder};

@@ -5,7 +5,7 @@
 const LEAST_MAPPED: usize = 128 * 1024;
 
 /// Forgets all items of a large vector but the first, and makes its block small where it lies, before it is freed. Each item
-/// has so many bytes. A vector below the size that glibc maps stays as it is.
+/// has this many bytes. A vector below the size that glibc maps stays as it is.
 ///
 /// glibc maps a large block of memory, and unmaps it when it is freed. But then it takes the block's size for the least that it
 /// maps (mallopt(3), `M_MMAP_THRESHOLD`), and later vectors below that size leave holes in its heap. A block of one item

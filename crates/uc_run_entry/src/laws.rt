@@ -1,4 +1,4 @@
-//! What holds of the plain list of a run, under every operator.
+//! Laws about the plain list of a run, under every operator.
 ghost use Rattle.std.specs.Prelude.{◌≡◌, ℕ, ◌&&◌, List, nat_lt, nat_le};
 ghost use Rattle.std.specs.List.Sorted.{IsPermutation, IsNonDecreasingBy};
 ghost use Rattle.uc_bytes.specs.declared.write.Write.{Write};
@@ -15,7 +15,7 @@ pub fn plain_list_is_in_order()
     ensures ascends { (run : Contents) → IsNonDecreasingBy (λ (w : Write). w.seq) (plain_list run) }
 {}
 
-/// What a lookup finds is what the plain list of a run does to a key at a sequence. The lookup takes the points above
+/// A lookup finds the effect of a run's plain list on a key at a sequence. The lookup takes the points above
 /// the newest range deletion over the key, applied to no value if there is such a deletion.
 pub fn plain_list_does_what_is_found<O: Operator>()
     ensures { (run : Contents) (key : List ℕ) (at : ℕ) → IsRun run.low run.high run.points run.fragments →

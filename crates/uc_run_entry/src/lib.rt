@@ -1,4 +1,4 @@
-//! What a run is made of, and what it means.
+//! The parts of a run, and its meaning.
 //!
 //! A run has points in order of key, the newest of a key first. It has fragments: pieces of the key space with the
 //! range deletions over them. And it has a range of sequences. [`is_run`] says which of these make a run. Read
@@ -13,7 +13,7 @@
 //! n log n. [`Seqs`] are the sequences of one fragment, which fall: one, a list or a share of such spans.
 //! `specs/Spans.antt` defines the lists; read `spans.rt` first.
 //!
-//! What many fragments have stands in one vector, [`Lists`], that they share: cut points, and sequences where a fragment has few.
+//! Lists that many fragments have stand in one vector, [`Lists`], that they share: cut points, and sequences where a fragment has few.
 //!
 //! An `Err(AllocError)` comes only if an allocation fails.
 //!

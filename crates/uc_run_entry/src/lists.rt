@@ -72,7 +72,7 @@ impl<T> Lists<T> {
         part(&self.starts, &self.items, number)
     }
 
-    /// How many lists there are.
+    /// The number of lists.
     pub fn len(&self) -> usize
         ensures { result ≡ length self.now }
     {

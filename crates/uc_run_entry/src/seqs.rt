@@ -90,7 +90,7 @@ impl Seqs {
         }
     }
 
-    /// How many there are, at most 2^64 - 1.
+    /// The number of sequences, at most 2^64 - 1.
     pub fn len(&self) -> u64
         ensures { result ≡ min (length self.now) (2 ^ 64 - 1) }
     {

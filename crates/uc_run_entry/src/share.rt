@@ -39,14 +39,14 @@ impl Share {
         Share { spans, fragment }
     }
 
-    /// What holds of every value: the sequences fall. Proof step: does nothing when it runs.
+    /// The invariant of every value: the sequences fall. Proof step: does nothing when it runs.
     pub(crate) fn recall_falling(&self)
         ensures { IsFalling self.now }
     {
         self.spans.fragments();
     }
 
-    /// How many there are, at most 2^64 - 1.
+    /// The number of sequences, at most 2^64 - 1.
     pub(crate) fn len(&self) -> u64
         ensures { result ≡ min (length self.now) (2 ^ 64 - 1) }
     {

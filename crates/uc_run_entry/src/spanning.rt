@@ -1,4 +1,4 @@
-//! Which pieces a range covers.
+//! The pieces that a range covers.
 ghost use Rattle.std.specs.Prelude.{◌≡◌, ◌≤◌, length, map, IfOk};
 ghost use Rattle.std.specs.List.{count_by};
 ghost use Rattle.std.specs.List.Sorted.{IsStrictlySortedBy};
@@ -24,7 +24,7 @@ fn is_at_or_below(cut: &[u8], key: &[u8]) -> bool
     cut.cmp(&key).is_le()
 }
 
-/// How many cut points are below a key.
+/// The number of cut points below a key.
 fn count_below(cuts: &[&[u8]], key: &[u8]) -> usize
     requires { IsStrictlySortedBy bytes_cmp (map (λ cut. cut.now) cuts.now) }
     ensures { result ≡ count_by (λ cut. is_lt (bytes_cmp cut key.now)) (map (λ cut. cut.now) cuts.now) }
@@ -32,7 +32,7 @@ fn count_below(cuts: &[&[u8]], key: &[u8]) -> usize
     cuts.partition_point(|cut| is_below(cut, key))
 }
 
-/// How many cut points are at or below a key.
+/// The number of cut points at or below a key.
 fn count_up_to(cuts: &[&[u8]], key: &[u8]) -> usize
     requires { IsStrictlySortedBy bytes_cmp (map (λ cut. cut.now) cuts.now) }
     ensures count { result ≡ count_by (λ cut. is_le (bytes_cmp cut key.now)) (map (λ cut. cut.now) cuts.now) }

@@ -84,7 +84,7 @@ impl Spans {
         })
     }
 
-    /// How many fragments there are.
+    /// The number of fragments.
     pub fn fragments(&self) -> usize
         ensures count { result ≡ length self.now }
         ensures falling { AllByRecursion IsFalling self.now }
@@ -102,7 +102,7 @@ impl Spans {
         newest_over(&self.nodes, self.fragments, fragment, at)
     }
 
-    /// How many sequences a fragment has, at most 2^64 - 1.
+    /// The number of a fragment's sequences, at most 2^64 - 1.
     ///
     /// It looks at a number of lists logarithmic in the number of fragments.
     pub fn count(&self, fragment: usize) -> u64

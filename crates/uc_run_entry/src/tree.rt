@@ -96,7 +96,7 @@ fn push_nodes(
     push_nodes(alloc, lists, middle, high, second)
 }
 
-/// What each node of the tree over `fragments` fragments holds.
+/// The lists of the nodes of the tree over `fragments` fragments.
 pub(crate) fn nodes(
     alloc: Global,
     fragments: usize,

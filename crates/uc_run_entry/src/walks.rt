@@ -30,7 +30,7 @@ pub(crate) fn newest_over(
     best
 }
 
-/// How many sequences the nodes over a fragment hold together, at most 2^64 - 1.
+/// The number of sequences in the nodes over a fragment together, at most 2^64 - 1.
 pub(crate) fn count_over(nodes: &Lists<u64>, fragments: usize, fragment: usize) -> u64
     requires all { length nodes.now + 1 ≡ 2 * fragments }
     requires within { fragment < fragments }

@@ -9,7 +9,7 @@ use std::alloc::{AllocError, Global};
 use uc_bytes::Bytes;
 use uc_oper::{Effect, Operator};
 
-/// What a point says of its key: a [`What`] with a borrowed text, so it takes no memory.
+/// The change that a point makes to its key: a [`What`] with a borrowed byte string, so it takes no memory.
 #[derive(Clone, Copy, Debug, PartialEq, Eq)]
 pub enum WhatRef<'a> {
     /// The key has this value.
@@ -43,8 +43,8 @@ impl<'a> WhatRef<'a> {
         })
     }
 
-    /// What an effect and then this do in turn. An operand is appended to the effect's text, and only a text that is
-    /// kept is copied. An `Err` loses the effect.
+    /// The effect of an effect and then of this. An operand is appended to the effect's bytes, and only bytes that are
+    /// kept are copied. An `Err` loses the effect.
     pub fn after<O: Operator>(self, alloc: Global, before: Effect) -> Result<Effect, AllocError>
         ensures { IfOk result (λ both. both ≡ composed O.meaning before (what_effect (packed.what_of self.entry))) }
     {

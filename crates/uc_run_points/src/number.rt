@@ -9,10 +9,10 @@ use std::alloc::AllocError;
 /// The least number that has more than its own byte.
 const LEAST_LONG: u64 = 248;
 
-/// What the first byte of a long number is, less how many bytes follow.
+/// The first byte of a long number, less the number of bytes after it.
 const LONG: u8 = 247;
 
-/// How many bytes hold a number.
+/// The number of bytes that hold a number.
 #[tactic(auto, unfolding(crate::specs::Numbers::width_of))]
 fn width_of(number: u64) -> usize
     ensures width { result ≡ numbers.width_of number }

@@ -36,7 +36,7 @@ impl<'a> Model for PointRef<'a> {
     ghost view = { λ p. entry_of (number_from p.trailer.now).0 p.key.now p.text.now };
 }
 
-/// What a tag says with a text.
+/// The change that a tag and a byte string spell.
 #[inline]
 fn said(tag: u64, text: &[u8]) -> WhatRef<'_>
     ensures { packed.what_of result ≡ packed.tagged tag text.now }
@@ -86,7 +86,7 @@ impl<'a> PointRef<'a> {
         read_number(self.trailer).0 / 4
     }
 
-    /// What it says of the key.
+    /// The change to the key.
     #[inline]
     pub fn what(&self) -> WhatRef<'a>
         ensures { packed.what_of result ≡ self.now.what }

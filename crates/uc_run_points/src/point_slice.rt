@@ -14,7 +14,7 @@ use std::marker::Model;
 pub struct PointSlice<'a> {
     /// All points, of which these are some.
     points: &'a Points,
-    /// How many points come before the first of these.
+    /// The number of points before the first of these.
     begin: usize,
     /// These points: the bytes of the first are at hand.
     ahead: PointsAhead<'a>,
@@ -84,7 +84,7 @@ impl<'a> PointSlice<'a> {
         }
     }
 
-    /// How many points there are.
+    /// The number of points.
     #[inline]
     pub fn len(&self) -> usize
         ensures count { result ≡ length self.now }
@@ -153,7 +153,7 @@ impl<'a> PointSlice<'a> {
         }
     }
 
-    /// How many points pass a test, if those that do come first. It is a binary search.
+    /// The number of points that pass a test, if those that do come first. It is a binary search.
     pub fn partition_point<T: PointTest>(&self, test: &T) -> usize
         requires { IsPartitionedBy (T.passing test.now) self.now }
         ensures bound { result ≤ length self.now }
@@ -182,7 +182,7 @@ impl<'a> PointSlice<'a> {
         self.ahead.again()
     }
 
-    /// Those from a place to below another, at the cost of a look at the first of them.
+    /// The points from a place to below another, at the cost of a look at the first of them.
     #[inline]
     pub fn slice(&self, begin: usize, end: usize) -> PointSlice<'a>
         requires order { begin ≤ end }
@@ -214,7 +214,7 @@ impl<'a> PointSlice<'a> {
         count
     }
 
-    /// Those before a place, and those from it on.
+    /// The points before a place, and those from it on.
     pub fn split_at(&self, place: usize) -> (PointSlice<'a>, PointSlice<'a>)
         requires { place ≤ length self.now }
         ensures front { result.0 ≡ take place self.now }

@@ -6,7 +6,7 @@ use crate::point_ref::PointRef;
 
 /// A test that a search puts to points. Those that pass come first.
 pub trait PointTest {
-    /// What passes.
+    /// The points that pass.
     ghost passing: { Self → EntryOf → Bool };
 
     /// Whether a point passes.

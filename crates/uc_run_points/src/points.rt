@@ -87,7 +87,7 @@ fn push_start(starts: &mut Vec<usize>, place: usize, offset: usize) -> Result<()
     Ok(())
 }
 
-/// Pushes the offset of each entry of some bytes that is the first of a quarter, where so many entries and bytes come before
+/// Pushes the offset of each entry of some bytes that is the first of a quarter, where this many entries and bytes come before
 /// them. It costs a step for each entry. An `Err` may leave some of them pushed.
 fn push_starts(
     starts: &mut Vec<usize>,
@@ -143,7 +143,7 @@ impl Points {
         }
     }
 
-    /// How many points there are.
+    /// The number of points.
     #[inline]
     pub fn len(&self) -> usize
         ensures count { result ≡ length self.now }
@@ -152,7 +152,7 @@ impl Points {
         self.count
     }
 
-    /// How many bytes they have, as `specs/Spelling.antt` spells them.
+    /// Their size in bytes, as `specs/Spelling.antt` spells them.
     #[inline]
     pub fn size(&self) -> usize
         ensures { result ≡ length (spelling.entries_text self.now) }
@@ -200,7 +200,7 @@ impl Points {
         Ok(())
     }
 
-    /// Keeps the first points, which have so many bytes, and forgets those after them.
+    /// Keeps the first points, which have this many bytes, and forgets those after them.
     pub fn truncate(&mut self, count: usize, size: usize)
         requires count { count ≤ length self.old }
         requires size { size ≡ length (spelling.entries_text (take count self.old)) }

@@ -17,7 +17,7 @@ pub struct PointsAhead<'a> {
     first: PointRef<'a>,
     /// The bytes after it.
     behind: &'a [u8],
-    /// How many points are ahead.
+    /// The number of points ahead.
     count: usize,
 }
 
@@ -32,7 +32,7 @@ impl<'a> Model for PointsAhead<'a> {
 }
 
 impl<'a> PointsAhead<'a> {
-    /// So many points, whose bytes begin here. It reads the first.
+    /// This many points, whose bytes begin here. It reads the first.
     #[inline]
     pub(crate) fn new(bytes: &'a [u8], count: usize) -> PointsAhead<'a>
         ensures { result ≡ entries_from count bytes.now }
@@ -57,7 +57,7 @@ impl<'a> PointsAhead<'a> {
         }
     }
 
-    /// How many points are ahead.
+    /// The number of points ahead.
     #[inline]
     pub fn len(&self) -> usize
         ensures { result ≡ length self.now }
@@ -114,7 +114,7 @@ impl<'a> PointsAhead<'a> {
         point
     }
 
-    /// Passes over so many points, or all if there are fewer.
+    /// Passes over this many points, or all if there are fewer.
     #[inline]
     pub fn pass(&mut self, count: usize)
         ensures { self.new ≡ drop count self.old }
@@ -124,7 +124,7 @@ impl<'a> PointsAhead<'a> {
         }
     }
 
-    /// Keeps the next points, so many if there are as many, and forgets those after them.
+    /// Keeps the next points, this many if there are as many, and forgets those after them.
     #[inline]
     pub(crate) fn truncate(&mut self, count: usize)
         ensures { self.new ≡ take count self.old }

@@ -49,7 +49,7 @@ pub(crate) fn push_entry(
     Ok(())
 }
 
-/// So many bytes at the front, and those after them; all and none if there are fewer.
+/// This many bytes at the front, and those after them; all and none if there are fewer.
 #[inline]
 fn split_front(bytes: &[u8], count: u64) -> (&[u8], &[u8])
     ensures front { result.0.now ≡ take count bytes.now }

@@ -4,17 +4,17 @@ use crate::query::Query;
 use crate::script::Ops;
 use crate::seq::Seq;
 
-/// How many names a script has for its claims, from 0 on: as many as a store's owner holds claims at once.
+/// The number of names that a script has for its claims, from 0 on: as many as a store's owner holds claims at once.
 pub const NAMES: usize = 128;
 
-/// What a script asks of the store after its `open`.
+/// A call that a script makes of the store after its `open`.
 #[derive(Debug, Drop, PartialEq, Eq)]
 pub enum Call {
-    /// That changes are written: those gathered since the last `feed`, or since `open`, in order. A script writes `feed`.
+    /// Writes the changes that were gathered since the last `feed`, or since `open`, in order. A script writes `feed`.
     Feed(Ops),
     /// A snapshot at the last sequence. A script writes `keep`.
     Keep,
-    /// That a snapshot ends. A script writes `release S`.
+    /// Ends a snapshot. A script writes `release S`.
     Release(Seq),
     /// To read. A script writes `get K S` or `scan LOW HIGH LIMIT S`.
     Read(Query),
@@ -25,16 +25,16 @@ pub enum Call {
         name: u8,
         /// The position of the newest of the runs. Positions count from 0, the newest run of all.
         first: usize,
-        /// How many runs they are.
+        /// The number of runs.
         count: usize,
     },
-    /// That the runs claimed under a name are merged into one, which takes their place. A script
+    /// Merges the runs claimed under a name into one, which takes their place. A script
     /// writes `install N`.
     Install {
         /// The name of the claim, below [`NAMES`].
         name: u8,
     },
-    /// That the runs claimed under a name are given back as they are. A script writes `abandon N`.
+    /// Gives back the runs claimed under a name as they are. A script writes `abandon N`.
     Abandon {
         /// The name of the claim, below [`NAMES`].
         name: u8,
@@ -44,11 +44,11 @@ pub enum Call {
     Compact {
         /// The position of the newest of the runs, from 0.
         first: usize,
-        /// How many runs they are.
+        /// The number of runs.
         count: usize,
     },
-    /// Which neighbouring runs universal compaction picks. A script writes `pick`.
+    /// Asks for the neighbouring runs that universal compaction picks. A script writes `pick`.
     Pick,
-    /// What the store holds, in figures. A script writes `report`.
+    /// Asks for the figures of the store. A script writes `report`.
     Report,
 }

@@ -11,20 +11,20 @@ use crate::query_line::{read_get, read_scan};
 use std::alloc::{AllocError, Global};
 use uc_bytes::Op;
 
-/// What a line after `open` says.
+/// The meaning of a line after `open`.
 #[derive(Drop)]
 pub(crate) enum CallLine {
     /// Nothing: the line is empty or a comment.
     Skipped,
     /// A change, to be written by the next `feed`.
     Change(Op),
-    /// That the changes gathered are written.
+    /// Writes the gathered changes.
     Feed,
-    /// What else is asked.
+    /// Another call.
     Ask(Call),
 }
 
-/// What a line says, or `None` if it is faulty.
+/// The meaning of a line, or `None` if it is faulty.
 #[tactic(auto, unfolding(crate::specs::Script::call_line, crate::specs::Script::call_of))]
 pub(crate) fn read_call_line(alloc: Global, line: &[u8]) -> Result<Option<CallLine>, AllocError>
     ensures { IfOk result (λ said. said ≡ script.call_line line.now) }

@@ -61,7 +61,7 @@ impl<'a> CallReader<'a> {
     }
 }
 
-/// What a line asks, if it asks anything. Its change is gathered, and a faulty line is passed over.
+/// The call of a line, if it makes one. Its change is gathered, and a faulty line is passed over.
 fn read_call(alloc: Global, line: &[u8], ops: &mut Vec<Op>) -> Result<Option<Call>, AllocError>
     ensures call { IfOk result (λ call. (lines : List (List ℕ)) →
         calls_from ops.old.items (line.now ∷ lines) ≡ cons_option call (calls_from ops.new.items lines)) }

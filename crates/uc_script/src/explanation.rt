@@ -7,23 +7,23 @@ use crate::fault::LineFault;
 use crate::word::Word;
 use std::fmt;
 
-/// What is said of the faulty line. It prints as one line, without a line break.
+/// The explanation of a faulty line. It prints as one line, without a line break.
 #[derive(Debug, Drop, PartialEq, Eq)]
 pub enum Explanation {
-    /// What is wrong with a line that is there.
+    /// A fault of a line that is there.
     Line {
         /// The line's number, from 1.
         number: u64,
         /// The line as it is shown.
         line: String,
-        /// What is wrong with it.
+        /// The fault.
         fault: LineFault,
     },
     /// A line is missing after the last.
     Missing {
         /// The number that it must have, from 1.
         number: u64,
-        /// What it must be, and all of it.
+        /// The word that it must be, and all of it.
         word: Word,
     },
 }

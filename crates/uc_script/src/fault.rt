@@ -8,7 +8,7 @@ use crate::part::Part;
 use crate::word::Word;
 use std::fmt;
 
-/// What is wrong with a line: the first of these from the left. Fields are counted from 1, the line's first word.
+/// The fault of a line: the first of these from the left. Fields are counted from 1, the line's first word.
 #[derive(Clone, Copy, Debug, PartialEq, Eq)]
 pub enum LineFault {
     /// No line of any text begins with its first word.
@@ -25,7 +25,7 @@ pub enum LineFault {
         word: Word,
         /// The number of the field.
         field: usize,
-        /// What the field must be.
+        /// The kind that the field must have.
         kind: FieldKind,
     },
     /// It is the line `log` without its line feed, so no log follows it.

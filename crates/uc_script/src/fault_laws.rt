@@ -1,4 +1,4 @@
-//! What is shown and printed, as laws. Each is a contract; its function is a proof step that does nothing when it runs.
+//! Laws about what is shown and printed. Each is a contract; its function is a proof step that does nothing when it runs.
 
 ghost use Rattle.std.specs.Prelude.{◌≡◌, ℕ, ◌<◌, ◌≤◌, ◌^◌, List, length, IsTrue, IfSome};
 ghost use Rattle.std.specs.List.{list_all};
@@ -12,7 +12,7 @@ pub fn a_shortened_line_is_short()
     ensures short { (line : List ℕ) → length (shortened line) ≤ 243 }
 {}
 
-/// What is said of a line is one line: printable characters of ASCII alone, without a line break.
+/// An explanation of a line is one line: printable characters of ASCII alone, without a line break.
 pub fn an_explanation_is_one_line()
     ensures { (source : Source) (text : List ℕ) (number : ℕ) → number < 2 ^ 64 →
         IfSome (explanation_of source text number) (λ said. IsTrue (list_all is_printable said)) }

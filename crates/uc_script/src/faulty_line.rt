@@ -67,7 +67,7 @@ fn leaves_writes(text: &[u8]) -> bool
     is_left
 }
 
-/// What is said if the line of this number is missing in a text: nothing after an `open` if no write is left there.
+/// The explanation if the line of this number is missing in a text: nothing after an `open` if no write is left there.
 fn missing(part: Part, number: u64, text: &[u8]) -> Option<Explanation>
     ensures { option_map explanation_text result ≡ explanations.missing part number
         (leaves explanations.begins_write explanations.takes_writes (lines_of text.now)) }
@@ -89,7 +89,7 @@ fn lacks_its_end(part: Part, line: &[u8], others: &[u8], is_ended: bool) -> bool
     part == Part::Head && line == b"log".as_slice() && others.is_empty() && !is_ended
 }
 
-/// What is wrong with a line before these others, in a text that ends with LF or doesn't.
+/// The fault of a line before these others, in a text that ends with LF or doesn't.
 fn fault_before(
     alloc: Global,
     part: Part,
@@ -106,7 +106,7 @@ fn fault_before(
     line_fault(alloc, part, line)
 }
 
-/// What is said of the line of this number, from 1, in a text of this kind: what is there, what is wrong with it and
+/// The explanation of the line of this number, from 1, in a text of this kind: what is there, what is wrong with it and
 /// what may be there, or that it is missing. It is `None` if nothing is wrong with that line, which is never so for a
 /// number from [`read_script`](crate::read_script) or [`read_head`](crate::read_head).
 ///

@@ -9,7 +9,7 @@ use crate::field;
 use std::alloc::{AllocError, Global};
 use std::fmt;
 
-/// What a field after a line's word may be.
+/// The kinds of fields after a line's word.
 #[derive(Clone, Copy, Debug, PartialEq, Eq)]
 pub enum FieldKind {
     /// A key or a value.
@@ -39,7 +39,7 @@ impl FieldKind {
     }
 }
 
-/// What a field of the kind is.
+/// The kind in words.
 impl fmt::Display for FieldKind {
     ghost output = { λ kind. Some (kind_text kind) };
 

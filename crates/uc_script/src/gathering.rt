@@ -1,4 +1,4 @@
-//! What lines after `open` ask, one after the other: a `feed` takes the changes gathered before it.
+//! The calls of lines after `open`, one after the other: a `feed` takes the changes gathered before it.
 
 ghost use Rattle.std.specs.Prelude.{◌≡◌, IfOk, OnOk, OnErr};
 ghost use Rattle.uc_script.specs.Reading as reading;
@@ -10,7 +10,7 @@ use std::alloc::{AllocError, Global};
 use std::mem;
 use uc_bytes::{Items, Op};
 
-/// What a line asks, if it asks anything. Its change is gathered after the others, and a `feed` takes them all, without
+/// The call of a line, if it makes one. Its change is gathered after the others, and a `feed` takes them all, without
 /// a copy.
 ///
 /// An `Err` leaves the changes as they were.

@@ -18,7 +18,7 @@ use uc_bytes::Items;
 pub struct Head {
     /// The numbers of the `keep` lines in order.
     pub keeps: Keeps,
-    /// How many bytes the head has, its `log` line with its LF too. The log begins at this offset.
+    /// The size of the head in bytes, its `log` line with its LF too. The log begins at this offset.
     pub size: usize,
 }
 

@@ -9,20 +9,20 @@ use crate::query_line::{read_get, read_scan};
 use crate::setup_line::read_keep;
 use std::alloc::{AllocError, Global};
 
-/// What a line before a log says, the `log` line included.
+/// The meaning of a line before a log, the `log` line included.
 #[derive(Drop)]
 pub(crate) enum HeadLine {
     /// Nothing: the line is empty or a comment.
     Skipped,
     /// A sequence to keep.
     Keep(u64),
-    /// What is asked.
+    /// A query.
     Ask(Query),
     /// The end of the head: the log follows this line's LF.
     Log,
 }
 
-/// What a line says, or `None` if it is faulty.
+/// The meaning of a line, or `None` if it is faulty.
 #[tactic(auto, unfolding(crate::specs::Head::head_line, crate::specs::Head::says_log, crate::specs::Head::said_by))]
 pub(crate) fn read_head_line(alloc: Global, line: &[u8]) -> Result<Option<HeadLine>, AllocError>
     ensures { IfOk result (λ said. said ≡ heads.head_line line.now) }

@@ -1,4 +1,4 @@
-//! What the definitions of this crate mean, as laws. Each is a contract; its function is a proof step that does nothing
+//! Laws about the definitions of this crate. Each is a contract; its function is a proof step that does nothing
 //! when it runs.
 
 ghost use Rattle.std.specs.Prelude.{◌≡◌, ℕ, ◌<◌, ◌^◌, ◌++◌, ◌∷◌, [], List, codes, length, Ok, Some, Result, All};

@@ -12,7 +12,7 @@ use crate::part::Part;
 use crate::word::Word;
 use std::alloc::{AllocError, Global};
 
-/// What is wrong with the fields after a line's word, if anything follows its space.
+/// The fault of the fields after a line's word, if anything follows its space.
 fn arguments_fault(
     alloc: Global,
     word: Word,
@@ -38,7 +38,7 @@ fn arguments_fault(
     Ok(rest.map(|_| LineFault::TooMany(word)))
 }
 
-/// What is wrong with a line of a part, or `None` if it is right there. It allocates for the bytes of one key or value
+/// The fault of a line of a part, or `None` if it is right there. It allocates for the bytes of one key or value
 /// at a time.
 #[tactic(auto, unfolding(crate::specs::Faults::line_fault))]
 pub(crate) fn line_fault(

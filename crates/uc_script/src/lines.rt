@@ -1,4 +1,4 @@
-//! How a text falls into lines and a line into fields.
+//! Lines of a text, and fields of a line.
 
 ghost use Rattle.std.specs.Prelude.{◌≡◌, ◌+◌, ◌-◌, ◌<◌, [], ◌∷◌, ◌==◌, length, drop, position, MatchOption};
 ghost use Rattle.uc_script.specs.Lines as lines;

@@ -6,7 +6,7 @@ ghost use Rattle.uc_script.specs.Parts.{first_words};
 
 use std::fmt;
 
-/// What a text with faulty lines is.
+/// The kind of a text with faulty lines.
 #[derive(Clone, Copy, Debug, PartialEq, Eq)]
 pub enum Source {
     /// A script, as [`read_script`](crate::read_script) reads it.
@@ -39,7 +39,7 @@ impl Part {
     }
 }
 
-/// Which words a line of the part may begin with.
+/// The words that a line of the part may begin with.
 impl fmt::Display for Part {
     ghost output = { λ part. Some (first_words part) };
 

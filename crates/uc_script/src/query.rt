@@ -3,7 +3,7 @@
 use crate::seq::Seq;
 use uc_bytes::Bytes;
 
-/// What a line asks to read, in a script after its `open` and in the head before a log.
+/// A query of a line, in a script after its `open` and in the head before a log.
 #[derive(Debug, Drop, PartialEq, Eq)]
 pub enum Query {
     /// The value of a key. A line writes `get K S`.
@@ -19,7 +19,7 @@ pub enum Query {
         low: Bytes,
         /// The rows are below this key; `None` means no end. A line writes `-` for none.
         high: Option<Bytes>,
-        /// How many rows there are at most.
+        /// The most rows.
         limit: u64,
         /// The sequence at which to read.
         at: Seq,

@@ -8,17 +8,17 @@ pub type Ops = Items<Op>;
 /// The numbers of a script's `keep` lines.
 pub type Keeps = Items<u64>;
 
-/// What a script asks after its `open`.
+/// The calls of a script after its `open`.
 pub type Calls = Items<Call>;
 
-/// What a script asks: the lines before its `open`, and those after it.
+/// The meaning of a script: the lines before its `open`, and those after it.
 #[derive(Drop)]
 pub struct Script {
     /// The changes before `open`, in order. The first has the sequence 1, the next 2, and so on.
     pub ops: Ops,
     /// The numbers of the `keep` lines in order.
     pub keeps: Keeps,
-    /// What is asked after `open`, in order.
+    /// The calls after `open`, in order.
     pub calls: Calls,
 }
 
@@ -30,6 +30,6 @@ pub struct Preamble {
     pub ops: Ops,
     /// The numbers of the `keep` lines in order.
     pub keeps: Keeps,
-    /// How many bytes the lines up to `open` have, that line with its LF included. The calls begin at this offset.
+    /// The size of the lines up to `open` in bytes, that line with its LF included. The calls begin at this offset.
     pub size: usize,
 }

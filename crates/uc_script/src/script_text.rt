@@ -16,7 +16,7 @@ use crate::setup_line::{SetupLine, read_setup_line};
 use std::alloc::Global;
 use uc_bytes::{Items, Op};
 
-/// What was read up to `open`, and where to go on.
+/// The setup that was read up to `open`, and where to go on.
 #[derive(Drop)]
 struct Opened<'a> {
     ops: Vec<Op>,
@@ -27,7 +27,7 @@ struct Opened<'a> {
     rest: &'a [u8],
 }
 
-/// What a script asks.
+/// Reads a script.
 ///
 /// Its lines end with LF, and the last may lack it. Fields are separated by one space. Empty lines and lines that begin
 /// with `#` are skipped and counted. Before the one `open` come `put K V`, `delete K`, `merge K V`, `range B E` and
@@ -53,7 +53,7 @@ pub fn read_script(alloc: Global, text: &[u8]) -> Result<Script, ScriptError>
     })
 }
 
-/// What a script says up to its `open`. The lines after it are judged and freed. [`read_script`] says which scripts are
+/// Reads a script up to its `open`. The lines after it are judged and freed. [`read_script`] says which scripts are
 /// faulty, and in which line.
 ///
 /// A [`CallReader`](crate::CallReader) over the bytes after `open` returns the calls. It allocates for the changes before

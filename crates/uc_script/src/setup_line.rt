@@ -9,7 +9,7 @@ use crate::lines::{Fields, is_skipped, split_line};
 use std::alloc::{AllocError, Global};
 use uc_bytes::Op;
 
-/// What a line before `open` says, that line included.
+/// The meaning of a line before `open`, that line included.
 #[derive(Drop)]
 pub(crate) enum SetupLine {
     /// Nothing: the line is empty or a comment.
@@ -22,7 +22,7 @@ pub(crate) enum SetupLine {
     Open,
 }
 
-/// What a line says, or `None` if it is faulty.
+/// The meaning of a line, or `None` if it is faulty.
 #[tactic(auto, unfolding(crate::specs::Script::setup_line, crate::specs::Script::setup_of))]
 pub(crate) fn read_setup_line(alloc: Global, line: &[u8]) -> Result<Option<SetupLine>, AllocError>
     ensures { IfOk result (λ said. said ≡ script.setup_line line.now) }

@@ -7,7 +7,7 @@ ghost use Rattle.uc_script.specs.Shortened.{shown};
 
 use std::alloc::{AllocError, Global};
 
-/// How many bytes of a line are shown at most.
+/// The most bytes of a line that are shown.
 pub const MOST_SHOWN: usize = 60;
 
 /// The hexadecimal digit of a number below 16.

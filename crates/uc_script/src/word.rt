@@ -139,7 +139,7 @@ impl Word {
         }
     }
 
-    /// What follows it, in order.
+    /// The fields that follow it, in order.
     pub fn kinds(self) -> &'static [FieldKind]
         ensures { result.now ≡ words.kinds self }
     {

@@ -17,7 +17,7 @@ use uc_claims::Seat;
 use uc_oper::Operator;
 use uc_version_compact::InstallError;
 
-/// Who compacts a store: a reader and a seat of it. Contracts see the seat, which is there between turns, and what the reader has
+/// A compactor of a store: a reader and a seat of it. Contracts see the seat, which is there between turns, and what the reader has
 /// seen of the history.
 pub struct Compactor<O: Operator, N: Name> {
     reader: Reader<O, N>,

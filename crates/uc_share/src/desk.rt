@@ -27,7 +27,7 @@ use uc_oper::Operator;
 use uc_version_compact::{InstallError, error_of, present_refusal, what_fits_may_be_installed};
 use uc_version_state::{Install, Refusal};
 
-/// What was pinned is a beginning of what is shown, since it was shown before. It does nothing: a pin of what isn't shown yet can't
+/// The pinned history is a beginning of the shown one, since it was shown before. It does nothing: a pin of what isn't shown yet can't
 /// be made, which no clause of a reader's says, so it would wait.
 fn recall_shown<O: Operator, N: Name>(rt: &impl Wait, pin: &Pin<O, N>, shown: &Front<N>)
     ensures { IsPrefix pin.now.events shown.now }
@@ -40,7 +40,7 @@ fn recall_shown<O: Operator, N: Name>(rt: &impl Wait, pin: &Pin<O, N>, shown: &F
     }
 }
 
-/// What stands under a store's lock: what shows readers the next version.
+/// The value under a store's lock: the publisher, which shows readers the next version.
 #[derive(Drop)]
 pub(crate) struct Desk<O: Operator, N: Name, W: Wait + Drop> {
     pub(crate) publisher: Option<Publisher<O, N, W>>,
@@ -48,7 +48,7 @@ pub(crate) struct Desk<O: Operator, N: Name, W: Wait + Drop> {
 }
 
 impl<O: Operator, N: Name, W: Wait + Drop> Desk<O, N, W> {
-    /// What stands under the lock of a store that shows so.
+    /// The value under the lock of a store with this publisher.
     pub(crate) fn new(publisher: Publisher<O, N, W>) -> Desk<O, N, W> {
         Desk {
             publisher: Some(publisher),
@@ -91,7 +91,7 @@ impl<O: Operator, N: Name, W: Wait + Drop> Desk<O, N, W> {
     }
 }
 
-/// What shows readers the next version, after an install.
+/// Shows readers the next version, after an install.
 fn installed<O: Operator, N: Name, W: Wait + Drop, R: Wait>(
     rt: &R,
     alloc: Global,
@@ -179,7 +179,7 @@ fn version_refusal<O: Operator, N: Name, W: Wait + Drop>(
     present_refusal(held.runs(), publisher.shown().version(), made)
 }
 
-/// What the claimed runs themselves were compacted to is refused for two reasons by all versions after the one that was pinned.
+/// The run that the claimed runs themselves were compacted to is refused for two reasons by all versions after the pinned one.
 /// Proof step: does nothing when it runs.
 fn own_is_refused_for_two_reasons<O: Operator, N: Name>(held: &Held<O, N>)
     ensures { (now : List Event) (error : InstallError) → IsPrefix held.now.pin.events now → MayFollow O.meaning N.base now →

@@ -30,7 +30,7 @@ impl<N: Name> Model for Front<N> {
 }
 
 impl<N: Name> Front<N> {
-    /// What was seen of a history, which has `count` events.
+    /// The part of a history that was seen, which has `count` events.
     pub(crate) fn of(count: u64, seen: Seen<Event, u64, Law>) -> Front<N>
         requires count { count ≡ length seen.log }
         requires book { seen.book ≡ N.book }
@@ -43,7 +43,7 @@ impl<N: Name> Front<N> {
         }
     }
 
-    /// How many events it has.
+    /// The number of events.
     pub fn len(&self) -> u64
         ensures { result ≡ length self.now }
     {

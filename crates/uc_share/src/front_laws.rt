@@ -1,4 +1,4 @@
-//! What holds of a store's history and of what was seen of it.
+//! Laws about a store's history and about the part of it that was seen.
 ghost use Rattle.std.specs.Prelude.{◌≡◌, ◌++◌, List, Contains, fold};
 ghost use Rattle.std.specs.List.{AllByRecursion};
 ghost use mathlib.Core.List.{IsPrefix};
@@ -12,8 +12,8 @@ ghost use Rattle.uc_claims.specs.Holding.{AreDistinct};
 use uc_oper::Operator;
 use uc_version_state::runs_are_replaced_once;
 
-/// What was seen goes after every legal history with which the store was opened: the longer history is legal, and the version
-/// after it is the one that what was seen leads to.
+/// The events that were seen go after every legal history with which the store was opened: the longer history is legal, and the version
+/// after it is the one that those events lead to.
 pub fn fronts_go_behind_histories<O: Operator>()
     ensures legal { (h : History) (base : Stored) (events : List Event) → IsLegal O.meaning h →
         version_after h ≡ base → MayFollow O.meaning base events →

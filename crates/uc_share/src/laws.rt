@@ -1,4 +1,4 @@
-//! What holds of a store's steps.
+//! Laws about a store's steps.
 ghost use Rattle.std.specs.Prelude.{◌≡◌, ◌⊎◌, ◌↔◌, ◌+◌, ◌<◌, ◌≤◌, List, true, fold, length};
 ghost use mathlib.Core.List.{IsPrefix};
 ghost use Rattle.uc_compact.specs.Inputs.{Compaction, Stand};
@@ -24,7 +24,7 @@ pub fn steps_are_those_of_the_machine<O: Operator>()
         IsInstallable v noted made → IsMadeFor O.meaning v noted (install_for O.meaning noted made) }
 {}
 
-/// What a stretch of a pinned version was compacted to is refused by a version that comes later in the store's history for two
+/// The run that a stretch of a pinned version was compacted to is refused by a version that comes later in the store's history for two
 /// reasons alone: its runs stand no more, or no id is left. Whatever was fed, kept, released and installed in between, it knows each
 /// keep that it has to know, and if it was made for the oldest run, no run comes after its own.
 pub fn own_compactions_are_refused_for_two_reasons<O: Operator>()

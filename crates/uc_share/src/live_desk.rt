@@ -1,4 +1,4 @@
-//! What is done under a store's lock to feed writes, and to take and release snapshots.
+//! Feeds of writes, and snapshots that are taken and released, under a store's lock.
 ghost use Rattle.std.specs.Prelude.{◌≡◌, IfErr, IfOk, OnOk, false, fold, map, option_map};
 ghost use mathlib.Core.List.{IsPrefix};
 ghost use Rattle.uc_run.specs.Flush.{flushed};
@@ -116,7 +116,7 @@ fn catch_up<O: Operator, N: Name, W: Wait + Drop>(
     reader.sees(rt, &publisher.shown().front::<N>());
 }
 
-/// What shows readers the next version, after a feed.
+/// Shows readers the next version, after a feed.
 fn fed<O: Operator, N: Name, W: Wait + Drop, R: Wait>(
     rt: &R,
     alloc: Global,
@@ -150,7 +150,7 @@ fn fed<O: Operator, N: Name, W: Wait + Drop, R: Wait>(
     (publisher, Ok(()))
 }
 
-/// What shows readers the next version, after a keep.
+/// Shows readers the next version, after a keep.
 fn kept<O: Operator, N: Name, W: Wait + Drop, R: Wait>(
     rt: &R,
     alloc: Global,
@@ -175,7 +175,7 @@ fn kept<O: Operator, N: Name, W: Wait + Drop, R: Wait>(
     (publisher, Ok(last))
 }
 
-/// What shows readers the next version, after a release.
+/// Shows readers the next version, after a release.
 fn released<O: Operator, N: Name, W: Wait + Drop, R: Wait>(
     rt: &R,
     alloc: Global,

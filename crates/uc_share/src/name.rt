@@ -1,8 +1,8 @@
 //! [`Name`]: which store it is.
 use std::marker::Brand;
 
-/// Which store it is: the book of its history, its table of claim words, the version that it was opened with, and whether its keeps
-/// stay for good. It has no function: what stands under a lock is known by its type alone, so the type names the store. Each call of
+/// The name of a store: the book of its history, its table of claim words, the version that it was opened with, and whether its keeps
+/// stay for good. It has no function: the value under a lock is known by its type alone, so the type names the store. Each call of
 /// a program picks the name, by `std::marker::Brand`.
 ///
 /// Where `keeps_stay` is picked, nobody keeps or releases a sequence, so each read has one answer for as long as the store lives.

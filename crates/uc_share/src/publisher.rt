@@ -27,7 +27,7 @@ use uc_run::Run;
 use uc_version_open::version_with_flushed;
 use uc_version_state::{Event, Install, Version};
 
-/// What shows readers the next version. It stands under the store's lock. It has the store's history, all of which is shown. It
+/// The publisher shows readers the next version. It stands under the store's lock. It has the store's history, all of which is shown. It
 /// keeps a `Wait` handle, since it waits for readers that still look at a version of before, also when it is dropped. Contracts
 /// see what it shows.
 pub struct Publisher<O: Operator, N: Name, W: Wait + Drop> {
@@ -102,14 +102,14 @@ impl<O: Operator, N: Name, W: Wait + Drop> Publisher<O, N, W> {
         Ok(Reader::new(self.writer.factory().reader()?, front, number))
     }
 
-    /// What it shows is of the store's own history, and leads from the opening to the version. It does nothing.
+    /// The version that it shows is of the store's own history, which leads from the opening to it. It does nothing.
     pub fn recall(&self)
         ensures { IsMoment O.meaning N.keeps_stay N.book N.base self.now }
     {
         let _ = &self.rt;
     }
 
-    /// What readers are shown now.
+    /// The version that readers are shown now.
     pub fn shown(&self) -> &Shown
         ensures { result.now ≡ self.now }
     {

@@ -83,7 +83,7 @@ impl<O: Operator, N: Name> Reader<O, N> {
         }
     }
 
-    /// What it has seen of the history is legal, and no keep came or went in it if the store's keeps stay. It does nothing.
+    /// The events that it has seen are legal, and no keep came or went in them if the store's keeps stay. It does nothing.
     pub fn recall(&self)
         ensures legal { MayFollow O.meaning N.base self.now }
         ensures keeps { N.keeps_stay ≡ true → KeepsStay self.now }
@@ -91,7 +91,7 @@ impl<O: Operator, N: Name> Reader<O, N> {
         let _ = &self.front;
     }
 
-    /// What it has seen of the history.
+    /// The part of the history that it has seen.
     pub fn front(&self) -> &Front<N>
         ensures { result.now ≡ self.now }
     {

@@ -56,7 +56,7 @@ impl Play<Event, u64> for Add {
     ghost then = { Adds };
 }
 
-/// What says an install: the event that a step asks for.
+/// Names an install: the event that a step asks for.
 impl Plain<Install, Event, u64> for Add {
     ghost use Rattle.std.specs.Prelude.{None};
     ghost use Rattle.uc_version_state.specs.declared.event.Event.TheVariants.{Installed};
@@ -76,7 +76,7 @@ impl Plain<Writes, Event, u64> for Add {
     ghost state = { λ writes. None };
 }
 
-/// What says that the last sequence is kept.
+/// Names the event that the last sequence is kept.
 #[derive(Drop)]
 pub(crate) struct Keep;
 
@@ -89,7 +89,7 @@ impl Plain<Keep, Event, u64> for Add {
     ghost state = { λ keep. None };
 }
 
-/// What says which keep is released.
+/// Names the event that a keep is released.
 #[derive(Drop)]
 pub(crate) struct Release(pub(crate) u64);
 

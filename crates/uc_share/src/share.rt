@@ -89,7 +89,7 @@ impl Shares {
         Ok(Shares { first, others })
     }
 
-    /// How many readers have a share of their own.
+    /// The number of readers that have a share of their own.
     pub(crate) fn readers(&self) -> usize {
         self.others.len()
     }

@@ -16,7 +16,7 @@ use std::sync::Arc;
 use uc_oper::Operator;
 use uc_version_state::{Event, Version};
 
-/// What readers are shown: a version, with the history that leads to it from the store's opening. Contracts see both, and which
+/// The version that readers are shown, with the history that leads to it from the store's opening. Contracts see both, and which
 /// store's history it is. That it leads there is the rule of what is shown. Each reader has a share of the version of its own.
 #[derive(Drop)]
 pub struct Shown {
@@ -61,12 +61,12 @@ impl Shown {
         })
     }
 
-    /// How many readers have a share of their own.
+    /// The number of readers that have a share of their own.
     pub(crate) fn readers(&self) -> usize {
         self.shares.readers()
     }
 
-    /// What the reader with this number holds on to. It fails only if its pins of this version are too many.
+    /// A pin of the version for the reader with this number. It fails only if its pins of this version are too many.
     pub(crate) fn pin<O: Operator, N: Name>(&self, number: usize) -> Result<Pin<O, N>, AllocError>
         requires { IsMoment O.meaning N.keeps_stay N.book N.base self.now }
         ensures { IfOk result (λ pin. pin ≡ self.now) }
@@ -91,7 +91,7 @@ impl Shown {
     }
 }
 
-/// What is shown next takes the place of what was shown, whole.
+/// The next version takes the place of the shown one, whole.
 impl Absorb<Shown> for Shown {
     type State = Shown;
 

@@ -113,7 +113,7 @@ impl<O: Operator, N: Name, W: Wait + Drop> Store<O, N, W> {
         busy
     }
 
-    /// Which stretch of a pinned version is compacted next, if the runs whose slots it finds taken are claimed already. A whole
+    /// The stretch of a pinned version that is compacted next, if the runs whose slots it finds taken are claimed already. A whole
     /// seat finds none taken. It waits for nobody.
     pub fn pick(&self, pin: &Pin<O, N>, seat: &mut Seat) -> Option<Stretch>
         requires { seat.old.table ≡ self.now.table }

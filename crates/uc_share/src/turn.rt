@@ -23,18 +23,18 @@ use uc_claims::Seat;
 use uc_oper::Operator;
 use uc_version_compact::{ClaimError, InstallError};
 
-/// What came of a compactor's turn.
+/// The outcome of a compactor's turn.
 #[derive(Clone, Copy, Debug, PartialEq, Eq)]
 pub enum Turn {
     /// Nothing is picked of the version that was pinned.
     Idle,
     /// Another compactor was faster: what was picked is claimed already (`Busy`), or was replaced (`Moved`).
     Late(ClaimError),
-    /// What was picked is compacted and installed.
+    /// The picked stretch is compacted and installed.
     Installed,
 }
 
-/// What a refused claim makes of a turn: another compactor was faster, or memory ran out.
+/// The outcome of a turn whose claim is refused: another compactor was faster, or memory ran out.
 fn refused_turn(error: ClaimError) -> Result<Turn, InstallError>
     ensures { result ≡ turns.refused_turn error }
 {

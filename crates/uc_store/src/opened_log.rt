@@ -18,7 +18,7 @@ use uc_version_open::{OpenError, Recovered, Workers, recover, recover_pieces};
 pub struct OpenedLog<O: Operator> {
     /// The store, which has the writes before the log's first fault.
     pub store: Owned<O>,
-    /// How the log ended: clean, torn as after a crash, or at a fault, which is named with its place.
+    /// The end of the log: clean, torn as after a crash, or at a fault, which is named with its place.
     pub ended: Ended,
 }
 

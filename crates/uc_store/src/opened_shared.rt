@@ -18,7 +18,7 @@ use uc_version_open::{OpenError, Recovered, Workers, no_refusal_is_leave_to_open
 pub struct OpenedShared<O: Operator> {
     /// The store, which has the writes before the log's first fault. [`Opening::named`] gives it out, with its readers and seats.
     pub opening: Opening<O>,
-    /// How the log ended: clean, torn as after a crash, or at a fault, which is named with its place.
+    /// The end of the log: clean, torn as after a crash, or at a fault, which is named with its place.
     pub ended: Ended,
 }
 

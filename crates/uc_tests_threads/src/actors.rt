@@ -16,16 +16,16 @@ use uc_oper::Operator;
 use uc_query_shared::{Free, answer_all};
 use uc_share::{FeedError, Name, Reader, Stretch, Turn};
 
-/// How often the last sequence is kept.
+/// The number of times that the last sequence is kept.
 const KEEPS: usize = 25;
 
-/// How often each of those who ask does so.
+/// The number of times that each of those who ask does so.
 const ASKS: usize = 30;
 
-/// How often something is tried that others may be in the way of.
+/// The number of times that something is tried that others may be in the way of.
 const TRIES: usize = 10_000;
 
-/// Who does something to a store.
+/// An actor: one that does something to a store.
 #[derive(Drop)]
 pub enum Actor<O: Operator, N: Name> {
     /// Feeds drawn writes.
@@ -46,7 +46,7 @@ pub enum Actor<O: Operator, N: Name> {
 #[derive(Drop)]
 pub struct Soak<'a, O: Operator, N: Name, W: Wait + Drop, R> {
     pub scene: Scene<'a, O, N, W, R>,
-    /// What is done to it.
+    /// The plan for it.
     pub plan: Plan,
     /// All writes that may be fed, after those that it opened with, and how many these are.
     pub writes: &'a Writes,
@@ -73,7 +73,7 @@ where
     W: Wait + Drop,
     R: Threads + Wait + Sync,
 {
-    /// Feeds so many writes after the last sequence that is shown, unless another is faster, or too many runs wait for compactors.
+    /// Feeds this many writes after the last sequence that is shown, unless another is faster, or too many runs wait for compactors.
     fn feed(&self, reader: &mut Reader<O, N>, count: u64) -> Option<Done> {
         let last = reader.pin().ok()?.version().last();
         let writes = writes_behind(self.scene.alloc, last, count)?;
@@ -154,7 +154,7 @@ where
         Some(Done::events(2))
     }
 
-    /// Who keeps and releases.
+    /// Keeps and releases.
     fn keep_often(&self, mut reader: Reader<O, N>) -> Option<Done> {
         let mut done = self.feed_first(&mut reader)?;
         for _ in 0..KEEPS {
@@ -164,13 +164,13 @@ where
         Some(done)
     }
 
-    /// So many drawn queries, where this sequence is kept beside those of the opening.
+    /// This many drawn queries, where this sequence is kept beside those of the opening.
     fn batch(&self, dice: &mut Dice, kept: u64, count: u64) -> Option<Batch> {
         let keeps = [self.first_keep, self.opened, kept];
         drawn_batch::<O>(self.scene.alloc, dice, self.writes, keeps, count).ok()
     }
 
-    /// Whether what is shown answers so many drawn queries as the plain writes do, where this sequence is kept.
+    /// Whether what is shown answers this many drawn queries as the plain writes do, where this sequence is kept.
     pub fn pin_is_alike(
         &self,
         reader: &mut Reader<O, N>,
@@ -224,7 +224,7 @@ where
         Some(Done::events(0))
     }
 
-    /// What one does; nothing is said if a compaction was refused, or an answer was another than the plain writes'.
+    /// The work of an actor; nothing is said if a compaction was refused, or an answer was another than the plain writes'.
     pub fn act(&self, actor: Actor<O, N>, dice: Dice) -> Option<Done> {
         match actor {
             Actor::Feeder(reader) => self.feed_often(reader, dice),

@@ -28,12 +28,12 @@ impl Batch {
         Ok(Batch { queries, answers })
     }
 
-    /// The first queries, so many of them.
+    /// The first queries, this many of them.
     pub fn first(&self, count: usize) -> &[Query] {
         self.queries.get(..count).unwrap_or(&[])
     }
 
-    /// Whether these are the answers to the first queries, so many of them.
+    /// Whether these are the answers to the first queries, this many of them.
     pub fn are_answers(&self, answers: &Result<Vec<Answer>, AskError>, count: usize) -> bool {
         match answers {
             Ok(answers) => self.answers.get(..count) == Some(answers.as_slice()),

@@ -32,7 +32,7 @@ fn leave(counters: &[AtomicU64; COUNT], slots: &[usize]) -> bool {
     slots.iter().all(|slot| counters[*slot % COUNT].fetch_sub(1, Ordering::SeqCst) == 1)
 }
 
-// What one thread does. Returns whether it was alone with each slot that it had.
+// The work of one thread. Returns whether it was alone with each slot that it had.
 fn work(
     table: &ClaimTable,
     mut seat: Seat,

@@ -1,20 +1,20 @@
 //! [`Done`]: what was done to a store.
 
-/// What was done to a store.
+/// The counts of what was done to a store.
 #[derive(Clone, Copy)]
 pub struct Done {
-    /// How many writes were fed.
+    /// The number of writes that were fed.
     pub writes: u64,
-    /// How many runs these became.
+    /// The number of runs that these became.
     pub runs: u64,
-    /// How many events all was: feeds, installs, keeps and releases.
+    /// The number of events: feeds, installs, keeps and releases.
     pub events: u64,
-    /// How many compactions were installed.
+    /// The number of compactions that were installed.
     pub installs: u64,
 }
 
 impl Done {
-    /// So many events that neither feed nor install.
+    /// This many events that neither feed nor install.
     pub fn events(events: u64) -> Done {
         Done {
             writes: 0,
@@ -33,7 +33,7 @@ impl Done {
         }
     }
 
-    /// So many installs.
+    /// This many installs.
     pub fn installs(installs: u64) -> Done {
         Done {
             installs,

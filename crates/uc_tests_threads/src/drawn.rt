@@ -8,31 +8,31 @@ use uc_oper::Operator;
 use uc_query_read::Query;
 use uc_share::Options;
 
-/// How many writes are fed at once, at the most.
+/// The most writes that are fed at once.
 pub const MOST_FED: u64 = 3;
 
-/// How stores are drawn, and what is done to them.
+/// A plan of how stores are drawn, and what is done to them.
 #[derive(Clone, Copy)]
 pub struct Plan {
-    /// How many stores there are.
+    /// The number of stores.
     pub stores: u64,
     /// With how many runs a store opens.
     pub fewest: u64,
     pub most: u64,
-    /// How many runs are picked at a time, and from how many percent of the oldest on all are.
+    /// The number of runs that are picked at a time, and the percentage of the oldest run from which on all are.
     pub greatest: u32,
     pub percent: u32,
-    /// How many turns each of four compactors has, and whether two of them claim drawn stretches, and give some back.
+    /// The number of turns of each of four compactors, and whether two of them claim drawn stretches, and give some back.
     pub turns: usize,
     pub draws: bool,
-    /// How often each of two feeders tries to feed. If never, nobody keeps or releases either.
+    /// The number of times that each of two feeders tries to feed. If it is 0, nobody keeps or releases either.
     pub feeds: u64,
-    /// How many installs there are, of all stores, at the least.
+    /// The least number of installs, of all stores.
     pub installs: u64,
 }
 
 impl Plan {
-    /// How a store is compacted.
+    /// The options of a store.
     pub fn options(&self) -> Options {
         Options {
             greatest: self.greatest,
@@ -41,7 +41,7 @@ impl Plan {
         }
     }
 
-    /// How many writes there are at the most: the opening's, those of both feeders, and one before the first keep.
+    /// The most writes: the opening's, those of both feeders, and one before the first keep.
     pub fn writes(&self) -> u64 {
         let fed = self.feeds.saturating_mul(2 * MOST_FED);
         self.most.saturating_add(fed).saturating_add(1)
@@ -68,7 +68,7 @@ fn write_at(alloc: Global, seq: u64) -> Result<Write, AllocError> {
     })
 }
 
-/// So many writes after a sequence. Of four sequences one has none.
+/// This many writes after a sequence. Of four sequences one has none.
 pub fn writes_behind(alloc: Global, last: u64, count: u64) -> Option<Writes> {
     let mut writes = Vec::new(alloc);
     let mut seq = last;
@@ -115,7 +115,7 @@ fn drawn_sequence(dice: &mut Dice, keeps: [u64; 3]) -> u64 {
     }
 }
 
-/// So many drawn queries at sequences of which these are kept, and what the plain writes answer, which go on after them.
+/// This many drawn queries at sequences of which these are kept, and what the plain writes answer, which go on after them.
 pub fn drawn_batch<O: Operator>(
     alloc: Global,
     dice: &mut Dice,

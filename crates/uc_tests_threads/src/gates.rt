@@ -3,7 +3,7 @@ use std::sync::atomic::{AtomicBool, Ordering};
 use std::thread::yield_now;
 use uc_query_shared::Gate;
 
-/// How often a thread looks before it gives up.
+/// The number of times that a thread looks before it gives up.
 const LOOKS: u32 = 100_000_000;
 
 /// A gate that tells when one piece has come, and holds one, which may be the same, until it is to go on.

@@ -56,10 +56,10 @@ fn scan_between(alloc: Global, limit: u64, at: u64) -> Result<Query, AllocError>
     })
 }
 
-/// How many queries there are of five writes.
+/// The number of queries of five writes.
 pub const QUERIES: usize = 7;
 
-/// What is asked of five writes. A snapshot keeps the second one, and the third isn't protected.
+/// Queries of five writes. A snapshot keeps the second one, and the third isn't protected.
 pub fn queries(alloc: Global) -> Result<Vec<Query>, AllocError> {
     let mut queries = Vec::new(alloc);
     for (key, at) in [(b"k", 5), (b"k", 2), (b"l", 5), (b"k", 3)] {

@@ -21,7 +21,7 @@ use uc_share::{Name, Opening, Pin, Reader, Stretch, Turn, Version};
 /// The operator: texts joined by a comma.
 type Commas = Append<0x2C>;
 
-/// What is tried with a store and two compactors.
+/// A trial with a store and two compactors.
 #[derive(Clone, Copy)]
 enum Tried {
     /// Both install at once.
@@ -48,7 +48,7 @@ fn gate_of(tried: Tried) -> (Holding, usize, usize) {
     }
 }
 
-/// How many events the reader has seen that has seen most.
+/// The number of events that the reader has seen that has seen most.
 fn most_seen<N: Name>(readers: &[Reader<Commas, N>]) -> Option<u64> {
     let mut most = None;
     for reader in readers {
@@ -111,7 +111,7 @@ where
         Some(has_both(worker.pin()?.version()))
     }
 
-    /// How many installs a compactor makes until nothing is picked.
+    /// The number of installs that a compactor makes until nothing is picked.
     fn installs_of(&self, mut worker: Worker<Commas, N>) -> Option<u64> {
         for installs in 0..16 {
             let (back, came) = self.take_turn(worker);

@@ -1,4 +1,4 @@
-//! What may be asked of a table: slots that are distinct and below its number of slots.
+//! Requests that a table accepts: slots that are distinct and below its number of slots.
 ghost use Rattle.std.specs.Prelude.{◌<◌, IsTrue, All};
 ghost use Rattle.uc_claims.specs.Holding.{AreDistinct};
 

@@ -18,10 +18,10 @@ use uc_batch::Writes;
 use uc_oper::{Append, Counter, Maximum, Operator, Tail};
 use uc_share::{Name, Opening, Reader, Version};
 
-/// How many readers a store has, of which four are for batches.
+/// The number of readers of a store, of which four are for batches.
 const READERS: usize = 13;
 
-/// How many queries are asked in the end.
+/// The number of queries that are asked in the end.
 const LAST_QUERIES: u64 = 40;
 
 /// Stores of a few runs, which are fed more than they open with.
@@ -89,7 +89,7 @@ const STILL: Plan = Plan {
     ..SOME
 };
 
-/// What one is to do, and its seed.
+/// The work of one actor, and its seed.
 type Job<O, N> = (Actor<O, N>, u64);
 
 /// Appends jobs for compactors. Every second one draws, if that is the plan.
@@ -127,7 +127,7 @@ fn push_readers<O: Operator, N: Name>(
     Some(())
 }
 
-/// What all have done together, if each has done what it should.
+/// The counts of all together, if each has done what it should.
 fn all_done(done: &[Option<Done>]) -> Option<Done> {
     let mut all = Done::events(0);
     for one in done {
@@ -174,7 +174,7 @@ where
     }
 }
 
-/// What is done to a store that gets its name here, where all is answered as it should be, and nothing is lost.
+/// The counts of a store that gets its name here, where all is answered as it should be, and nothing is lost.
 fn soak_named<'x, O, N, W, R>(
     rt: &'x R,
     handle: W,
@@ -219,7 +219,7 @@ where
     soak.shows_all(&mut late, first_id, done)?.then_some(done)
 }
 
-/// What is done to a drawn store.
+/// The counts of a drawn store.
 fn soak<O: Operator + Send + Sync, R: Threads + Wait + Sync>(
     rt: &R,
     alloc: Global,

@@ -28,7 +28,7 @@ pub(crate) fn three() -> [OpRef<'static>; 3] {
     ]
 }
 
-/// Whether a run printed the three joined, ended well and made so many installs.
+/// Whether a run printed the three joined, ended well and made this many installs.
 fn joins_three(run: Option<Run>, installs: usize) -> bool {
     match run {
         None => false,

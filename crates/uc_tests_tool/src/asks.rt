@@ -8,7 +8,7 @@ use uc_tool_ask::{Beside, ask, is_plan};
 use uc_tool_io::Done;
 use uc_version_state::Options;
 
-/// What a run printed, how it ended, and what was done to the store meanwhile.
+/// A run: the bytes that it printed, its end, and what was done to the store meanwhile.
 #[derive(Drop)]
 pub(crate) struct Run {
     pub(crate) text: Vec<u8>,
@@ -16,7 +16,7 @@ pub(crate) struct Run {
     pub(crate) beside: Beside,
 }
 
-/// How many workers answer, how many queries a piece has, and how many compactors there are.
+/// The number of workers, of queries in a piece, and of compactors.
 pub(crate) type Plan = (usize, usize, usize);
 
 /// Options under which each write is a run and two runs are compacted.
@@ -29,7 +29,7 @@ pub(crate) fn small_runs() -> Options {
     }
 }
 
-/// What is printed of an input, where the plan is a plan.
+/// The run of an input, where the plan is a plan.
 pub(crate) fn run_of<O: Operator + Send + Sync>(
     rt: &(impl Threads + Wait + Sync),
     alloc: Global,
@@ -40,7 +40,7 @@ pub(crate) fn run_of<O: Operator + Send + Sync>(
     run_later::<O>(rt, alloc, options, input, plan, 0)
 }
 
-/// What is printed of an input whose last writes come later, where the plan is a plan.
+/// The run of an input whose last writes come later, where the plan is a plan.
 pub(crate) fn run_later<O: Operator + Send + Sync>(
     rt: &(impl Threads + Wait + Sync),
     alloc: Global,

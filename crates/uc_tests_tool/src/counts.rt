@@ -2,7 +2,7 @@
 use std::sync::atomic::{AtomicBool, AtomicU64, Ordering};
 use std::thread::yield_now;
 
-/// How often a thread looks before it gives up.
+/// The number of times that a thread looks before it gives up.
 pub(crate) const TURNS: u32 = 100_000_000;
 
 /// A number that threads raise, and wait for.
@@ -14,7 +14,7 @@ pub(crate) struct Count {
 }
 
 impl Count {
-    /// None yet. It is looked at so many times at the most.
+    /// None yet. It is looked at this many times at the most.
     pub(crate) fn new(turns: u32) -> Count {
         Count {
             number: AtomicU64::new(0),

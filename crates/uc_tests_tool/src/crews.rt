@@ -19,10 +19,10 @@ use uc_version_state::Options;
 /// Merges join texts by commas.
 type Texts = Append<b','>;
 
-/// How many changes the log has.
+/// The number of changes in the log.
 const CHANGES: usize = 20;
 
-/// How many compactions of two runs leave one run of all changes.
+/// The number of compactions of two runs that leave one run of all changes.
 const ALL_PAIRS: u64 = 19;
 
 /// A change of the log.
@@ -43,10 +43,10 @@ fn changes_log(alloc: Global) -> Result<Vec<u8>, Fail> {
     log_of(alloc, &ops)
 }
 
-/// What is asked of them.
+/// The queries.
 const HEAD: &[u8] = b"get 6b last\nget 6c last\nget 6d last\nlog\n";
 
-/// What is answered.
+/// The answers.
 const ANSWERED: &[u8] = b"value 61\nvalue 622c622c622c622c622c622c62\nnone\n";
 
 /// The queries in front of the log.
@@ -80,7 +80,7 @@ fn compacted() -> &'static [((u32, u32), u64)] {
     &COMPACTED
 }
 
-/// How many lines of a report tell a compaction.
+/// The number of lines of a report that tell a compaction.
 fn compactions_in(text: &[u8]) -> u64 {
     let mut count = 0_u64;
     for line in text.split(|byte| *byte == b'\n') {
@@ -91,7 +91,7 @@ fn compactions_in(text: &[u8]) -> u64 {
     count
 }
 
-/// How many compactions a report on a log tells.
+/// The number of compactions that a report on a log tells.
 fn compactions_of(rt: &(impl Threads + Sync), alloc: Global, log: &[u8], options: &Options) -> u64 {
     let mut reader = log;
     let mut text = Vec::new(alloc);
@@ -99,7 +99,7 @@ fn compactions_of(rt: &(impl Threads + Sync), alloc: Global, log: &[u8], options
     compactions_in(&text)
 }
 
-/// Whether a run answered what was asked, and installed so many compactions.
+/// Whether a run answered what was asked, and installed this many compactions.
 fn has_installed(run: Option<Run>, installs: u64) -> bool {
     match run {
         None => false,
@@ -156,7 +156,7 @@ fn crews_install_all_that_is_due(rt: HostRuntime) -> Result<(), Fail> {
     Ok(())
 }
 
-/// How one worker ends beside so many compactors that pass a gate, and how many compactions they install, where that is a plan.
+/// The end of one worker beside a number of compactors that pass a gate, and the number of compactions they install, where that is a plan.
 fn run_through<G: TurnGate, W: Write>(
     rt: &(impl Threads + Wait + Sync),
     alloc: Global,
@@ -308,7 +308,7 @@ impl Write for Page<'_> {
     }
 }
 
-/// Whether answers are printed while so many compactors hold runs that are due, all of which are installed in the end.
+/// Whether answers are printed while this many compactors hold runs that are due, all of which are installed in the end.
 fn meets(
     rt: &(impl Threads + Wait + Sync),
     alloc: Global,

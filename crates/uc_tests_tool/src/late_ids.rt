@@ -10,7 +10,7 @@ use uc_tool::play;
 use uc_tool_io::Done;
 use uc_version_state::{GREATEST_FIRST_ID, Options};
 
-/// What is asked after 255 writes of a run each, and what all of it prints: 2^64 - 1 is never given.
+/// Queries after 255 writes of a run each, and all that is printed for them: 2^64 - 1 is never given.
 static LAST_IDS: [(&str, &str); 2] = [
     (
         "open\nput 6b 62\nfeed\nfeed\ncompact 0 2\n",

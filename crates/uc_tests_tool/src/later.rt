@@ -1,4 +1,4 @@
-//! How many of the log's last writes `ask` feeds while it answers.
+//! The number of the log's last writes that `ask` feeds while it answers.
 use crate::answers::{Texts, log_of_refs, three};
 use crate::asks::{Run, run_later, small_runs};
 use crate::logs::input_of;

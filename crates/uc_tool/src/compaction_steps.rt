@@ -14,7 +14,7 @@ use uc_tool_io::{RunError, write_bytes};
 use uc_tool_opening::{compacted_line, install_refusal_line};
 use uc_version::{CompactError, InstallError, Owned, picks_can_be_claimed};
 
-/// What is done next.
+/// The next step.
 #[derive(Drop)]
 enum Step {
     /// Nothing is picked.

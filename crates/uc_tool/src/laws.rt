@@ -1,4 +1,4 @@
-//! What holds of what is printed.
+//! Laws about what is printed.
 ghost use Rattle.std.specs.Prelude.{◌≡◌, ℕ, ◌≤◌, ◌+◌, List, Ok, None, length};
 ghost use Rattle.uc_batch.specs.Batch.{numbered};
 ghost use Rattle.uc_batch.specs.Rising.{IsRising};
@@ -43,7 +43,7 @@ fn replies_are_answered_from_plain_writes<O: Operator>()
     asks_are_answered_from_plain_writes::<O>();
 }
 
-/// What is printed for the bytes of a script that is read and whose store opens: that it opened, and a reply to each of its
+/// The text printed for the bytes of a script that is read and whose store opens: that it opened, and a reply to each of its
 /// calls. Whatever the script claims, compacts and installs in between, each of its `get` and `scan` lines has the reply that
 /// its plain writes so far give, those of the opening and those that were fed: one thread folding them with the operator. It
 /// has it at the sequences that are kept then. No feed is refused because its writes come too late.

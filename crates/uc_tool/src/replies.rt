@@ -26,7 +26,7 @@ use uc_tool_opening::{push_answer_lines, query_of, reply_lines, seq_at, writes_b
 use uc_version::Owned;
 use uc_version_state::Stretch;
 
-/// What a script's call asks of the store.
+/// The calls of the store that a script's call makes.
 #[derive(Drop)]
 enum Asked {
     /// An answer, which changes nothing.
@@ -35,8 +35,8 @@ enum Asked {
     Work(uc_query::Call),
 }
 
-/// What a script's call asks of the store, if `last` is the last sequence at opening and the next write is numbered `next`.
-/// What is fed goes through a log.
+/// The calls of the store that a script's call makes, if `last` is the last sequence at opening and the next write is numbered `next`.
+/// Writes that are fed go through a log.
 fn asked_of(alloc: Global, last: u64, next: u64, call: Call) -> Result<Asked, AllocError>
     requires { FitsLog next (fed_ops call) }
     ensures { IfOk result (λ asked. store_call asked ≡ plays.call_of last next call) }
@@ -64,7 +64,7 @@ fn asked_of(alloc: Global, last: u64, next: u64, call: Call) -> Result<Asked, Al
     }
 }
 
-/// How many writes a call feeds.
+/// The number of writes that a call feeds.
 fn fed_count(call: &Call) -> u64
     ensures { result ≡ length (fed_ops call.now) }
 {

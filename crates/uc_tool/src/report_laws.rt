@@ -1,4 +1,4 @@
-//! What holds of what is printed.
+//! Laws about what is printed.
 ghost use Rattle.std.specs.Prelude.{◌≡◌, None, true};
 ghost use Rattle.uc_version.specs.Owners.{Owner, IsOwner};
 ghost use Rattle.uc_query.specs.Turns.{has_id};

@@ -124,7 +124,7 @@ fn run<O: Operator + Sync, W: Write>(
 /// Opens a store from a write-ahead log under an operator, reports what it holds, compacts what universal compaction picks
 /// as long as it picks anything, printing a line for each compaction, and reports again.
 ///
-/// What is written is the text of `report_of`, a function of the bytes that were read, the operator's meaning and the
+/// It writes the text of `report_of`, a function of the bytes that were read, the operator's meaning and the
 /// options. A log with a fault is refused with the line that says so, and an opening with the line that says why. If an
 /// allocation fails it is some whole first replies of that text, and then `out of memory`; if the reader or the writer
 /// fails, or the input is longer than 64 MiB, it is a front of a text that says so or of that one. An opening that is refused

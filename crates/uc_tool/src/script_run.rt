@@ -150,7 +150,7 @@ fn run<O: Operator + Sync, W: Write>(
 /// Runs a script: reads it whole, checks all of it, writes its changes as a log, opens a store from that log, and
 /// carries out its calls in order, under an operator, printing each reply as soon as it is there.
 ///
-/// What is written is the text of `play_of`, a function of the bytes that were read, the operator's
+/// It writes the text of `play_of`, a function of the bytes that were read, the operator's
 /// meaning and the options. If an allocation fails it is some whole first replies of that text, and then
 /// `out of memory`; if the reader or the writer fails, or the input is longer than 64 MiB, it is a
 /// front of a text that says so or of that one. A script that is refused for a fault of a line or at its opening has a reason.

@@ -22,14 +22,14 @@ use uc_share::{Name, Reader};
 use uc_tool_io::{Done, RunError, write_bytes};
 use uc_tool_opening::{answers_lines, query_of};
 
-/// How many queries are read and answered at once at the most, so that memory doesn't grow with their number.
+/// The most queries that are read and answered at once, so that memory doesn't grow with their number.
 const BATCH: usize = 4096;
 
-/// How many bytes the answers to a batch may have before the next one has fewer queries, so that memory doesn't grow with the
+/// The most bytes of a batch's answers before the next one has fewer queries, so that memory doesn't grow with the
 /// length of answers either.
 const LINES: usize = 1 << 20;
 
-/// How many queries the next batch has, by how many the last one had, and how many bytes its answers.
+/// The number of queries in the next batch, by the number in the last one, and the bytes of its answers.
 fn next_size(size: usize, lines: usize) -> usize
     requires { 0 < size }
     ensures { 0 < result }
@@ -41,7 +41,7 @@ fn next_size(size: usize, lines: usize) -> usize
     }
 }
 
-/// The next queries of a head, so many of them where so many are left.
+/// The next queries of a head, this many of them where this many are left.
 fn next_batch(
     alloc: Global,
     ahead: &mut QueryReader<'_>,
@@ -54,7 +54,7 @@ fn next_batch(
     ahead.next_queries(alloc, size)
 }
 
-/// What some lines of a head ask.
+/// The queries of some lines of a head.
 fn queries_of(
     alloc: Global,
     last: u64,

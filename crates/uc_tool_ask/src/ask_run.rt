@@ -39,15 +39,15 @@ use uc_tool_opening::{
 };
 use uc_version_open::{InThreads, OpenError, Opener, Recovered, no_refusal_is_leave_to_open};
 
-/// How a run ended, and what was done to the store meanwhile.
+/// The end of a run, and what was done to the store meanwhile.
 type Asked = (Result<Done, RunError>, Beside);
 
-/// What is told of a run beside how it ended.
+/// The report of a run beside its end.
 #[derive(Drop)]
 struct Told {
     /// Why it was refused.
     reason: Option<Reason>,
-    /// What was done to the store meanwhile.
+    /// The counts of what was done to the store meanwhile.
     beside: Beside,
 }
 
@@ -70,7 +70,7 @@ impl Told {
     }
 }
 
-/// How a run ended, and what is told of it.
+/// The end of a run, and its report.
 type Worked = (Result<Done, RunError>, Told);
 
 /// Prints the answers to the queries of a head while a crew compacts and a feeder feeds, which have ended when it returns. They
@@ -158,7 +158,7 @@ where
     )
 }
 
-/// How many feeders these writes have: none if there are none.
+/// The number of feeders for these writes: none if there are none.
 fn feeders_of(behind: &[LogWrite]) -> usize
     ensures { result ≤ 1 }
 {
@@ -327,7 +327,7 @@ pub fn ask_through<O: Operator + Send + Sync, R: Read, W: Write, G: TurnGate>(
 /// fewer. One thread more feeds them to it meanwhile, one by one, until one is refused. All threads have ended when it returns,
 /// which says what they did to the store.
 ///
-/// What is written is the text of `ask_of`, a function of the bytes that were read, the operator's meaning, the options and
+/// It writes the text of `ask_of`, a function of the bytes that were read, the operator's meaning, the options and
 /// `later`: not of workers, pieces or compactors, nor of how many writes were fed and when. It is the text of the log without
 /// its last `later` writes, but a fault anywhere in the log is told. A fault of the head is refused with the line that it stands
 /// in, then a log with a fault, and then an opening. If an allocation fails it is some whole first replies of that text, and then

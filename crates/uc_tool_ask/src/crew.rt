@@ -10,7 +10,7 @@ use std::thread::{Threads, map_vec};
 use uc_oper::Operator;
 use uc_share::{Compactor, Name, Reader, Seat, Store, Turn, TurnGate};
 
-/// How many turns a compactor has at the most.
+/// The most turns of a compactor.
 const TURNS: usize = 256;
 
 /// A crew for the seats of a store, each with one of the readers. As many readers are left as there were more.
@@ -34,7 +34,7 @@ pub(crate) fn crew_of<O: Operator, N: Name, W: Wait + Drop>(
     Ok(crew)
 }
 
-/// How many compactions a compactor installs: it takes turns until nothing is picked, a compaction isn't installed, or its turns
+/// The number of compactions that a compactor installs: it takes turns until nothing is picked, a compaction isn't installed, or its turns
 /// are over.
 fn installs_of<O: Operator + Sync, N: Name, W: Wait + Drop, G: TurnGate>(
     rt: &(impl Threads + Wait + Sync),
@@ -54,8 +54,8 @@ fn installs_of<O: Operator + Sync, N: Name, W: Wait + Drop, G: TurnGate>(
     installs
 }
 
-/// How many compactions a crew of compactors installs, each in a thread of its own if one can be made, and else after another. All
-/// have ended then, and the crew is empty. None is counted if the list of numbers has no memory.
+/// The number of compactions that a crew of compactors installs, each in a thread of its own if one can be made, and else after another.
+/// All have ended then, and the crew is empty. None is counted if the list of numbers has no memory.
 pub(crate) fn all_installs<O, N, W, G, R>(
     rt: &R,
     alloc: Global,

@@ -11,14 +11,14 @@ use uc_batch::{Write, Writes};
 use uc_oper::Operator;
 use uc_share::{Name, Reader, Store};
 
-/// What a feeder has: a reader of the store, and the writes that come to it, the oldest first.
+/// A feeder: a reader of the store, and the writes that come to it, the oldest first.
 #[derive(Drop)]
 pub(crate) struct Feeder<O: Operator, N: Name> {
     pub(crate) reader: Reader<O, N>,
     pub(crate) writes: Vec<Write>,
 }
 
-/// A feeder of these writes, if a reader is left beside those of the workers. So many are left for them.
+/// A feeder of these writes, if a reader is left beside those of the workers. The number of these that are left.
 pub(crate) fn feeder_of<O: Operator, N: Name>(
     workers: usize,
     readers: &mut Vec<Reader<O, N>>,

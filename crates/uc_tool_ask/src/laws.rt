@@ -1,4 +1,4 @@
-//! What holds of what is printed.
+//! Laws about what is printed.
 ghost use Rattle.std.specs.Prelude.{◌≡◌, ℕ, List, Ok, None, drop, map};
 ghost use Rattle.uc_batch.specs.Log.{log_writes};
 ghost use Rattle.uc_script.specs.Head.{Head, head_of};

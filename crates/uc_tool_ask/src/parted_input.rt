@@ -9,16 +9,16 @@ use std::alloc::{AllocError, Global};
 use uc_batch::Pieces;
 use uc_script::{Head, ScriptError, read_head, what_follows_a_head_changes_nothing};
 
-/// How many bytes a head is looked for in first.
+/// The number of bytes in which a head is looked for first.
 const FIRST_BYTES: usize = 1 << 20;
 
-/// How many bytes are moved at a time at the most: as many as a piece has, so one comes out as it is.
+/// The most bytes that are moved at a time: as many as a piece has, so one comes out as it is.
 const MOVED_BYTES: usize = 1 << 20;
 
 /// A head, and the log after it.
 #[derive(Drop)]
 pub(crate) struct Parted {
-    /// What the head keeps, and how many bytes it has.
+    /// The head, and its size in bytes.
     pub(crate) head: Head,
     /// The bytes of the head.
     pub(crate) lines: Vec<u8>,

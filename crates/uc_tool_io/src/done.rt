@@ -1,6 +1,6 @@
 //! [`Done`]: how a run of the program ended.
 
-/// How a run of the program ended.
+/// The end of a run of the program.
 #[derive(Clone, Copy, Debug, PartialEq, Eq)]
 pub enum Done {
     /// All was asked and answered.

@@ -19,7 +19,7 @@ use std::io;
 use std::io::Read;
 use uc_batch::{Advance, BatchWrites, Ended, PieceReader, Pieces};
 
-/// How many bytes of lines are put together before they are written out.
+/// The number of bytes of lines that are put together before they are written out.
 const FULL: usize = 64 << 10;
 
 /// Writes out the lines that were put together, and empties the buffer.
@@ -70,7 +70,7 @@ fn print_log<W: io::Write>(alloc: Global, log: Pieces, writer: &mut W) -> Result
     }
 }
 
-/// How a run ends that read its log so far.
+/// The end of a run that read its log up to here.
 fn done_of(ended: Ended) -> Done
     ensures { result ≡ dumps.done_of ended }
 {
@@ -94,7 +94,7 @@ fn run<W: io::Write>(alloc: Global, input: Pieces, writer: &mut W) -> Result<Don
 /// Prints what stands in a write-ahead log: a line for each write before its first fault, and one that
 /// says whether the log ended there, was torn, or is faulty.
 ///
-/// What is written is the text of `dump_of`, a function of the bytes that were read. If an allocation fails it is some
+/// It writes the text of `dump_of`, a function of the bytes that were read. If an allocation fails it is some
 /// whole first lines of that text, and then `out of memory`; if the reader or the writer fails, or the input is longer
 /// than 64 MiB, it is a front of a text that says so or of that one.
 pub fn dump<R: Read, W: io::Write>(alloc: Global, reader: &mut R, writer: &mut W) -> Done

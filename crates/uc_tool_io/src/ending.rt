@@ -1,4 +1,4 @@
-//! How a run ends, once all is printed or where it stops.
+//! The end of a run, once all is printed or where it stops.
 
 ghost use Rattle.std.specs.Prelude.{◌≡◌};
 ghost use Rattle.uc_tool_io.specs.Writing.{AppendsFront};

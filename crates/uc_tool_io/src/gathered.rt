@@ -4,7 +4,7 @@ ghost use Rattle.std.specs.Prelude.{◌≡◌, ◌++◌, [], ℕ, List, length, 
 use std::alloc::{AllocError, Global};
 use uc_batch::Pieces;
 
-/// What the bytes of an input are gathered in, as they are read: a list in one piece for a program that looks at all of it, or
+/// A buffer in which the bytes of an input are gathered as they are read: a list in one piece for a program that looks at all of it, or
 /// [`Pieces`] for one that goes once over it.
 pub trait Gathered {
     /// The bytes that it has.
@@ -14,7 +14,7 @@ pub trait Gathered {
     fn empty(alloc: Global) -> Self
         ensures { bytes result ≡ [] };
 
-    /// How many there are.
+    /// The number of bytes.
     fn size(&self) -> usize
         ensures { result ≡ length (bytes self.now) };
 

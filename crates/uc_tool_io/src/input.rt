@@ -9,13 +9,13 @@ use crate::gathered::Gathered;
 use std::alloc::{AllocError, Global};
 use std::io::Read;
 
-/// How many bytes of input a program reads at the most: 64 MiB.
+/// The most bytes of input that a program reads: 64 MiB.
 pub const INPUT_LIMIT: usize = 67_108_864;
 
-/// How often a reader is read at the most.
+/// The most times that a reader is read.
 const READS: u64 = 1 << 27;
 
-/// How many bytes are asked for at a time.
+/// The number of bytes that are asked for at a time.
 const CHUNK: usize = 65_536;
 
 /// Why there is no input.
@@ -37,7 +37,7 @@ impl From<AllocError> for InputError {
     }
 }
 
-/// A buffer of so many bytes.
+/// A buffer of this many bytes.
 fn make_chunk(alloc: Global, size: usize) -> Result<Vec<u8>, AllocError>
     ensures { IfOk result (λ chunk. vec_len chunk ≡ size) }
 {

@@ -1,11 +1,11 @@
-//! What the subcommands of the program share below the store: words, input, output, the lines of logs, and how a run ends.
+//! Code that the subcommands of the program share below the store: words, input, output, the lines of logs, and how a run ends.
 //!
 //! A subcommand reads all of its input, up to a limit, prints replies one after the other, and ends in a [`Done`], whose
 //! number is the exit status. What it may have written by then is `HasWritten`, a relation between its `Output`, which is a
 //! function of the bytes that it read, and what the writer holds. Read `specs/Output.antt` first, then `input.rt` and
 //! `output.rt`, which are the two ends, and `ending.rt`. [`run_over_input`] is a whole run, from the first byte read to the
 //! flush, over any work: each subcommand is this function over its own work. Read `specs/Works.antt`, then `whole_run.rt`.
-//! What a work takes is [`Gathered`]: all bytes in one piece, or pieces that are let go of as they are read.
+//! A work takes its input as [`Gathered`]: all bytes in one piece, or pieces that are let go of as they are read.
 //! The lemmas in `proofs/` are for the loops of the subcommands: `Printing.antt` if each turn prints one reply, `Parts.antt` if
 //! it prints several, and `Written.antt` at the end of a run.
 //!

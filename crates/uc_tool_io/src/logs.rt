@@ -12,7 +12,7 @@ use uc_batch::{BatchError, Ended};
 use uc_bytes::{OpKind, OpRef, WriteRef};
 use uc_logrec::LogFault;
 
-/// What a kind of change is called, with a space before and after it.
+/// The name of a kind of change, with a space before and after it.
 fn op_words(kind: OpKind) -> &'static [u8]
     ensures { result.now ≡ lines.op_words kind }
 {
@@ -48,7 +48,7 @@ pub fn push_write(out: &mut Vec<u8>, write: &WriteRef<'_>) -> Result<(), AllocEr
     Ok(())
 }
 
-/// What a fault of a log is called.
+/// The name of a fault of a log.
 fn log_words(fault: LogFault) -> &'static [u8]
     ensures { result.now ≡ lines.log_words fault }
 {

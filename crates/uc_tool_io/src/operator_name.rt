@@ -4,12 +4,12 @@ ghost use Rattle.std.specs.Prelude.{◌≡◌, map};
 ghost use Rattle.uc_tool_io.specs.OperatorName as names;
 ghost use Rattle.uc_tool_io.specs.OperatorName.{operators, word_of};
 
-/// How many operators the command line can name.
+/// The number of operators that the command line can name.
 pub const OPERATORS: usize = 4;
 
 /// A merge operator that the command line can name.
 ///
-/// What the parser lets through, and what the program runs, both come from here: a name that isn't in
+/// The names that the parser lets through, and those that the program runs, both come from here: a name that isn't in
 /// `ALL` is refused, and a match over the names is one over all of them.
 #[derive(Clone, Copy, Debug, PartialEq, Eq)]
 pub enum OperatorName {

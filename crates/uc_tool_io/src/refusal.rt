@@ -28,7 +28,7 @@ impl From<AllocError> for Refusal {
 }
 
 impl Refusal {
-    /// How the program ends for it.
+    /// The end of the program for it.
     pub fn done(self) -> Done
         ensures { result ≡ done_of self }
     {

@@ -1,4 +1,4 @@
-//! What a line that reads asks of a store, once that is open.
+//! The query of a line that reads, once the store is open.
 
 ghost use Rattle.std.specs.Prelude.{◌≡◌};
 ghost use Rattle.uc_tool_opening.specs.Asked as lines;
@@ -16,7 +16,7 @@ pub fn seq_at(last: u64, at: Seq) -> u64
     }
 }
 
-/// What a line of a script or of a head asks, where `last` is the last sequence at opening.
+/// The query of a line of a script or of a head, where `last` is the last sequence at opening.
 pub fn query_of(last: u64, asked: uc_script::Query) -> Query
     ensures { result ≡ lines.query_of last asked }
 {

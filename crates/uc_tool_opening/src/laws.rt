@@ -1,4 +1,4 @@
-//! What is printed is read again.
+//! Printed replies are read again.
 ghost use Rattle.std.specs.Prelude.{◌≡◌, ◌<◌, List, ℕ, Some, All};
 ghost use Rattle.uc_script.specs.Texts.{text_of};
 ghost use Rattle.uc_tool_io.specs.Digits.{hex_text};

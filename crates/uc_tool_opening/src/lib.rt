@@ -1,4 +1,4 @@
-//! What the subcommands that open a store share: opening one from a log, saying why none is opened, and the lines of replies.
+//! Code that the subcommands that open a store share: opening one from a log, saying why none is opened, and the lines of replies.
 //!
 //! `open_ops` opens a store from a script's writes, by way of a log of them, and `writes_by_log` makes those that are fed later;
 //! `print_fault`, `print_refused_opening` and `print_bad_log` end a run that opened none with the one line that says why.

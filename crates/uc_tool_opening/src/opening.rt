@@ -66,7 +66,7 @@ fn opener_of(
     ensures opener { IfOk result (λ opener. opener ≡ progress_of options (numbered 1 ops)) }
     ensures rising { IfOk result (λ _. IsRising 0 (numbered 1 ops)) }
 {
-    // What is written is read again: the laws of the layers below, which do nothing when they run.
+    // Printed replies are read again: the laws of the layers below, which do nothing when they run.
     written_log_is_read();
     written_batch_is_read();
     let log = in_pieces(alloc, log_of(alloc, 1, ops)?)?;

@@ -24,9 +24,9 @@ pub enum OpeningFault {
     /// Compactions of more runs at the least than at the most.
     #[error("--least is {least}, above --greatest, which is {greatest}")]
     Widths {
-        /// How many runs a compaction takes at the least.
+        /// The fewest runs of a compaction.
         least: u32,
-        /// How many it takes at the most.
+        /// The most runs of a compaction.
         greatest: u32,
     },
     /// A first run whose number is out of its range.
@@ -35,7 +35,7 @@ pub enum OpeningFault {
     /// This sequence is to be kept, and is above the last one.
     #[error("sequence {0} is to be kept, and is above the last one")]
     Ahead(u64),
-    /// The writes fill more memtables of so many bytes than a store has slots.
+    /// The writes fill more memtables of this many bytes than a store has slots.
     #[error("the writes fill more than {most} memtables of {0} bytes: --memtable has to be larger", most = MOST_SLOTS)]
     TooManyRuns(u64),
 }
@@ -63,7 +63,7 @@ pub fn option_fault(options: &Options) -> Option<OpeningFault>
     }
 }
 
-/// What stands against an opening that was refused so, under these options. It is `None` for want of memory, and for the
+/// The fault of an opening that was refused so, under these options. It is `None` for want of memory, and for the
 /// number of threads, which a store that isn't shared doesn't have.
 pub fn fault_of_opening(error: OpenError, options: &Options) -> Option<OpeningFault>
     ensures { result ≡ faults.fault_of_opening error options.now }

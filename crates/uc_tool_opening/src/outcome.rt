@@ -5,10 +5,10 @@ ghost use Rattle.std.specs.Prelude.{◌≡◌, None};
 use crate::reason::Reason;
 use uc_tool_io::Done;
 
-/// How a run ended, and, if it was refused, what a reader is told of it.
+/// The end of a run, and, if it was refused, the reason that a reader is given.
 #[derive(Debug, Drop, PartialEq, Eq)]
 pub struct Outcome {
-    /// How the run ended.
+    /// The end of the run.
     pub done: Done,
     /// Why the run was refused, if more can be said of that than the line that it printed. It is that of the line that was at
     /// fault, or of the opening that was refused. An opening's needs no allocation. A line's is `None` too if an allocation

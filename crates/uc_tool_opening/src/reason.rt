@@ -14,10 +14,10 @@ use uc_version_state::Options;
 /// Why a run is refused, for a reader. It prints as one line, beside the fixed line of the run.
 #[derive(Debug, Drop, PartialEq, Eq, Error)]
 pub enum Reason {
-    /// What is wrong with the first line at fault.
+    /// The fault of the first line at fault.
     #[error("{0}")]
     Line(Explanation),
-    /// What stands against the opening.
+    /// The fault of the opening.
     #[error("{0}")]
     Opening(OpeningFault),
 }

@@ -21,7 +21,7 @@ use uc_run::Run;
 use uc_version_state::Stretch;
 
 impl<O: Operator> Owned<O> {
-    /// What a claim's runs become, if an id is left for it; otherwise nothing is compacted.
+    /// The run that a claim's runs become, if an id is left for it; otherwise nothing is compacted.
     fn compaction<M: Merger<O>>(
         &self,
         merger: &M,

@@ -10,9 +10,9 @@ pub const MOST_CLAIMS: usize = MOST_SLOTS / 2;
 /// The stretch of a claim that is held: its present place, and the ids of its newest and its oldest run.
 #[derive(Clone, Copy, Debug, PartialEq, Eq)]
 pub struct HeldStretch {
-    /// How many newer runs come before it.
+    /// The number of newer runs before it.
     pub first: usize,
-    /// How many runs it has.
+    /// The number of its runs.
     pub count: usize,
     /// The id of its newest run.
     pub newest: u64,

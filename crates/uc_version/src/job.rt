@@ -17,7 +17,7 @@ use uc_compact::{Compacted, Merger};
 use uc_oper::Operator;
 use uc_version_compact::Asked;
 
-/// How far a job is, with what was made of its runs.
+/// The stage of a job, with what was made of its runs.
 #[derive(Drop)]
 enum Progress<O: Operator> {
     Taken,
@@ -62,7 +62,7 @@ impl<O: Operator> Drop for Job<O> {
 }
 
 impl<O: Operator> Job<O> {
-    /// How far it is.
+    /// The stage that it has reached.
     pub fn stage(&self) -> JobStage
         ensures { result ≡ self.now.stage }
     {
@@ -73,7 +73,7 @@ impl<O: Operator> Job<O> {
         }
     }
 
-    /// How many bytes the runs have together that it compacts, with 8 for each sequence, at most 2^64 - 1. It looks at each run
+    /// The size of the runs that it compacts together in bytes, with 8 for each sequence, at most 2^64 - 1. It looks at each run
     /// once, and at no point.
     pub fn input_size(&self) -> u64
         ensures { result ≡ jobs.input_size self.now }

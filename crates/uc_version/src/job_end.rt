@@ -2,7 +2,7 @@
 
 use uc_version_compact::InstallError;
 
-/// What came of a job that was ended.
+/// The outcome of a job that was ended.
 #[derive(Clone, Copy, Debug, PartialEq, Eq)]
 pub enum JobEnd {
     /// Its run was installed, with this id.

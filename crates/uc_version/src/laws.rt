@@ -1,4 +1,4 @@
-//! What holds of owners.
+//! Laws about owners.
 ghost use Rattle.std.specs.Prelude.{◌≡◌, ◌≢◌, ℕ, List, Some, None, true, fold};
 ghost use Rattle.uc_bytes.specs.declared.write.Write.{Write};
 ghost use Rattle.uc_version_state.specs.declared.stretch.Stretch.{Stretch};
@@ -109,7 +109,7 @@ pub fn claims_can_be_compacted()
         (error ≡ IdsSpent) × ¬ IdLeft o.version }
 {}
 
-/// What a claim's runs were compacted to may be installed at any later time, while the claim is held and has its runs, if
+/// The run that a claim's runs were compacted to may be installed at any later time, while the claim is held and has its runs, if
 /// an id is left. Feeds, keeps, releases and other installs may come between. It is refused for nothing else: it knows
 /// each keep that it has to know, and if it was made for the oldest run, no run comes after its own.
 pub fn own_compactions_are_refused_for_ids_alone<O: Operator>()

@@ -82,14 +82,14 @@ impl<O: Operator> Owned<O> {
         })
     }
 
-    /// What holds of every owner. Proof step: does nothing when it runs.
+    /// The invariant of every owner. Proof step: does nothing when it runs.
     pub fn recall(&self)
         ensures { IsOwner self.now }
     {
         let _ = &self.version;
     }
 
-    /// What the store holds now.
+    /// The version now: runs, snapshots and last sequence.
     pub fn version(&self) -> &Version
         ensures { result.now ≡ self.now.version }
     {
@@ -104,7 +104,7 @@ impl<O: Operator> Owned<O> {
         self.held.has(slot)
     }
 
-    /// Which stretch of unclaimed runs is compacted next (RocksDB wiki, "Universal Compaction"). It doesn't allocate.
+    /// The stretch of unclaimed runs that is compacted next (RocksDB wiki, "Universal Compaction"). It doesn't allocate.
     pub fn pick(&self) -> Option<Stretch>
         ensures { result ≡ picked self.now.options (candidates_of self.now.version (is_busy self.now)) }
     {
@@ -255,7 +255,7 @@ impl<O: Operator> Owned<O> {
     /// run. It copies no run and doesn't allocate. Before any change it goes over the points of the claim's runs, which
     /// takes up to four tenths of the time of their compaction. A refusal hands back both, and the store is as it was.
     ///
-    /// What `compact` made for this claim is refused only if no id is left, whatever was fed, kept, released or installed
+    /// The run that `compact` made for this claim is refused only if no id is left, whatever was fed, kept, released or installed
     /// since.
     pub fn install(
         &mut self,

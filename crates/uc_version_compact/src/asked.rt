@@ -12,7 +12,7 @@ use uc_oper::Operator;
 use uc_run::Run;
 use uc_version_state::{Stretch, Version};
 
-/// What is asked of a compaction: shares of the runs, the keeps, and whether the oldest run of all is among them. It holds no
+/// The request for a compaction: shares of the runs, the keeps, and whether the oldest run of all is among them. It holds no
 /// version, so it can be carried out anywhere.
 #[derive(Drop)]
 pub struct Asked {
@@ -41,7 +41,7 @@ fn has_oldest(version: &Version, stretch: Stretch) -> bool
     stretch.first + stretch.count == runs
 }
 
-/// How many bytes runs have together, at most 2^64 - 1.
+/// The size of runs together in bytes, at most 2^64 - 1.
 fn size_of_runs(runs: &[Arc<Run>]) -> u64
     ensures { result ≡ size_of_runs (map arc_value runs.now) }
 {
@@ -53,7 +53,7 @@ fn size_of_runs(runs: &[Arc<Run>]) -> u64
 }
 
 impl Asked {
-    /// What is asked of the compaction of a stretch of a version: under the version's keeps, and with the oldest run exactly if
+    /// The request for the compaction of a stretch of a version: under the version's keeps, and with the oldest run exactly if
     /// that is the last of the stretch. It copies no run.
     pub fn of(alloc: Global, version: &Version, stretch: Stretch) -> Result<Asked, AllocError>
         requires two { 2 ≤ stretch.count }
@@ -71,7 +71,7 @@ impl Asked {
         })
     }
 
-    /// How many bytes its runs have together, with 8 for each sequence, at most 2^64 - 1.
+    /// The size of its runs together in bytes, with 8 for each sequence, at most 2^64 - 1.
     pub fn input_size(&self) -> u64
         ensures { result ≡ size_of_runs self.now.inputs }
     {

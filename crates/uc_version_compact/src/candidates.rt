@@ -36,7 +36,7 @@ fn candidates(runs: &[Placed], busy: &[bool; MOST_SLOTS]) -> [Candidate; MOST_SL
     all
 }
 
-/// Which neighbouring runs of a version are compacted next; `busy` has the slots of claimed runs (RocksDB wiki,
+/// The neighbouring runs of a version that are compacted next; `busy` has the slots of claimed runs (RocksDB wiki,
 /// "Universal Compaction"). It doesn't allocate.
 pub fn pick(version: &Version, options: &Options, busy: &[bool; MOST_SLOTS]) -> Option<Stretch>
     ensures { result ≡ picked options.now (candidates_of version.now (λ slot. slice_index_or busy.now slot false)) }

@@ -1,4 +1,4 @@
-//! What holds of installs in place of claimed runs.
+//! Laws about installs in place of claimed runs.
 ghost use Rattle.std.specs.Prelude.{◌≡◌, ◌≤◌, ◌<◌, ◌+◌, ◌++◌, ◌∷◌, ◌⊎◌, List, [], fold, length};
 ghost use Rattle.uc_compact.specs.Inputs.{Compaction, Stand};
 ghost use Rattle.uc_version_state.specs.declared.stretch.Stretch.{Stretch};
@@ -27,7 +27,7 @@ pub fn what_fits_may_be_installed<O: Operator>()
         MayInstall O.meaning v (install_for O.meaning claimed made) }
 {}
 
-/// What a stretch of a version was compacted to may be installed at any later time while its runs stand there as
+/// The run that a stretch of a version was compacted to may be installed at any later time while its runs stand there as
 /// neighbours, if an id is left. Feeds, keeps, releases and installs of others may come between. It is refused for nothing
 /// else but runs that stand no more: it knows each keep that it has to know, and if it was made for the oldest run, no run
 /// comes after its own.

@@ -1,4 +1,4 @@
-//! What both stores do to compact stretches of a version's runs: they pick one, merge its runs, judge the result and install it.
+//! Code by which both stores compact stretches of a version's runs: they pick one, merge its runs, judge the result and install it.
 //!
 //! The store of one owner (`uc_version`) and the store that threads share (`uc_share`) stand on this. Nothing here knows who
 //! claims runs.

@@ -1,4 +1,4 @@
-//! What holds of refused openings.
+//! Laws about refused openings.
 ghost use Rattle.std.specs.Prelude.{◌≡◌, ◌↔◌, None};
 ghost use Rattle.uc_batch.specs.Rising.{IsRising};
 ghost use Rattle.uc_version_state.specs.Openings.{Opening, MayOpen};

@@ -68,11 +68,11 @@ impl LentMemtables {
     }
 }
 
-/// What is lent: memtables, and where their runs belong.
+/// A loan: memtables, and where their runs belong.
 #[derive(Drop)]
 pub(crate) struct Loan {
-    /// How many memtables are older.
+    /// The number of older memtables.
     pub(crate) older: usize,
-    /// Those that are lent.
+    /// The lent memtables.
     pub(crate) memtables: LentMemtables,
 }

@@ -1,4 +1,4 @@
-//! What both stores do to take writes: they open a version from a log's writes, and feed it others later.
+//! Code by which both stores take writes: they open a version from a log's writes, and feed it others later.
 //!
 //! The store of one owner (`uc_version`) and the store that threads share (`uc_share`) stand on this.
 //!

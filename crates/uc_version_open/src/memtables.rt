@@ -23,9 +23,9 @@ use uc_run::{Memtable, Run};
 pub(crate) struct Memtables {
     /// The runs of those that were flushed, the oldest first.
     runs: Vec<Run>,
-    /// Those that others flush. All are newer than those that were flushed.
+    /// The memtables that others flush. All are newer than those that were flushed.
     lent: LentMemtables,
-    /// Those that wait to be flushed, the oldest first. All are newer than those that are lent.
+    /// The memtables that wait to be flushed, the oldest first. All are newer than those that are lent.
     full: Vec<FullMemtable>,
     newest: Memtable,
 }
@@ -174,7 +174,7 @@ impl Memtables {
         self.is_full(limit) && self.count_full() >= MOST_SLOTS - 1
     }
 
-    /// How many are full: those that were flushed, that are lent, and that wait.
+    /// The number of full memtables: those that were flushed, that are lent, and that wait.
     fn count_full(&self) -> usize
         ensures { result ≡ length self.now.runs }
     {
@@ -184,7 +184,7 @@ impl Memtables {
         flushed + lent.len() + full.len()
     }
 
-    /// How many wait, besides those that are lent. A contract doesn't see it.
+    /// The number of memtables that wait, besides those that are lent. A contract doesn't see it.
     pub(crate) fn waiting(&self) -> usize {
         self.full.len()
     }

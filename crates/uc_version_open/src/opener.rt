@@ -142,7 +142,7 @@ impl Opener {
         Ok(())
     }
 
-    /// How many full memtables wait, besides those that are lent. A contract doesn't see it.
+    /// The number of full memtables that wait, besides those that are lent. A contract doesn't see it.
     pub(crate) fn waiting(&self) -> usize {
         match &self.memtables {
             Some(memtables) => memtables.waiting(),

@@ -21,7 +21,7 @@ use uc_batch::{Advance, BatchWrites, Ended};
 use uc_run::Run;
 use uc_version_state::Options;
 
-/// How many full memtables make a round: others flush them, while the calling thread fills as many more.
+/// The number of full memtables in a round: others flush them, while the calling thread fills as many more.
 const ROUND: usize = 2;
 
 /// Takes the writes of a batch into a store that is being opened. The runs that it has stay where they stand.
@@ -45,13 +45,13 @@ pub(crate) fn insert_batch<W: Workers>(
     Ok(())
 }
 
-/// How far a log was read, and the store that is being opened with what was read of it.
+/// The place up to which a log was read, and the store that is being opened with what was read of it.
 #[derive(Drop)]
 pub(crate) struct Reading<'a> {
     batches: LogBatches<'a>,
     /// The store.
     pub(crate) opener: Opener,
-    /// How far the log goes, once its end was found.
+    /// The end of the log, once it was found.
     pub(crate) ended: Option<Ended>,
     ghost as_far: { opener.last ≡ batches.last },
     ghost at_end: { (e : EndedOf) → ended ≡ Some e → batches.ahead ≡ nothing_ahead e },

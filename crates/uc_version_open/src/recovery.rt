@@ -21,7 +21,7 @@ use uc_version_state::Options;
 pub struct Recovered {
     /// The store, which has the writes.
     pub opener: Opener,
-    /// How far the log was read.
+    /// The end of the log.
     pub ended: Ended,
 }
 
@@ -86,16 +86,16 @@ pub fn recover_pieces<W: Workers>(
     recover_batches(workers, alloc, batches, options)
 }
 
-/// How many writes a log has up to its first fault, and how far it was read.
+/// The number of a log's writes up to its first fault, and its end.
 #[derive(Clone, Copy)]
 pub struct Counted {
     /// The number of its writes.
     pub count: u64,
-    /// How far the log was read.
+    /// The end of the log.
     pub ended: Ended,
 }
 
-/// How many writes a batch has, and `count`.
+/// The number of a batch's writes, and `count`.
 fn count_batch(mut count: u64, writes: BatchWrites<'_>) -> u64
     requires { count + length writes < 2 ^ 64 }
     ensures { result ≡ count + length writes.entry }
@@ -106,7 +106,7 @@ fn count_batch(mut count: u64, writes: BatchWrites<'_>) -> u64
     count
 }
 
-/// How many writes a log has, up to its first fault. It goes once over the log, and keeps no write of it.
+/// The number of a log's writes, up to its first fault. It goes once over the log, and keeps no write of it.
 pub fn count_writes(alloc: Global, log: &[u8]) -> Result<Counted, AllocError>
     ensures count { IfOk result (λ counted. counted.count ≡ length (log_writes log.now).list) }
     ensures ended { IfOk result (λ counted. counted.ended ≡ (log_writes log.now).ended) }
@@ -125,7 +125,7 @@ pub fn count_writes(alloc: Global, log: &[u8]) -> Result<Counted, AllocError>
 #[derive(Drop)]
 struct Parted {
     opener: Opener,
-    /// How many more the store takes.
+    /// The number of writes that the store still takes.
     left: u64,
     behind: Vec<Write>,
 }

@@ -1,15 +1,15 @@
 //! [`Work`]: what a thread does while others flush.
 
-/// What the calling thread does while others flush. `join` tells of a closure's result only what doesn't borrow, so the closure
+/// The work of the calling thread while others flush. `join` tells of a closure's result only what doesn't borrow, so the closure
 /// holds a value of a type parameter.
 pub trait Work {
-    /// What comes of it.
+    /// The result.
     type Output;
 
-    /// What is asked before it is done.
+    /// The condition before it is done.
     ghost can_be_done: { Self → Type 0 };
 
-    /// What holds of what comes of it.
+    /// The condition of the result.
     ghost gives: { Self → Self.Output → Type 0 };
 
     /// Does the work.

@@ -11,17 +11,17 @@ use std::thread::{Threads, join};
 use uc_compact::Alone;
 use uc_run::Run;
 
-/// How many full memtables threads flush at once, where the calling thread waits for them.
+/// The number of full memtables that threads flush at once, where the calling thread waits for them.
 const FLUSHED_AT_ONCE: usize = 4;
 
-/// Who does the work that threads can share: the calling thread [`Alone`], or it and threads that it starts and waits for
-/// ([`InThreads`]). What comes of the work is the same, whoever does it.
+/// The workers for what threads can share: the calling thread [`Alone`], or it and threads that it starts and waits for
+/// ([`InThreads`]). The result is the same, whoever does the work.
 pub trait Workers {
-    /// What is asked of who works. Threads share the runtime that starts them.
+    /// The condition under which they work. Threads share the runtime that starts them.
     ghost can_work: { Type 0 };
 
-    /// How many full memtables may wait, besides those that are lent. One more, and all are flushed at once. A contract doesn't see
-    /// it.
+    /// The number of full memtables that may wait, besides those that are lent. One more, and all are flushed at once. A contract doesn't
+    /// see it.
     fn most_waiting(&self) -> usize;
 
     /// The runs of these memtables, in their order.

@@ -5,7 +5,7 @@ ghost use Rattle.uc_version_state.specs.Flushes.{memtables};
 use uc_bytes::{OpRef, Write};
 use uc_run::op_size;
 
-/// How many memtables these writes fill, if each is flushed from `limit` bytes on. It doesn't allocate.
+/// The number of memtables that these writes fill, if each is flushed from `limit` bytes on. It doesn't allocate.
 pub fn memtable_count(limit: u64, writes: &[Write]) -> usize
     ensures { result ≡ length (memtables limit writes.now) }
 {

@@ -2,7 +2,7 @@
 use crate::install::Install;
 use uc_bytes::{Items, Write};
 
-/// What changes a store's version. A history is a list of events: contracts speak of them, and a store makes none to
+/// A change of a store's version. A history is a list of events: contracts speak of them, and a store makes none to
 /// change itself.
 #[derive(Drop)]
 pub enum Event {

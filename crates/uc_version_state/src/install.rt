@@ -92,7 +92,7 @@ impl Install {
         &self.output
     }
 
-    /// What holds of every install: its inputs are two runs or more, and its keeps rise. Proof step: does nothing when
+    /// The invariant of every install: its inputs are two runs or more, and its keeps rise. Proof step: does nothing when
     /// it runs.
     pub fn recall(&self)
         ensures { IsInstall self.now }

@@ -1,4 +1,4 @@
-//! What holds of versions and of what happens to them.
+//! Laws about versions and their changes.
 ghost use Rattle.std.specs.Prelude.{◌≡◌, ◌≢◌, ◌≤◌, ◌<◌, ◌⊎◌, ◌↔◌, ◌+◌, ◌-◌, ◌^◌, ◌++◌, ◌∷◌, [], ℕ, List, None, Contains, length};
 ghost use Rattle.std.specs.List.{flat_map};
 ghost use Rattle.std.specs.List.Sorted.{IsStrictlySortedBy};
@@ -115,7 +115,7 @@ pub fn histories_keep_what_is_read<O: Operator>()
     opening_keeps_every_effect::<O>();
 }
 
-/// What a store has taken, and what it keeps, is known without a look at its runs: the writes of a history rise, up to
+/// The writes that a store has taken, and its keeps, are known without a look at its runs: the writes of a history rise, up to
 /// the last sequence of the version after it, which has the keeps that are known.
 pub fn histories_say_writes_and_keeps<O: Operator>()
     ensures writes { (h : History) → (known h).writes ≡ writes_given h }
@@ -166,8 +166,8 @@ pub fn runs_keep_their_contents<O: Operator>()
     opening_gives_a_version();
 }
 
-/// Which event changes what: the keeps are changed by a keep and a release alone, the last sequence by a feed alone, and
-/// from how many bytes on a memtable is flushed by none.
+/// The parts that each event changes: the keeps are changed by a keep and a release alone, the last sequence by a feed alone, and
+/// the size of a memtable by none.
 pub fn events_change_what_they_say()
     ensures keeps_installed { (v : Stored) (i : Install) → (installed i v).keeps ≡ v.keeps }
     ensures keeps_fed { (v : Stored) (ws : List Write) → (fed ws v).keeps ≡ v.keeps }

@@ -5,7 +5,7 @@ use uc_claims::MOST_SLOTS;
 /// The greatest number that the first run may have: as many others as a store has slots come after it below 2^64.
 pub const GREATEST_FIRST_ID: u64 = u64::MAX - MOST_SLOTS as u64;
 
-/// How a store is opened and compacted, with RocksDB's name for each option (RocksDB wiki, "Universal Compaction").
+/// The options by which a store is opened and compacted, with RocksDB's name for each (RocksDB wiki, "Universal Compaction").
 #[derive(Clone, Copy, Debug, PartialEq, Eq)]
 pub struct Options {
     /// From how many bytes on a memtable is flushed, at least 1 (`write_buffer_size`).

@@ -1,4 +1,4 @@
-//! What holds of a pick.
+//! Laws about a pick.
 ghost use Rattle.std.specs.Prelude.{◌≡◌, ◌≤◌, ◌<◌, ◌+◌, ◌-◌, ◌*◌, ℕ, List, Some, None, min, true, length};
 ghost use Rattle.std.specs.Prelude.{take, drop, slice_index_or, is_some};
 ghost use Rattle.uc_version_state.specs.declared.options.Options.{Options};

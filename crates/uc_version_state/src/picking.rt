@@ -70,7 +70,7 @@ fn is_collected(options: &Options, count: usize, sum: u128, candidate: &Candidat
         && (count == 0 || has_room && is_within_ratio(options.ratio, sum, candidate.size))
 }
 
-/// How many runs are collected from the first on: a run is, while it is unclaimed and within the ratio of the sum of
+/// The number of runs that are collected from the first on: a run is, while it is unclaimed and within the ratio of the sum of
 /// those before it, up to `max_merge_width` of them.
 fn collected(options: &Options, candidates: &[Candidate]) -> usize
     requires few { length candidates.now ≤ 65536 }
@@ -88,7 +88,7 @@ fn collected(options: &Options, candidates: &[Candidate]) -> usize
     count
 }
 
-/// How many runs the size ratio picks from the first on: 0 if fewer than `min_merge_width` are collected.
+/// The number of runs that the size ratio picks from the first on: 0 if fewer than `min_merge_width` are collected.
 fn collected_enough(options: &Options, candidates: &[Candidate]) -> usize
     requires few { length candidates.now ≤ 65536 }
     ensures { result ≡ picks.collected_enough options.now candidates.now }
@@ -116,7 +116,7 @@ fn size_ratio(options: &Options, candidates: &[Candidate]) -> Option<Stretch>
     None
 }
 
-/// How many unclaimed runs are at the head of some.
+/// The number of unclaimed runs at the head of some.
 fn unclaimed(candidates: &[Candidate]) -> usize
     ensures { result ≡ picks.unclaimed candidates.now }
 {
@@ -130,7 +130,7 @@ fn unclaimed(candidates: &[Candidate]) -> usize
     count
 }
 
-/// How many runs the number of runs picks from the first on: 0 if fewer than two unclaimed ones are there.
+/// The number of runs that the number of runs picks from the first on: 0 if fewer than two unclaimed ones are there.
 fn unclaimed_at_most(most: usize, candidates: &[Candidate]) -> usize
     ensures { result ≡ picks.unclaimed_at_most most candidates.now }
 {
@@ -165,7 +165,7 @@ fn number_of_runs(options: &Options, candidates: &[Candidate]) -> Option<Stretch
     first_unclaimed(most.min(options.greatest as usize), candidates)
 }
 
-/// Which neighbouring runs are compacted next, of runs that come newest first (RocksDB wiki, "Universal Compaction"),
+/// The neighbouring runs that are compacted next, of runs that come newest first (RocksDB wiki, "Universal Compaction"),
 /// or `None`. Runs below are the candidates, and n is their number. If n is below `trigger` nothing is picked.
 /// Otherwise the first of these rules that picks any decides:
 ///

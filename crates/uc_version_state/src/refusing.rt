@@ -1,4 +1,4 @@
-//! What refuses an install.
+//! Refusals of an install.
 ghost use Rattle.std.specs.Prelude.{◌≡◌, ◌↔◌, [], IsTrue, IfSome, IfNone};
 ghost use Rattle.uc_oper.specs.Operation.{Operation};
 ghost use Rattle.uc_version_state.specs.Installs.{KeepsKnown, MayInstall, NothingBelow, behind};

@@ -7,7 +7,7 @@ ghost use Rattle.uc_version_state.specs.Installs.{part_of};
 use crate::placed::Placed;
 use crate::version::Version;
 
-/// How many runs come before the one with an id; all if none has it.
+/// The number of runs before the one with an id; all if none has it.
 pub(crate) fn place_of(runs: &[Placed], id: u64) -> usize
     ensures place { result ≡ installs.place_of id runs.now }
     ensures within { result ≤ length runs.now }

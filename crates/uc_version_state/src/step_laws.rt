@@ -1,4 +1,4 @@
-//! What holds of every course of steps.
+//! Laws about every course of steps.
 ghost use Rattle.std.specs.Prelude.{◌≡◌, ◌≢◌, ◌≤◌, ◌+◌, ℕ, List, [], ◌∷◌, ◌++◌, Contains, length};
 ghost use Rattle.uc_oper.specs.Operation.{Operation, IsLawful};
 ghost use Rattle.uc_version_state.specs.Versions.{PlacedRun, ids_of};

@@ -3,8 +3,8 @@
 /// Neighbouring runs among some that come newest first. Positions count from 0, the newest.
 #[derive(Clone, Copy, Debug, PartialEq, Eq)]
 pub struct Stretch {
-    /// How many newer runs come before them.
+    /// The number of newer runs before them.
     pub first: usize,
-    /// How many they are.
+    /// The number of runs.
     pub count: usize,
 }

@@ -5,7 +5,7 @@ ghost use Rattle.std.specs.Ordering.{nat_cmp};
 
 use std::marker::Model;
 
-/// What a compaction requires of a version: the keeps that it was made for, whether it was made for the oldest run of
+/// The terms that a compaction requires of a version: the keeps that it was made for, whether it was made for the oldest run of
 /// all, and the greatest sequence of its inputs.
 #[derive(Drop)]
 pub struct Terms<'a> {

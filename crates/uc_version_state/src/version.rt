@@ -5,7 +5,7 @@ ghost use Rattle.uc_version_state.specs.Versions.{IsVersion};
 use crate::placed::Placed;
 use std::marker::Model;
 
-/// What a store holds at a moment (RocksDB wiki, "Universal Compaction", "Snapshot"): sorted runs, the newest first;
+/// The contents of a store at a moment (RocksDB wiki, "Universal Compaction", "Snapshot"): sorted runs, the newest first;
 /// the keeps, at which reads are made; the last sequence; the number of the next run; and from how many bytes on a
 /// memtable is flushed.
 pub struct Version {
@@ -92,7 +92,7 @@ impl Version {
         self.limit
     }
 
-    /// What holds of every version: its runs are runs and come newest first, no two have one slot or one id, and its
+    /// The invariant of every version: its runs are runs and come newest first, no two have one slot or one id, and its
     /// keeps rise. Proof step: does nothing when it runs.
     pub fn recall(&self)
         ensures { IsVersion self.now }

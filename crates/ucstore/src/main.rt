@@ -24,7 +24,7 @@ use uc_tool::{
 /// The delimiter of `--operator append`.
 const COMMA: u8 = b',';
 
-/// How many bytes `--operator tail` keeps.
+/// The number of bytes that `--operator tail` keeps.
 const KEPT: usize = 4;
 
 /// Runs it with the operator that the words name.
