@@ -41,7 +41,7 @@ fn next_size(size: usize, lines: usize) -> usize
     }
 }
 
-/// The next queries of a head, this many of them where this many are left.
+/// The next queries of a head: this many, if as many are left.
 fn next_batch(
     alloc: Global,
     ahead: &mut QueryReader<'_>,

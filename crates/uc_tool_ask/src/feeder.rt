@@ -18,7 +18,7 @@ pub(crate) struct Feeder<O: Operator, N: Name> {
     pub(crate) writes: Vec<Write>,
 }
 
-/// A feeder of these writes, if a reader is left beside those of the workers. The number of these that are left.
+/// A feeder of these writes, if a reader is left beside those that the workers need.
 pub(crate) fn feeder_of<O: Operator, N: Name>(
     workers: usize,
     readers: &mut Vec<Reader<O, N>>,
