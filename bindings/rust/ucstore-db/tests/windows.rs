@@ -2,7 +2,8 @@
 
 mod common;
 
-use common::{map_of, open, Around, Device, Map, Over};
+use common::{is_long, map_of, open, seed, Around, Device, Map, Numbers, Over};
+use std::collections::BTreeMap;
 use std::io;
 use std::sync::atomic::{AtomicUsize, Ordering};
 use std::sync::Arc;
@@ -162,6 +163,87 @@ fn a_batch_may_end_in_the_last_bytes_of_a_window() {
         let db = Db::open_on(Arc::new(Device::of(&beside)), &options).unwrap();
         assert_eq!(map_of(&db).len(), 2, "{left}");
     }
+}
+
+const BLOCK: usize = 32 * 1024;
+
+/// A drawn log of some windows, of which many batches end next to the end of a block or of a window; and where each batch ends.
+fn drawn(numbers: &mut Numbers) -> (BTreeMap<String, Vec<u8>>, Vec<usize>) {
+    let device = Device::default();
+    let db = Db::open_on(Arc::new(device.clone()), &options()).unwrap();
+    let mut ends = vec![0];
+    let mut put = |length: usize| {
+        let mut batch = Batch::new();
+        let key = (ends.len() as u32).to_be_bytes();
+        batch.put(key, vec![7; length]).unwrap();
+        db.write_with(&batch, true).unwrap();
+        let end = device.files()["000001.log"].len();
+        let begin = ends.last().copied().unwrap();
+        ends.push(end);
+        (begin, end)
+    };
+    loop {
+        let (begin, end) = put(200 + numbers.below(60_000) as usize);
+        if begin > 2 * WINDOW {
+            break;
+        }
+        // One takes as many bytes beside its value as another of about its length in the same block.
+        let (_, next) = put(300);
+        let overhead = next - end - 300;
+        let unit = if numbers.below(3) == 0 { WINDOW } else { BLOCK };
+        let wanted = next.next_multiple_of(unit) - numbers.below(10) as usize;
+        let headers = 7 * (wanted / BLOCK).saturating_sub(next / BLOCK);
+        if let Some(length) = wanted.checked_sub(next + overhead + headers) {
+            put(length.max(1));
+        }
+    }
+    (device.files(), ends)
+}
+
+/// A log is found up to the batch before its end, wherever that is, and what else a crash left there.
+#[test]
+fn drawn_logs_are_read_in_windows() {
+    let mut numbers = Numbers(seed(77));
+    let mut near = 0;
+    for _ in 0..if is_long() { 100 } else { 8 } {
+        let (files, ends) = drawn(&mut numbers);
+        let log = &files["000001.log"];
+        assert_eq!(
+            map_of(&open(&Device::of(&files)).unwrap()).len(),
+            ends.len() - 1
+        );
+        let is_near = |end: &&usize| (1..7).contains(&(end.next_multiple_of(WINDOW) - *end));
+        near += ends.iter().filter(is_near).count();
+        for _ in 0..12 {
+            let unit = if numbers.below(2) == 0 { WINDOW } else { BLOCK };
+            let near_unit = numbers.below((log.len() / unit) as u64 + 1) as usize * unit + 10;
+            let place = match numbers.below(3) {
+                0 => numbers.below(log.len() as u64) as usize,
+                _ => near_unit
+                    .saturating_sub(numbers.below(20) as usize)
+                    .min(log.len()),
+            };
+            let mut left = files.clone();
+            let torn = left.get_mut("000001.log").unwrap();
+            match numbers.below(3) {
+                0 => torn.truncate(place),
+                1 => torn[place..].fill(0),
+                _ => torn[place..].fill_with(|| numbers.below(256) as u8),
+            }
+            let found = map_of(&open(&Device::of(&left)).unwrap()).len();
+            let whole = ends.iter().filter(|end| **end <= place).count() - 1;
+            assert_eq!(found, whole, "{place} of {}", log.len());
+        }
+        let wanted = numbers.below(ends.len() as u64 - 1) + 1;
+        let options = Options {
+            recover_to: Some(wanted),
+            give_up_until: u64::MAX,
+            ..options()
+        };
+        let db = Db::open_on(Arc::new(Device::of(&files)), &options).unwrap();
+        assert_eq!(map_of(&db).len() as u64, wanted);
+    }
+    assert!(near > 0);
 }
 
 /// A hole of many windows, and a batch after it that was synced. It is found by the record before it, at the start of its block.
