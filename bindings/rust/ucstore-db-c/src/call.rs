@@ -54,7 +54,7 @@ impl From<ucstore::Error> for Refusal {
 }
 
 thread_local! {
-    /// What the last call of this thread said that was refused.
+    /// The message of this thread's last call that was refused.
     static SAID: RefCell<Cow<'static, CStr>> = RefCell::new(Status::Ok.text().into());
 }
 
@@ -72,7 +72,7 @@ pub(crate) fn call(work: impl FnOnce() -> Result<(), Refusal>) -> i32 {
     }
 }
 
-/// What the last call of this thread said that was refused, lent until the next one that is.
+/// The message of this thread's last call that was refused, lent until the next one that is.
 #[no_mangle]
 pub extern "C" fn ucstore_db_error_text() -> *const c_char {
     SAID.try_with(|said| said.borrow().as_ptr())
@@ -84,7 +84,7 @@ mod tests {
     use super::*;
     use std::thread;
 
-    /// What the last call of this thread said.
+    /// The message of this thread's last refused call.
     fn said() -> String {
         // SAFETY: It is a text that ends with a zero byte, and no call is under way.
         let text = unsafe { CStr::from_ptr(ucstore_db_error_text()) };
@@ -119,7 +119,7 @@ mod tests {
             fault: "a zero\0byte".into(),
         };
         let refusal = Refusal::from(cause.clone());
-        // What can't be a text of C is what the status says.
+        // A message that can't be a string of C becomes the status's text.
         assert_eq!(&*refusal.text, c"a file isn't as it was written");
         let Error::Damaged { file, offset, .. } = cause else {
             unreachable!();

@@ -15,7 +15,7 @@ pub struct Cursor {
     low: Vec<u8>,
     high: Option<Vec<u8>>,
     rows: Rows,
-    /// What `rows` lent last; none behind the last row.
+    /// The row that `rows` lent last; none after the last row.
     row: Option<Row>,
     /// Why no row could be fetched, if that is so.
     failure: Option<Error>,
@@ -92,7 +92,7 @@ impl Cursor {
 
     /// The row at which it stands.
     fn row(&self) -> Option<(&[u8], &[u8])> {
-        // SAFETY: `rows` lent both until its next call, and each such call is behind a change of `row`.
+        // SAFETY: `rows` lent both until its next call, and each such call comes after a change of `row`.
         let text = |lent: Lent| unsafe { slice::from_raw_parts(lent.at, lent.length) };
         self.row.map(|row| (text(row.key), text(row.value)))
     }
@@ -128,7 +128,7 @@ impl Page {
         true
     }
 
-    /// How many rows there are.
+    /// The number of rows.
     fn rows(&self) -> usize {
         self.lengths.filled() / 2
     }
@@ -336,7 +336,7 @@ pub unsafe extern "C" fn ucstore_db_cursor_status(cursor: *const CursorHandle) -
     })
 }
 
-/// Copies rows from the one on at which it stands, and goes behind them.
+/// Copies rows from the one on at which it stands, and moves past them.
 #[no_mangle]
 pub unsafe extern "C" fn ucstore_db_cursor_page(
     cursor: *mut CursorHandle,

@@ -252,7 +252,7 @@ pub unsafe extern "C" fn ucstore_db_get_many(
     })
 }
 
-/// What a database holds now.
+/// Takes a snapshot of a database.
 #[no_mangle]
 pub unsafe extern "C" fn ucstore_db_snapshot(
     db: *const DbHandle,
@@ -312,7 +312,7 @@ pub unsafe extern "C" fn ucstore_db_checkpoint_to(
     call(|| {
         // SAFETY: C owes both handles.
         let (db, snapshot) = unsafe { (Handle::get(db)?, SnapshotHandle::lock(snapshot)?) };
-        // Who reads it meanwhile doesn't wait.
+        // A thread that reads it meanwhile doesn't wait.
         let again = snapshot.again()?;
         drop(snapshot);
         Ok(db.checkpoint_to(&again)?)

@@ -18,24 +18,24 @@ const SET_ASIDE: u32 = 5;
 pub struct CProgress {
     /// The name of the file that is read.
     pub file: *const c_char,
-    /// How many bytes of all files were read.
+    /// The number of bytes read, of all files.
     pub read: u64,
-    /// How many bytes all files have.
+    /// The size of all files in bytes.
     pub whole: u64,
 }
 
 /// `struct ucstore_db_event`.
 #[repr(C)]
 pub struct CEvent {
-    /// What happened.
+    /// The kind of the event.
     pub kind: u32,
     /// Of a failure its status, else 0.
     pub status: i32,
-    /// How many runs there are.
+    /// The number of runs.
     pub runs: u64,
-    /// How many bytes a flush or a checkpoint has.
+    /// The size of a flush or a checkpoint in bytes.
     pub bytes: u64,
-    /// How long it took.
+    /// The time that it took.
     pub microseconds: u64,
     /// The name of a base, or what failed.
     pub text: *const c_char,
@@ -98,7 +98,7 @@ struct Told {
 }
 
 impl Told {
-    /// What C is told of an event. Of kinds that it doesn't know it is told nothing.
+    /// The struct that C is given for an event; none for kinds that it doesn't know.
     fn of(event: &Event) -> Option<Told> {
         match event {
             Event::Flushed { runs, bytes, took } => {
@@ -124,7 +124,7 @@ impl Told {
         }
     }
 
-    /// What was done.
+    /// The event of work that is done.
     fn done(kind: u32, runs: u64, bytes: u64, took: Duration, text: &CStr) -> Told {
         Told {
             event: CEvent {

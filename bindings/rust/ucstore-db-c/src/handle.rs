@@ -1,4 +1,4 @@
-//! [`Handle`]: what is behind an address that C holds.
+//! [`Handle`]: an address that C holds, and the value there.
 
 use crate::call::Refusal;
 use crate::cursor::Cursor;
@@ -38,7 +38,7 @@ impl SnapshotHandle {
         Handle::begin(Mutex::new(snapshot))
     }
 
-    /// The snapshot behind an address, when no other thread uses it.
+    /// The snapshot at an address, when no other thread uses it.
     ///
     /// # Safety
     ///
@@ -60,7 +60,7 @@ impl<T> Handle<T> {
         Box::into_raw(Box::new(Handle { held, process }))
     }
 
-    /// What is behind an address.
+    /// The value at an address.
     ///
     /// # Safety
     ///
@@ -72,7 +72,7 @@ impl<T> Handle<T> {
         Ok(&handle.held)
     }
 
-    /// What is behind an address, to change it.
+    /// The value at an address, to change it.
     ///
     /// # Safety
     ///
@@ -84,7 +84,7 @@ impl<T> Handle<T> {
         Ok(&mut handle.held)
     }
 
-    /// Takes what is behind an address, which ends. None if it is null. A forked child leaves it where it is.
+    /// Takes the value at an address, which ends. None if it is null. A forked child leaves it where it is.
     ///
     /// # Safety
     ///

@@ -7,7 +7,7 @@
 //! is lent to C lies in a handle, and stays until the call that the header names. A panic becomes a status.
 #![deny(unsafe_op_in_unsafe_fn)]
 #![warn(missing_docs, clippy::undocumented_unsafe_blocks)]
-// What a caller owes stands in the header.
+// The header says what a caller must ensure.
 #![allow(clippy::missing_safety_doc)]
 
 mod batch;

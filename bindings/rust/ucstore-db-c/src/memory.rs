@@ -57,7 +57,7 @@ pub(crate) unsafe fn read_sized<T: Copy>(
     // SAFETY: The caller owes as many bytes.
     let given = unsafe { slice::from_raw_parts(at.cast::<MaybeUninit<u8>>().as_ptr(), size) };
     let known = size.min(size_of::<T>());
-    // SAFETY: Behind what this library knows the header's struct has whole fields without gaps.
+    // SAFETY: After the fields that this library knows the header's struct has whole fields without gaps.
     if given[known..]
         .iter()
         .any(|byte| unsafe { byte.assume_init() } != 0)
@@ -102,7 +102,7 @@ pub(crate) unsafe fn write_sized<T: Copy>(
 pub(crate) struct Place<T>(NonNull<T>);
 
 impl<T> Place<T> {
-    /// That of an address.
+    /// The memory at an address.
     ///
     /// # Safety
     ///
@@ -122,12 +122,12 @@ impl<T> Place<T> {
 pub(crate) struct Room<T> {
     at: *mut T,
     count: usize,
-    /// How many items were written.
+    /// The number of items written.
     filled: usize,
 }
 
 impl<T: Copy> Room<T> {
-    /// That of an address.
+    /// The memory at an address.
     ///
     /// # Safety
     ///
@@ -145,12 +145,12 @@ impl<T: Copy> Room<T> {
         })
     }
 
-    /// How many items were written.
+    /// The number of items written.
     pub(crate) fn filled(&self) -> usize {
         self.filled
     }
 
-    /// How many more there is room for.
+    /// The number of items that there is still room for.
     pub(crate) fn left(&self) -> usize {
         self.count - self.filled
     }

@@ -28,7 +28,7 @@ pub struct COptions {
     pub merge_operator: u32,
     /// When a write is on the device.
     pub sync: u32,
-    /// Behind how many milliseconds it is, if it is synced every so often.
+    /// The time between two syncs in milliseconds, if it syncs from time to time.
     pub sync_milliseconds: u64,
     /// From how many bytes on the memtable is full.
     pub write_buffer_size: u64,
@@ -44,31 +44,31 @@ pub struct COptions {
     pub min_merge_width: u32,
     /// The greatest number of runs for a compaction.
     pub max_merge_width: u32,
-    /// How many threads compact.
+    /// The number of threads that compact.
     pub compactors: u32,
     /// From how many runs on writes are slowed.
     pub slow_trigger: u32,
     /// By how many times the logs exceed the data when a checkpoint is made.
     pub checkpoint_ratio: u64,
-    /// How many bytes the logs have at least when a checkpoint is made.
+    /// The least size of the logs in bytes at which a checkpoint is made.
     pub checkpoint_least: u64,
     /// Not 0 to open a damaged folder up to the damage.
     pub recovers_to_fault: u32,
     /// Is told how far an opening is.
     pub progress: ProgressFunction,
-    /// What it is given.
+    /// The first argument that it is given.
     pub progress_context: *mut c_void,
     /// Is told what the database does.
     pub event: EventFunction,
-    /// What it is given.
+    /// The first argument that it is given.
     pub event_context: *mut c_void,
-    /// What the files have after this sequence is given up.
+    /// The sequence after which everything in the files is given up.
     pub recover_to: u64,
     /// Up to which sequence a batch may begin that is given up.
     pub give_up_until: u64,
     /// Sequences at which snapshots are made.
     pub marks: *const u64,
-    /// How many there are.
+    /// Their number.
     pub marks_count: usize,
     /// Not 0 to open only a database that is there.
     pub must_exist: u32,
@@ -78,7 +78,7 @@ pub struct COptions {
 
 impl COptions {
     /// The options at an address, as large as their first field says: those that an older program doesn't know have their defaults.
-    /// Those that this library doesn't know must be 0.
+    /// Bytes that this library doesn't know must be 0.
     ///
     /// # Safety
     ///

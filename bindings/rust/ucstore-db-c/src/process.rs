@@ -6,14 +6,14 @@ use std::ffi::c_int;
 use std::sync::atomic::{AtomicU64, Ordering};
 use std::sync::Once;
 
-/// How many forks lie between the first process and this one.
+/// The number of forks between the first process and this one.
 static FORKS: AtomicU64 = AtomicU64::new(0);
 static WATCHED: Once = Once::new();
 
 type Hook = Option<extern "C" fn()>;
 
 extern "C" {
-    /// Adds what is called at forks: before, and behind it in the parent and in the child.
+    /// Adds functions that are called at forks: before, and afterwards in the parent and in the child.
     fn pthread_atfork(before: Hook, in_parent: Hook, in_child: Hook) -> c_int;
 }
 

@@ -17,7 +17,7 @@ pub(crate) struct Value {
 }
 
 impl Value {
-    /// That of C's memory.
+    /// The bytes at an address of C's.
     ///
     /// # Safety
     ///
@@ -43,14 +43,14 @@ impl Value {
     }
 }
 
-/// Keys that stand one behind the other.
+/// Keys that stand one after the other.
 pub(crate) struct Keys<'a> {
     bytes: &'a [u8],
     lengths: &'a [u64],
 }
 
 impl<'a> Keys<'a> {
-    /// Those of C's memory.
+    /// The keys at an address of C's.
     ///
     /// # Safety
     ///
@@ -91,7 +91,7 @@ pub(crate) struct Values {
 }
 
 impl Values {
-    /// That of C's memory.
+    /// The buffer at an address of C's.
     ///
     /// # Safety
     ///
@@ -113,7 +113,7 @@ impl Values {
         }
     }
 
-    /// Copies the values one behind the other, as much of them as there is room for.
+    /// Copies the values one after the other, as much of them as there is room for.
     pub(crate) fn put(mut self, values: Vec<Option<Vec<u8>>>) -> Result<(), Refusal> {
         let mut size = 0;
         for value in &values {
@@ -128,7 +128,7 @@ impl Values {
     }
 }
 
-/// Puts a snapshot behind another handle too.
+/// Puts a snapshot into another handle too.
 #[no_mangle]
 pub unsafe extern "C" fn ucstore_db_snapshot_again(
     snapshot: *const SnapshotHandle,

@@ -22,17 +22,17 @@ pub struct CStats {
     pub uptime: u64,
     /// The sequence of the last write.
     pub last: u64,
-    /// How many runs there are.
+    /// The number of runs.
     pub runs: u64,
     /// The bytes of all runs.
     pub bytes: u64,
-    /// How many writes no run has yet.
+    /// The number of writes that no run has yet.
     pub gathered: u64,
     /// The bytes of the logs that no checkpoint holds.
     pub log_bytes: u64,
-    /// How many batches were taken.
+    /// The number of batches taken.
     pub batches: u64,
-    /// How many records of the log they shared.
+    /// The number of records of the log that they shared.
     pub groups: u64,
     /// The bytes of the batches.
     pub user_bytes: u64,
@@ -40,23 +40,23 @@ pub struct CStats {
     pub logged_bytes: u64,
     /// The bytes of the bases that were written.
     pub base_bytes: u64,
-    /// How many keys were looked up.
+    /// The number of keys looked up.
     pub lookups: u64,
-    /// How often a log was synced.
+    /// The number of syncs of a log.
     pub syncs: u64,
     /// The microseconds that half of the last 1,024 syncs kept to.
     pub sync_p50: u64,
     /// The microseconds that 99 percent of them kept to.
     pub sync_p99: u64,
-    /// How often writes began to be slowed, or waited.
+    /// The number of times that writes began to be slowed, or waited.
     pub stalls: u64,
-    /// How many groups of writes were slowed.
+    /// The number of groups of writes that were slowed.
     pub slowed: u64,
     /// For how many microseconds writes were slowed or waited.
     pub stalled: u64,
-    /// How many runs were made of what was gathered.
+    /// The number of runs made of gathered writes.
     pub flushes: u64,
-    /// How many compactions there were.
+    /// The number of compactions.
     pub compactions: u64,
     /// The bytes of the runs that flushes made.
     pub flush_bytes: u64,
@@ -64,7 +64,7 @@ pub struct CStats {
     pub compaction_read: u64,
     /// The bytes of the runs that compactions made.
     pub compaction_written: u64,
-    /// How many checkpoints were made.
+    /// The number of checkpoints made.
     pub checkpoints: u64,
     /// About how many of the lookups the memtables answered.
     pub lookups_by_memtable: u64,

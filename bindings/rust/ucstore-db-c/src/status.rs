@@ -3,7 +3,7 @@
 use db::{ucstore, Error};
 use std::ffi::CStr;
 
-/// What a call answers. Below 64 the numbers are those of `ucstore.h`.
+/// The status that a call returns. Below 64 the numbers are those of `ucstore.h`.
 #[derive(Clone, Copy, Debug, PartialEq, Eq)]
 #[repr(i32)]
 pub enum Status {
@@ -57,14 +57,14 @@ pub enum Status {
     Null = 72,
     /// The library has a fault.
     Internal = 73,
-    /// What the files have doesn't end, or can't be given up, where the options say.
+    /// The files don't end, or can't be given up, where the options say.
     NotRecoverable = 74,
     /// The snapshot is one of another database.
     OtherDatabase = 75,
 }
 
 impl Status {
-    /// What it says where nothing else is known.
+    /// The message where nothing else is known.
     pub(crate) fn text(self) -> &'static CStr {
         match self {
             Status::Ok => c"done",

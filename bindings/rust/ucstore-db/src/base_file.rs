@@ -14,7 +14,7 @@ use ucstore::{log_writes_at, Batch, Ended, LogPlace, Operator, Store, View};
 struct Extent {
     /// Its length in bytes.
     length: u64,
-    /// How many writes: its rows, and one that takes the last sequence.
+    /// The number of writes: its rows, and one that takes the last sequence.
     writes: u64,
     /// The last sequence.
     last: u64,
@@ -66,12 +66,12 @@ fn write_rows(
     })
 }
 
-/// What stands after the rows of a base of so many bytes: an operation that touches nothing, and takes the last sequence.
+/// The batch after the rows of a base of a length: an operation that touches nothing, and takes the last sequence.
 fn end_of(length: u64, rows: u64, last: u64) -> Result<Vec<u8>, Error> {
     let mut batch = Batch::new();
     let mut bytes = batch.delete_range("", "")?.bytes();
     bytes[..8].copy_from_slice(&last.to_le_bytes());
-    // How it is spelled depends on no operator.
+    // Its spelling depends on no operator.
     let store = Store::create(Operator::Append, &ucstore::Options::default())?;
     Ok(store.prepare_bytes(length, &gap::tell(&bytes, rows))?)
 }

@@ -18,10 +18,10 @@ use ucstore::View;
 const FEW_BYTES: u64 = 64 << 10;
 const MOST_SYNCS: usize = 3;
 
-/// What a checkpoint holds, and where.
+/// The contents of a checkpoint, and its place.
 struct Begun {
     folder: Arc<dyn Folder>,
-    /// The number of the log that goes on behind its last sequence.
+    /// The number of the log that goes on after its last sequence.
     number: u64,
     view: View,
 }
@@ -35,7 +35,7 @@ impl Shared {
         self.checkpoint_by(|| self.begin_checkpoint())
     }
 
-    /// Writes what a view of this database shows to a base. Logs go that have nothing behind it.
+    /// Writes the rows of a view of this database to a base. Removes the logs that have nothing after it.
     pub(crate) fn checkpoint_to(&self, view: &View) -> Result<(), Error> {
         self.checkpoint_by(|| self.begin_checkpoint_to(view))
     }
@@ -50,7 +50,7 @@ impl Shared {
         outcome
     }
 
-    /// Makes a checkpoint, of which is told behind its locks.
+    /// Makes a checkpoint, which is reported after its locks are given back.
     fn make_checkpoint(
         &self,
         begin: impl FnOnce() -> Result<Option<Begun>, Error>,
@@ -168,7 +168,7 @@ impl Shared {
         Ok(guard)
     }
 
-    /// How many bytes the logs have that no base holds.
+    /// The size of the logs that no base holds in bytes.
     pub(crate) fn log_bytes(&self) -> u64 {
         self.counts.log_bytes.get()
     }
@@ -206,7 +206,7 @@ impl Shared {
         self.log_bytes() >= self.long_log(lock(&self.store).report().bytes)
     }
 
-    /// How many bytes the logs have at least when a checkpoint is made.
+    /// The least size of the logs in bytes at which a checkpoint is made.
     fn long_log(&self, data: u64) -> u64 {
         let least = self.checkpoint_due.load(Ordering::Relaxed);
         least.max(data.saturating_mul(self.options.checkpoint_ratio))

@@ -27,12 +27,12 @@ const fn table() -> [u32; 256] {
 }
 
 impl Crc {
-    /// That of a record's type.
+    /// The checksum of a record's type.
     pub(crate) fn of(code: u8) -> Crc {
         Crc(u32::MAX).with(code)
     }
 
-    /// That with another byte.
+    /// The checksum with another byte.
     pub(crate) fn with(self, byte: u8) -> Crc {
         Crc((self.0 >> 8) ^ TABLE[usize::from(self.0 as u8 ^ byte)])
     }

@@ -237,7 +237,7 @@ mod tests {
         assert!(next_job().is_none());
         shared.write(bytes.clone(), false).unwrap();
         assert!(shared.run(flush).unwrap());
-        // What was written meanwhile is gathered still, and the writer has flushed nothing.
+        // The writes of meanwhile are still gathered, and the writer has flushed nothing.
         let report = lock(&shared.store).report();
         assert_eq!((report.runs, report.gathered, report.last), (1, 1, 3));
         assert!((600..700).contains(&shared.gathered.load(Ordering::Relaxed)));

@@ -5,7 +5,7 @@ use crate::sync_times::SyncTimes;
 use std::sync::atomic::{AtomicU64, Ordering};
 use std::time::{Duration, Instant};
 
-/// How often something was done since the database was opened.
+/// Counts of what was done since the database was opened.
 pub(crate) struct Counts {
     pub(crate) opened: Instant,
     pub(crate) batches: Count,
@@ -92,7 +92,7 @@ impl Count {
         self.0.store(number, Ordering::Relaxed);
     }
 
-    /// What it is now.
+    /// Its value now.
     pub(crate) fn get(&self) -> u64 {
         self.0.load(Ordering::Relaxed)
     }

@@ -17,7 +17,7 @@ use std::path::Path;
 use std::sync::{Arc, Weak};
 use ucstore::Batch;
 
-/// How many bytes a thread keeps for its next operation at most.
+/// The most bytes of a buffer that a thread keeps for its next operation.
 const MOST_KEPT: usize = 64 << 10;
 
 thread_local! {
@@ -88,7 +88,7 @@ impl Db {
     ///
     /// # Errors
     ///
-    /// Those of [`open`](Db::open).
+    /// As [`open`](Db::open).
     pub fn open_on(folder: Arc<dyn Folder>, options: &Options) -> Result<Db, Error> {
         Db::of(Some(folder), options)
     }
@@ -106,7 +106,7 @@ impl Db {
     ///
     /// # Errors
     ///
-    /// Those of [`write`](Db::write).
+    /// As [`write`](Db::write).
     pub fn put(&self, key: impl AsRef<[u8]>, value: impl AsRef<[u8]>) -> Result<(), Error> {
         let (key, value) = (key.as_ref(), value.as_ref());
         self.write_one(|batch| batch.put(key, value).map(|_| ()))
@@ -116,7 +116,7 @@ impl Db {
     ///
     /// # Errors
     ///
-    /// Those of [`write`](Db::write).
+    /// As [`write`](Db::write).
     pub fn merge(&self, key: impl AsRef<[u8]>, operand: impl AsRef<[u8]>) -> Result<(), Error> {
         let (key, operand) = (key.as_ref(), operand.as_ref());
         self.write_one(|batch| batch.merge(key, operand).map(|_| ()))
@@ -126,7 +126,7 @@ impl Db {
     ///
     /// # Errors
     ///
-    /// Those of [`write`](Db::write).
+    /// As [`write`](Db::write).
     pub fn delete(&self, key: impl AsRef<[u8]>) -> Result<(), Error> {
         let key = key.as_ref();
         self.write_one(|batch| batch.delete(key).map(|_| ()))
@@ -136,7 +136,7 @@ impl Db {
     ///
     /// # Errors
     ///
-    /// Those of [`write`](Db::write).
+    /// As [`write`](Db::write).
     pub fn delete_range(
         &self,
         begin: impl AsRef<[u8]>,
@@ -163,7 +163,7 @@ impl Db {
     ///
     /// # Errors
     ///
-    /// Those of [`write`](Db::write).
+    /// As [`write`](Db::write).
     pub fn write_with(&self, batch: &Batch, is_synced: bool) -> Result<(), Error> {
         if batch.is_empty() {
             return self.shared().check();
@@ -172,7 +172,7 @@ impl Db {
     }
 
     /// Takes a batch that [`Batch::bytes`] or RocksDB wrote, as [`write_with`](Db::write_with) does, alone in its record. Its operations
-    /// get its sequence and those behind it, or the ones behind the last one if it is 0. If there is a gap before it, its record tells
+    /// get its sequence and those after it, or the ones after the last one if it is 0. If there is a gap before it, its record tells
     /// that: so writes that are missing in a log are still told from it.
     ///
     /// ```
@@ -231,7 +231,7 @@ impl Db {
     ///
     /// # Errors
     ///
-    /// Those of [`get`](Db::get).
+    /// As [`get`](Db::get).
     pub fn get_into(&self, key: impl AsRef<[u8]>, value: &mut Vec<u8>) -> Result<bool, Error> {
         let key = key.as_ref();
         self.look_up(key, |holder| holder.get_into(key, value))
@@ -242,7 +242,7 @@ impl Db {
     ///
     /// # Errors
     ///
-    /// Those of [`get`](Db::get).
+    /// As [`get`](Db::get).
     pub fn get_to_room(
         &self,
         key: impl AsRef<[u8]>,
@@ -256,7 +256,7 @@ impl Db {
     ///
     /// # Errors
     ///
-    /// Those of [`get`](Db::get).
+    /// As [`get`](Db::get).
     pub fn get_many<K: AsRef<[u8]>>(
         &self,
         keys: impl IntoIterator<Item = K>,
@@ -264,21 +264,21 @@ impl Db {
         self.snapshot()?.get_many(keys)
     }
 
-    /// What it holds now.
+    /// A snapshot of its contents now.
     ///
     /// # Errors
     ///
-    /// Those of [`get`](Db::get).
+    /// As [`get`](Db::get).
     pub fn snapshot(&self) -> Result<Snapshot, Error> {
         let shared = self.shared();
         Ok(Snapshot::of(shared.view()?, &shared.counts))
     }
 
-    /// What it holds now, for scans: what no run has yet is sorted, once for all that scan it before the next write.
+    /// A snapshot of its contents now, for scans: the writes that no run has yet are sorted, once for all that scan it before the next write.
     ///
     /// # Errors
     ///
-    /// Those of [`get`](Db::get).
+    /// As [`get`](Db::get).
     pub fn snapshot_to_scan(&self) -> Result<Snapshot, Error> {
         let shared = self.shared();
         Ok(Snapshot::sorted(shared.sorted_view()?, &shared.counts))
@@ -288,7 +288,7 @@ impl Db {
     ///
     /// # Errors
     ///
-    /// Those of [`get`](Db::get), also for each row.
+    /// As [`get`](Db::get), also for each row.
     pub fn iter(&self) -> Result<Rows, Error> {
         self.snapshot_to_scan()?.iter()
     }
@@ -297,7 +297,7 @@ impl Db {
     ///
     /// # Errors
     ///
-    /// Those of [`iter`](Db::iter).
+    /// As [`iter`](Db::iter).
     pub fn range(&self, low: impl AsRef<[u8]>, high: Option<&[u8]>) -> Result<Rows, Error> {
         self.snapshot_to_scan()?.range(low, high)
     }
@@ -306,7 +306,7 @@ impl Db {
     ///
     /// # Errors
     ///
-    /// Those of [`iter`](Db::iter).
+    /// As [`iter`](Db::iter).
     pub fn prefix(&self, prefix: impl AsRef<[u8]>) -> Result<Rows, Error> {
         self.snapshot_to_scan()?.prefix(prefix)
     }
@@ -342,7 +342,7 @@ impl Db {
         self.shared().checkpoint()
     }
 
-    /// Writes what a snapshot has to a base, and removes the logs that have nothing behind it. What came behind the snapshot stays in
+    /// Writes the rows of a snapshot to a base, and removes the logs that have nothing after it. Later writes stay in
     /// logs, so that it may be made again as a [mark](Options::marks). Others write meanwhile. In memory, or if a base has as much, it
     /// does nothing. It ends if the database is closed, which waits for that.
     ///
@@ -377,7 +377,7 @@ impl Db {
         Some(Snapshot::of(marks.swap_remove(place), &shared.counts))
     }
 
-    /// What it holds and did, in numbers.
+    /// Figures of what it holds and did.
     pub fn stats(&self) -> Stats {
         Stats::of(self.shared())
     }
@@ -399,13 +399,13 @@ impl Db {
     ///
     /// # Errors
     ///
-    /// What failed before: [`Error::ReadOnly`], or an error of a checkpoint in the background. [`Error::Closed`] if it
+    /// The earlier failure: [`Error::ReadOnly`], or an error of a checkpoint in the background. [`Error::Closed`] if it
     /// was closed, once that is done.
     pub fn close(&self) -> Result<(), Error> {
         self.workers.close()
     }
 
-    /// That of a folder, or one in memory.
+    /// The database of a folder, or one in memory.
     fn of(folder: Option<Arc<dyn Folder>>, options: &Options) -> Result<Db, Error> {
         let workers = Workers::start(Shared::open(folder, options)?)?;
         Ok(Db {
@@ -435,7 +435,7 @@ impl Db {
         shared.write(bytes_of_one(add)?, shared.is_synced())
     }
 
-    /// What its threads share.
+    /// The state that its threads share.
     fn shared(&self) -> &Shared {
         &self.workers.shared
     }

@@ -89,7 +89,7 @@ impl Drop for DiskFolder {
     /// Unlocks it, also if a child of the process still has the file. A child doesn't unlock what is its parent's.
     fn drop(&mut self) {
         if self.process == process::id() {
-            // What fails here ends with the file.
+            // A failure here ends with the file.
             let _ = self.lock.unlock();
         }
     }
@@ -118,7 +118,7 @@ fn sync_name(path: &Path) -> io::Result<()> {
         fs::File::open(parent)?.sync_all()?;
     }
     for directory in above {
-        // What isn't this user's wasn't made by this user.
+        // A directory of another user wasn't made by this one.
         let _ = fs::File::open(directory).and_then(|directory| directory.sync_all());
     }
     Ok(())

@@ -1,4 +1,4 @@
-//! How a log ends: with what a crash left, or with damage.
+//! [`Ending`]: the end of a log, as a crash left it, or damaged.
 //!
 //! A record tells up to where its log was on the device when it was written. So a batch that isn't whole, but for which a later record
 //! says that it was on the device, is damaged. Any other one was still under way when the machine stopped: the log ends before it. Where
@@ -42,12 +42,12 @@ fn was_synced(fault: u64, synced: Option<u64>) -> bool {
     synced.is_none_or(|synced| synced > fault)
 }
 
-/// Whether a sequence may be one of a batch after the last one of a log, with so many bytes left. Each one takes bytes.
+/// Whether a sequence may be one of a batch after the last one of a log, with this many bytes left. Each one takes bytes.
 fn may_follow(sequence: u64, last: u64, left: u64) -> bool {
     sequence > last && sequence - last <= left
 }
 
-/// How a log ends that was read so far, behind its last sequence.
+/// The end of a log that was read up to here, after its last sequence.
 pub(crate) fn ending_of(
     windows: &mut Windows,
     replay: &Replay,

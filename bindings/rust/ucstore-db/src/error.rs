@@ -29,7 +29,7 @@ pub enum Error {
         file: String,
         /// Where the damage begins.
         offset: u64,
-        /// What is wrong.
+        /// The fault.
         fault: String,
     },
     /// A file isn't there. Nothing was changed.
@@ -37,13 +37,13 @@ pub enum Error {
         /// Its name.
         file: String,
     },
-    /// What the files have doesn't end, or can't be given up, where [`Options`](crate::Options) say. Nothing was changed.
+    /// The files don't end, or can't be given up, where [`Options`](crate::Options) say. Nothing was changed.
     NotRecoverable {
         /// The name of the file.
         file: String,
         /// Where the batch ends, or begins, that says so.
         offset: u64,
-        /// What is wrong.
+        /// The fault.
         fault: String,
     },
     /// The snapshot is one of another database.
@@ -57,7 +57,7 @@ pub enum Error {
     },
     /// Nothing can be written any more.
     ReadOnly {
-        /// What failed before.
+        /// The earlier failure.
         cause: Box<Error>,
     },
     /// The database was closed.
@@ -78,7 +78,7 @@ impl Error {
         }
     }
 
-    /// What later writes are told after this one.
+    /// The error that later writes get after this one.
     pub(crate) fn into_cause(self) -> Error {
         match self {
             Error::ReadOnly { .. } | Error::Closed => self,

@@ -12,39 +12,39 @@ use std::time::Duration;
 #[derive(Clone, Debug)]
 #[non_exhaustive]
 pub enum Event {
-    /// What was gathered became a run.
+    /// Gathered writes became a run.
     Flushed {
-        /// How many runs there are now.
+        /// The number of runs now.
         runs: u64,
         /// About how many bytes were gathered.
         bytes: u64,
-        /// How long it took.
+        /// The time that it took.
         took: Duration,
     },
     /// Runs were compacted to one.
     Compacted {
-        /// How many runs there are now.
+        /// The number of runs now.
         runs: u64,
-        /// How long it took.
+        /// The time that it took.
         took: Duration,
     },
     /// A base was written, and the logs before it are gone.
     Checkpointed {
         /// The name of the base.
         file: String,
-        /// How many bytes it has.
+        /// Its size in bytes.
         bytes: u64,
-        /// How long it took.
+        /// The time that it took.
         took: Duration,
     },
     /// Writes are slowed, or wait, from now on: there are too many runs.
     Stalled {
-        /// How many runs there are.
+        /// The number of runs.
         runs: u64,
     },
     /// A log or a checkpoint in the background failed.
     Failed {
-        /// Why. Behind [`Error::ReadOnly`] nothing can be written any more. A log that refuses records, as on a full device, is told
+        /// The reason. After [`Error::ReadOnly`] nothing can be written any more. A log that refuses records, as on a full device, is reported
         /// once, until it takes one.
         error: Error,
     },
@@ -58,14 +58,14 @@ pub enum Event {
     },
 }
 
-/// How far the opening of a folder is.
+/// The progress of an opening.
 #[derive(Clone, Debug, PartialEq, Eq)]
 pub struct Progress {
     /// The name of the file that is read.
     pub file: String,
-    /// How many bytes of all files were read.
+    /// The number of bytes read, of all files.
     pub read: u64,
-    /// How many bytes all files have.
+    /// The size of all files in bytes.
     pub whole: u64,
 }
 
@@ -127,7 +127,7 @@ pub(crate) struct Events {
 }
 
 impl Events {
-    /// Those for a listener, if there is one.
+    /// The events for a listener, if there is one.
     pub(crate) fn of(listener: Option<Listener<Event>>) -> Events {
         Events {
             listener,

@@ -4,12 +4,12 @@ use std::io;
 
 /// A folder of files that one database has open. [`DiskFolder`](crate::DiskFolder) is one of the file system.
 ///
-/// What was synced survives a crash, and nothing else does for certain: a file's bytes by [`File::sync`], and the names
+/// Synced bytes and names survive a crash, and nothing else does for certain: a file's bytes by [`File::sync`], and the names
 /// of files by [`Folder::sync`].
 pub trait Folder: Send + Sync {
     /// The names of all files.
     fn names(&self) -> io::Result<Vec<String>>;
-    /// How many bytes a file has.
+    /// The size of a file in bytes.
     fn length(&self, name: &str) -> io::Result<u64>;
     /// The bytes of a file.
     fn read(&self, name: &str) -> io::Result<Vec<u8>>;

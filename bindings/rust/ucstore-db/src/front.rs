@@ -6,7 +6,7 @@ use crate::shown::Shown;
 use std::collections::VecDeque;
 use std::mem;
 
-/// How many views before the shown one stay.
+/// The number of views before the shown one that stay.
 const MOST_BEFORE: usize = 8;
 
 /// The view that is shown to readers, and the last ones before it.
@@ -30,7 +30,7 @@ impl Front {
         is_full.then(|| self.before.pop_front()).flatten()
     }
 
-    /// Shows a view behind a write. Returns those that stay no longer: all, if another thread wrote last.
+    /// Shows a view after a write. Returns those that stay no longer: all, if another thread wrote last.
     #[must_use = "they are freed behind the lock"]
     pub(crate) fn show_written(&mut self, next: Shown) -> (VecDeque<Shown>, Option<Shown>) {
         let place = own_place();
@@ -44,7 +44,7 @@ impl Front {
         (others, old)
     }
 
-    /// The shown view, if it has so many groups.
+    /// The shown view, if it has at least this many groups.
     pub(crate) fn share(&self, least: u64) -> Result<Option<Shown>, Error> {
         let shown = self.newest.as_ref().filter(|shown| shown.taken >= least);
         shown.map(Shown::again).transpose()
@@ -57,7 +57,7 @@ impl Front {
         old
     }
 
-    /// How many groups each view has.
+    /// The number of groups in each view.
     #[cfg(test)]
     pub(crate) fn taken(&self) -> impl Iterator<Item = u64> + '_ {
         let all = self.before.iter().chain(&self.newest);

@@ -6,7 +6,7 @@ use crate::lock;
 use crate::patience::Patience;
 use std::sync::{Arc, Mutex, OnceLock};
 
-/// How many bytes a group has at most, if it isn't a single batch.
+/// The most bytes of a group that isn't a single batch.
 const MOST_BYTES: usize = 1 << 20;
 
 /// Batches that are written as one.
@@ -15,19 +15,19 @@ pub(crate) struct Group {
     pub(crate) batch: Vec<u8>,
     /// Whether it is to be on the device when it is acknowledged.
     pub(crate) is_synced: bool,
-    /// How many batches it has.
+    /// The number of its batches.
     pub(crate) batches: u64,
     /// There is one once another writer waits for it.
     outcome: Option<Arc<Outcome>>,
 }
 
-/// What becomes of a group, which its writers wait for.
+/// The outcome of a group, which its writers wait for.
 #[derive(Default)]
 pub(crate) struct Outcome {
     told: OnceLock<Result<(), Error>>,
 }
 
-/// What a writer does about its batch.
+/// The role of a writer for its batch.
 pub(crate) enum Role {
     /// It writes the group, which others may join until then.
     Leads,

@@ -10,7 +10,7 @@ pub(crate) fn numbers_of(batch: &[u8]) -> Option<(u64, u32)> {
     Some((u64::from_le_bytes(*sequence), u32::from_le_bytes(*count)))
 }
 
-/// How many operations a batch has.
+/// The number of a batch's operations.
 pub(crate) fn count_of(batch: &[u8]) -> u32 {
     let (_, count) = numbers_of(batch).expect("a batch has a header");
     count

@@ -3,7 +3,7 @@
 use std::mem::MaybeUninit;
 use ucstore::{Error, LookupSource, Store, View};
 
-/// What a key is looked up in.
+/// The place where a key is looked up.
 pub(crate) enum Holder<'a> {
     View(&'a View),
     /// The store itself, which is locked meanwhile.

@@ -3,7 +3,7 @@
 use crate::padded::Padded;
 use std::sync::atomic::{AtomicUsize, Ordering};
 
-/// How many there are.
+/// The number of lanes.
 const LANES: usize = 16;
 
 /// The number of the next thread.
@@ -21,12 +21,12 @@ pub(crate) struct Lanes<T> {
 }
 
 impl<T> Lanes<T> {
-    /// That of the calling thread.
+    /// The lane of the calling thread.
     pub(crate) fn own(&self) -> &T {
         &self.lanes[own_place()].0
     }
 
-    /// That of the calling thread, and the next one.
+    /// The lane of the calling thread, and the next one.
     pub(crate) fn own_and_next(&self) -> [&T; 2] {
         let own = own_place();
         [own, (own + 1) % LANES].map(|place| &self.lanes[place].0)

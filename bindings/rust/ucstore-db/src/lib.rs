@@ -44,7 +44,7 @@
 //! # The folder
 //!
 //! `LOCK` is locked by the process that has the database open. `OPERATOR` names the operator that the folder was made
-//! with. `000001.log` and those behind it are write-ahead logs as
+//! with. `000001.log` and those after it are write-ahead logs as
 //! RocksDB writes them. A checkpoint `000007-1234.base` is such a log too. It holds what was written up to sequence 1234, where it ends:
 //! all of the logs before `000007.log`, and of that one what comes up to there. `000007.log.lost` has what an opening cut off that log,
 //! where a crash had left it. A [`Folder`] of another device may stand for the file system.

@@ -26,7 +26,7 @@ pub(crate) struct Log {
     pub(crate) number: u64,
     /// The sequence before its first one.
     pub(crate) before: u64,
-    /// How many bytes it has.
+    /// Its size in bytes.
     pub(crate) length: u64,
     /// The number of them that are on the device for certain.
     synced: u64,
@@ -46,11 +46,11 @@ pub(crate) struct Older {
     pub(crate) number: u64,
     /// The sequence before its first one.
     pub(crate) before: u64,
-    /// How many bytes it has.
+    /// Its size in bytes.
     pub(crate) length: u64,
 }
 
-/// What a log is written by.
+/// The writer of a log.
 enum Writer {
     /// Nothing was written yet: this is done before.
     Unready(Unready),
@@ -61,7 +61,7 @@ enum Writer {
 pub(crate) enum Refusal {
     /// The log is as it was, and goes on.
     Passes(Error),
-    /// What its file holds isn't known.
+    /// The contents of its file aren't known.
     Lasts(Error),
 }
 
@@ -73,7 +73,7 @@ pub(crate) struct SyncApart {
     length: u64,
 }
 
-/// What has to be done to have a log on the device.
+/// The work that is left to have a log on the device.
 pub(crate) enum Syncing {
     Nothing,
     /// While it is written to.
@@ -208,7 +208,7 @@ impl Log {
         Ok(())
     }
 
-    /// How many bytes the logs have that no base holds.
+    /// The size of the logs that no base holds in bytes.
     pub(crate) fn bytes(&self) -> u64 {
         let older: u64 = self.older.iter().map(|log| log.length).sum();
         older + self.length
@@ -298,7 +298,7 @@ impl SyncApart {
     }
 }
 
-/// What an error of a log's file says. Its name isn't needed before.
+/// The error of a log's file. Its name isn't needed before.
 fn refusal(number: u64) -> impl FnOnce(io::Error) -> Error {
     move |error| Error::of_file(&Name::Log(number).text())(error)
 }

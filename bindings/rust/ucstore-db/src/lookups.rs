@@ -7,7 +7,7 @@ use ucstore::{Error, LookupSource};
 /// Of how many lookups one is asked where it is answered.
 const SHARE: u64 = 64;
 
-/// How many keys were looked up, and where some of them were answered.
+/// The number of keys looked up, and where some of them were answered.
 #[derive(Default)]
 pub(crate) struct Lookups {
     all: Lanes<Count>,
@@ -42,7 +42,7 @@ impl Lookups {
         self.all.own().add(count);
     }
 
-    /// How many there were.
+    /// Their number.
     pub(crate) fn count(&self) -> u64 {
         self.all.iter().map(Count::get).sum()
     }
@@ -52,7 +52,7 @@ impl Lookups {
         SHARE * self.asked(source).get()
     }
 
-    /// How many of those that were asked were answered there.
+    /// The number of asked lookups that were answered there.
     fn asked(&self, source: LookupSource) -> &Count {
         match source {
             LookupSource::Memtable => &self.by_memtable,
@@ -74,7 +74,7 @@ mod tests {
     use super::*;
     use LookupSource::{Filters, Memtable, Runs};
 
-    /// How many of a thousand times [`SHARE`] lookups are asked that are one turn of some.
+    /// The number of a thousand times [`SHARE`] lookups that are asked, in one turn of some.
     fn asked_of(turn: u64, turns: u64) -> usize {
         let numbers = (0..1000 * SHARE).map(|round| round * turns + turn);
         numbers.filter(|&number| is_asked(number)).count()

@@ -25,7 +25,7 @@ pub(crate) fn with_mark(batch: &[u8], unsynced: u64) -> Vec<u8> {
     marked
 }
 
-/// What the records of a batch begin with: how many bytes its mark tells, if it has one, and what is after that.
+/// Splits the records of a batch: the number of bytes that its mark tells, if it has one, and the rest.
 pub(crate) fn split(body: &[u8]) -> (Option<u64>, &[u8]) {
     let found = (|| {
         let (start, rest) = body.split_first_chunk()?;
@@ -51,7 +51,7 @@ pub(crate) fn synced_before(rest: &[u8], offset: u64) -> Option<u64> {
 pub(crate) fn closing_record(length: u64, last: u64) -> Result<Vec<u8>, ucstore::Error> {
     let mut header = [0; HEADER_SIZE];
     header[..8].copy_from_slice(&(last + 1).to_le_bytes());
-    // How it is spelled depends on no operator.
+    // Its spelling depends on no operator.
     let store = Store::create(Operator::Append, &ucstore::Options::default())?;
     store.prepare_bytes(length, &with_mark(&header, 0))
 }

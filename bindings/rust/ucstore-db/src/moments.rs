@@ -14,14 +14,14 @@ pub(crate) struct Moments {
     end: Option<u64>,
     /// Up to which sequence a batch may begin that is given up.
     give_up_until: u64,
-    /// What there was at the marks that were reached.
+    /// The views at the marks that were reached.
     pub(crate) marks: Vec<View>,
     /// The file that is read.
     name: Name,
 }
 
 impl Moments {
-    /// Those of the options.
+    /// The moments of the options.
     pub(crate) fn of(options: &Options) -> Moments {
         let mut left = options.marks.clone();
         left.sort_unstable_by(|one, other| other.cmp(one));
@@ -116,14 +116,14 @@ impl Moments {
     }
 }
 
-/// What says that a batch that begins at a sequence can't be given up.
+/// The error that a batch that begins at a sequence can't be given up.
 fn was_acknowledged(name: Name, offset: u64, begin: u64) -> Error {
     let before = begin - 1;
     let fault = format!("a batch begins at sequence {begin}, so that {before} was acknowledged");
     refusal(name, offset, fault)
 }
 
-/// What says that a file can't be recovered to a sequence.
+/// The error that a file can't be recovered to a sequence.
 fn refusal(name: Name, offset: u64, fault: String) -> Error {
     Error::NotRecoverable {
         file: name.text(),

@@ -1,6 +1,6 @@
 //! [`Name`]: the names of a database's files.
 
-/// What a file of a folder is.
+/// The meaning of a file's name.
 #[derive(Clone, Copy, Debug, PartialEq, Eq, PartialOrd, Ord)]
 pub(crate) enum Name {
     /// A log, by its number.
@@ -12,14 +12,14 @@ pub(crate) enum Name {
     Partial(u64),
     /// A log that was being written anew.
     NewLog(u64),
-    /// What an opening has cut off a log and set aside, from 1 on.
+    /// Bytes that an opening has cut off a log and set aside, from 1 on.
     Lost(u64, u64),
     /// The same while it was being written.
     NewLost(u64),
 }
 
 impl Name {
-    /// What a name says; none if the file isn't of a database.
+    /// The meaning of a name; none if the file isn't of a database.
     pub(crate) fn of(name: &str) -> Option<Name> {
         let (stem, kind) = name.split_once('.')?;
         let (number, sequence) = match stem.split_once('-') {

@@ -16,10 +16,10 @@ use ucstore::{Store, View};
 /// From how many scans between two groups on the writer sorts the next view for them.
 const MANY_SCANS: u32 = 2;
 
-/// How many writes a writer sorts at most.
+/// The most writes that a writer sorts.
 const MOST_TO_SORT: u64 = 1024;
 
-/// How often a thread asks the store itself between two groups. Behind that it has a view, and needs no lock that threads share.
+/// The number of times that a thread asks the store itself between two groups. Then it has a view, and needs no lock that threads share.
 const MOST_ASKED: u32 = 4;
 
 /// The newest views of a store.
@@ -28,7 +28,7 @@ const MOST_ASKED: u32 = 4;
 /// A thread looks keys up in the view of a slot, which is locked for it alone. A key that no group has written since is in an old view
 /// as it is now. For another key it asks the store itself, unless that isn't free soon or was asked often since the last group: then it
 /// renews the view from the shown one. So threads that write and read make few views, and each one makes the store's memtables more.
-/// The writer of the next group shows the next one if this one was used. Else the first reader behind it does. Behind many scans it
+/// The writer of the next group shows the next one if this one was used. Else the first reader after it does. After many scans it
 /// also sorts that for them, so that no thread that scans has to.
 ///
 /// There are 26 views at most: those of 16 slots, one for scans, the shown one, and eight before it.
@@ -39,9 +39,9 @@ const MOST_ASKED: u32 = 4;
 /// Locks are taken in the order of these fields, and the store's before that of `shown`.
 #[derive(Default)]
 pub(crate) struct Newest {
-    /// How many groups were taken, or changes of the runs. It is raised while the store is locked.
+    /// The number of groups taken, or changes of the runs. It is raised while the store is locked.
     taken: Padded<AtomicU64>,
-    /// How many there were at the last change of the runs.
+    /// Their number at the last change of the runs.
     changed: Padded<AtomicU64>,
     slots: Lanes<Mutex<Slot>>,
     /// A view for scans, in which what no run has yet is sorted.
@@ -50,22 +50,22 @@ pub(crate) struct Newest {
     shown: Padded<Mutex<Front>>,
     /// Whether the shown view was used.
     is_used: Padded<AtomicBool>,
-    /// How many scans there were since, up to [`MANY_SCANS`].
+    /// The number of scans since then, up to [`MANY_SCANS`].
     scans: Padded<AtomicU32>,
     touched: Touched,
 }
 
-/// What a thread looks keys up in.
+/// The view in which a thread looks keys up.
 #[derive(Default)]
 struct Slot {
     shown: Option<Shown>,
-    /// How often the store was to be asked instead since so many groups were taken.
+    /// The number of times that the store was to be asked instead, at a number of groups.
     asked: u32,
     asked_at: u64,
 }
 
 impl Slot {
-    /// Whether the store may be asked after so many groups. Then it is counted.
+    /// Whether the store may be asked at this number of groups. Then it is counted.
     fn may_ask(&mut self, taken: u64) -> bool {
         if self.asked_at != taken {
             (self.asked, self.asked_at) = (0, taken);
@@ -175,7 +175,7 @@ impl Newest {
         // Either this finds a view that is unlocked, or its user finds the change.
         fence(Ordering::SeqCst);
         let old = lock(&self.shown.0).take_old(least);
-        // What only they hold is freed while nobody waits.
+        // Memory that only they hold is freed while nobody waits.
         drop(old);
         for slot in self.slots.iter() {
             self.let_go_of(slot);
@@ -183,7 +183,7 @@ impl Newest {
         self.let_go_of_sorted();
     }
 
-    /// Lets go of a view of so many groups, which was used and is unlocked, if the runs were changed since.
+    /// Lets go of a view at a number of groups, which was used and is unlocked, if the runs were changed since.
     fn end_use(&self, taken: u64, let_go: impl FnOnce()) {
         fence(Ordering::SeqCst);
         if taken < self.changed.0.load(Ordering::Relaxed) {
@@ -209,12 +209,12 @@ impl Newest {
         held.take_if(|shown| shown.taken < least)
     }
 
-    /// How many groups were taken.
+    /// The number of groups taken.
     fn taken(&self) -> u64 {
         self.taken.0.load(Ordering::Acquire)
     }
 
-    /// A view that has so many groups at least.
+    /// A view that has at least this many groups.
     fn shown(&self, least: u64, store: &Mutex<Store>) -> Result<Shown, Error> {
         self.use_shown();
         if let Some(shown) = lock(&self.shown.0).share(least)? {

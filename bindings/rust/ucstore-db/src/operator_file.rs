@@ -16,7 +16,7 @@ const ALL: [Operator; 4] = [
     Operator::Tail,
 ];
 
-/// What an operator is called.
+/// The name of an operator.
 pub(crate) fn word(operator: Operator) -> &'static str {
     match operator {
         Operator::Append => "append",

@@ -15,7 +15,7 @@ pub enum Sync {
     Never,
 }
 
-/// How a database is kept.
+/// The options of a database.
 ///
 /// ```
 /// # use ucstore_db::{Options, Sync};
@@ -24,21 +24,21 @@ pub enum Sync {
 /// ```
 #[derive(Clone, Debug, PartialEq, Eq)]
 pub struct Options {
-    /// Which operator merges a key's operands into its value. A folder is opened with the one that it was made with, which
+    /// The operator that merges a key's operands into its value. A folder is opened with the one that it was made with, which
     /// its file `OPERATOR` names.
     pub operator: Operator,
     /// When a write is on the device.
     pub sync: Sync,
-    /// How the store in memory is kept. It flushes and compacts by itself if there are no `compactors`; else it gathers at
+    /// The options of the store in memory. It flushes and compacts by itself if there are no `compactors`; else it gathers at
     /// least two memtables.
     pub store: ucstore::Options,
-    /// How many threads compact; one more is kept for flushes. With 0, writes flush and compact.
+    /// The number of threads that compact; one more is kept for flushes. With 0, writes flush and compact.
     pub compactors: usize,
     /// From how many runs on writes are slowed, by a millisecond each time.
     pub slow_trigger: u32,
     /// By how many times the logs exceed the data when a checkpoint is made.
     pub checkpoint_ratio: u64,
-    /// How many bytes the logs have at least when a checkpoint is made. With [`u64::MAX`] none is made by itself.
+    /// The least size of the logs in bytes at which a checkpoint is made. With [`u64::MAX`] none is made by itself.
     pub checkpoint_least: u64,
     /// Refuses to make a database: there has to be one in the folder. Nothing is made there then.
     pub must_exist: bool,
@@ -87,7 +87,7 @@ impl Options {
         self.most_gathered() - self.store.write_buffer_size / 4
     }
 
-    /// How many bytes are gathered at most: a write that finds more waits for a flush.
+    /// The most bytes that are gathered: a write that finds more waits for a flush.
     pub(crate) fn most_gathered(&self) -> u64 {
         let store = self.to_store();
         store

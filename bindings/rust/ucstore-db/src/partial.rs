@@ -35,7 +35,7 @@ impl<'a> Partial<'a> {
 
     /// Gives it its name, once it was synced.
     pub(crate) fn rename(mut self, whole: &str) -> Result<(), Error> {
-        // What fails may be done nevertheless. So it keeps its bytes from here on.
+        // A failed operation may be done nevertheless. So it keeps its bytes from here on.
         self.is_named = true;
         let renamed = self.folder.rename(&self.name, whole);
         if renamed.is_err() {

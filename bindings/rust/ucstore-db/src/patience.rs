@@ -7,16 +7,16 @@ use std::sync::{Mutex, MutexGuard};
 use std::thread;
 use std::time::{Duration, Instant};
 
-/// How often a thread looks without giving up its processor.
+/// The number of times that a thread looks without giving up its processor.
 const SPINS: u32 = 50;
 
-/// How often it pauses at most between two looks. The fewer look at a lock, the sooner it is given back: each look takes its cache line.
+/// The most pauses between two looks. The fewer look at a lock, the sooner it is given back: each look takes its cache line.
 const MOST_PAUSES: u32 = 32;
 
 /// For how long it lets others use that before it looks again. Where one of them keeps it, that is once.
 const YIELDS: Duration = Duration::from_micros(50);
 
-/// How often a thread looks for what it waits for, before it sleeps. To sleep and be woken takes longer than most groups do.
+/// The patience of a thread that waits: how often it looks before it sleeps. To sleep and be woken takes longer than most groups do.
 #[derive(Clone, Copy, PartialEq, Eq)]
 pub(crate) enum Patience {
     /// It sleeps at once: a device is waited for.
@@ -28,7 +28,7 @@ pub(crate) enum Patience {
 }
 
 impl Patience {
-    /// That of a writer, for the group before its own or for its leader.
+    /// The patience of a writer, for the group before its own or for its leader.
     pub(crate) fn of(sync: Sync) -> Patience {
         match sync {
             Sync::Always => Patience::None,
@@ -71,7 +71,7 @@ impl Patience {
 mod tests {
     use super::*;
 
-    /// How often it looks for what is there at some look, and whether it finds it.
+    /// The number of looks for what is there at some look, and whether it is found.
     fn looks(patience: Patience, found_at: u32) -> (u32, bool) {
         let mut looks = 0;
         let found = patience.look(|| {

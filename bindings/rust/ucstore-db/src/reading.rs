@@ -5,22 +5,22 @@ use crate::event::{Listener, Progress};
 use crate::folder::Folder;
 use crate::name::Name;
 
-/// Behind how many bytes the listener is told.
+/// The number of bytes between two reports to the listener.
 const STEP: u64 = 1 << 20;
 
-/// How far the files of a folder are read, for a listener if there is one.
+/// The progress of reading the files of a folder, for a listener if there is one.
 pub(crate) struct Reading<'a> {
     listener: Option<&'a Listener<Progress>>,
-    /// How many bytes the files before this one have.
+    /// The size of the files before this one in bytes.
     before: u64,
-    /// How many bytes all files have.
+    /// The size of all files in bytes.
     whole: u64,
     /// From how many bytes on the listener is told again.
     next: u64,
 }
 
 impl<'a> Reading<'a> {
-    /// That of files. Their lengths are asked for a listener alone.
+    /// The progress of reading files. Their lengths are asked for a listener alone.
     pub(crate) fn of(
         folder: &dyn Folder,
         names: impl Iterator<Item = Name>,
@@ -48,7 +48,7 @@ impl<'a> Reading<'a> {
         }
     }
 
-    /// Tells that a file was read, of so many bytes.
+    /// Reports that a file was read, of this length in bytes.
     pub(crate) fn end(&mut self, name: Name, length: u64) {
         self.before += length;
         self.tell_at(name, self.before);

@@ -11,7 +11,7 @@ pub(crate) const HEADER_SIZE: usize = 7;
 /// The most records that hold the first bytes of a batch.
 const MOST_PARTS: usize = 3;
 
-/// Which part of a batch a record is.
+/// The part of a batch that a record is.
 #[derive(Clone, Copy, Debug, PartialEq, Eq)]
 pub(crate) enum Part {
     Full,
@@ -61,7 +61,7 @@ impl Header {
         })
     }
 
-    /// Which part of a batch the record is, if it may stand at a place.
+    /// The part of a batch that the record is, if it may stand at a place.
     pub(crate) fn part_at(&self, place: u64) -> Option<Part> {
         Part::of(self.code).filter(|_| self.fits(place))
     }

@@ -24,7 +24,7 @@ struct Files {
     base: Option<(u64, Option<u64>)>,
     /// The numbers of the logs after the base, one by one.
     logs: Vec<u64>,
-    /// What holds nothing that isn't elsewhere.
+    /// Files that hold nothing that isn't elsewhere.
     spent: Vec<Name>,
     /// Whether one names the operator.
     has_operator: bool,
@@ -46,7 +46,7 @@ pub(crate) struct Recovery {
     before: u64,
     /// Where they end.
     length: u64,
-    /// What is after them.
+    /// The end after them.
     ending: Ending,
     /// The logs before it.
     older: Vec<Older>,
@@ -65,7 +65,7 @@ pub(crate) struct Opened {
 }
 
 impl Files {
-    /// Finds the newest base, and the logs behind it.
+    /// Finds the newest base, and the logs after it.
     fn of(folder: &dyn Folder) -> Result<Files, Error> {
         let texts = folder.names().map_err(Error::of_file(""))?;
         let has_operator = texts.iter().any(|text| text == operator_file::OPERATOR);
@@ -254,7 +254,7 @@ impl Recovery {
         }
     }
 
-    /// Checks that nothing was left behind the batches of the file that was read last.
+    /// Checks that nothing was left after the batches of the file that was read last.
     fn check_whole(&self, name: Name) -> Result<(), Error> {
         match self.ending.clone() {
             Ending::Left(offset, fault) => Err(damaged(name, offset, fault)),

@@ -24,7 +24,7 @@ pub(crate) enum Begin {
     Anywhere,
 }
 
-/// How far a file was read.
+/// The outcome of reading a file.
 pub(crate) struct Replay {
     /// Where the last whole batch ends.
     pub(crate) end: u64,
@@ -36,9 +36,9 @@ pub(crate) struct Replay {
 pub(crate) enum Stop {
     /// No batch may follow.
     Ended(Ended),
-    /// The sequence of the next batch isn't the one behind it.
+    /// The sequence of the next batch isn't the one after it.
     Gap,
-    /// What is behind it is given up.
+    /// Everything after it is given up.
     Enough,
     /// Nothing but a record follows that says that all before it is on the device.
     Closed,
@@ -193,7 +193,7 @@ fn pass_over(windows: &mut Windows, last: u64) -> Result<Option<u64>, Error> {
     }
 }
 
-/// How a log ends, in a part after so many of its batches.
+/// The end of a log, in a part after a number of its batches.
 fn numbered(ended: Ended, batches: u64) -> Ended {
     match ended {
         Ended::BatchFault { payload, fault } if fault != BatchFault::OutOfMemory => {

@@ -23,7 +23,7 @@ use ucstore::{Store, View};
 /// From how many bytes on a group has the store for so long that what there is before it is shown.
 const LONG_GROUP: usize = 64 << 10;
 
-/// What the threads of a database share.
+/// The state that the threads of a database share.
 ///
 /// Locks are taken in the order of these fields, but for the last one of `newest`, which says so. Who writes holds `log` from before
 /// the batch is prepared until it is committed; the store is locked for each call alone, so that views and jobs are taken meanwhile.
@@ -47,7 +47,7 @@ pub(crate) struct Shared {
     failure: OnceLock<Error>,
     /// Whether a damaged directory was opened to be read alone.
     pub(crate) is_salvaged: bool,
-    /// What failed first in a thread of the database's own.
+    /// The first failure in a thread of the database's own.
     pub(crate) noted: Mutex<Option<Error>>,
     /// Whether the log has refused what it was asked for last.
     is_refused: AtomicBool,
@@ -56,9 +56,9 @@ pub(crate) struct Shared {
     /// Whether the last write was slowed.
     pub(crate) is_slowed: AtomicBool,
     pub(crate) jobs: JobsOut,
-    /// How many bytes the writes have at most that no run has yet. It is changed while the store is locked, or the log.
+    /// The most bytes of the writes that no run has yet. It is changed while the store is locked, or the log.
     pub(crate) gathered: AtomicU64,
-    /// How many runs there were after the last write or compaction.
+    /// The number of runs after the last write or compaction.
     pub(crate) runs: AtomicU64,
     pub(crate) is_closing: AtomicBool,
     /// The thread that makes checkpoints, and whether it should.
@@ -66,7 +66,7 @@ pub(crate) struct Shared {
     pub(crate) is_checkpoint_due: AtomicBool,
     /// From how many bytes of logs on the next one is made.
     pub(crate) checkpoint_due: AtomicU64,
-    /// What there was at the marks, as far as it wasn't given out.
+    /// The views at the marks that weren't given out.
     pub(crate) marks: Mutex<Vec<View>>,
 }
 
@@ -102,7 +102,7 @@ impl Shared {
         Ok(shared)
     }
 
-    /// What is shared of a store and its log.
+    /// The shared state of a store and its log.
     fn of(
         store: Store,
         log: Option<Log>,
@@ -151,7 +151,7 @@ impl Shared {
                 Role::Leads => return self.lead(patience),
                 Role::Follows(outcome) => return outcome.wait(patience),
                 Role::Waits(outcome, batch) => {
-                    // What becomes of others is theirs.
+                    // Errors of others are theirs.
                     let _ = outcome.wait(patience);
                     batch
                 }
@@ -161,7 +161,7 @@ impl Shared {
 
     /// Writes the open group after those before it.
     fn lead(&self, patience: Patience) -> Result<(), Error> {
-        // Who looks at the lock takes its cache line from the thread that has it.
+        // A thread that looks at the lock takes its cache line from the thread that has it.
         patience.look(|| (!self.is_writing.load(Ordering::Relaxed)).then_some(()));
         let mut log = patience.lock(&self.log);
         self.is_writing.store(true, Ordering::Relaxed);
@@ -174,7 +174,7 @@ impl Shared {
         told
     }
 
-    /// Takes a group, behind its record in the log if there is one.
+    /// Takes a group, after its record in the log if there is one.
     pub(crate) fn take(&self, log: &mut Option<Log>, group: &Group) -> Result<(), Error> {
         self.check()?;
         self.slow_down();
@@ -217,7 +217,7 @@ impl Shared {
         Ok(is_flushed)
     }
 
-    /// What is told where the log refuses something. Of refusals that pass, the first one in a row is told by an event.
+    /// The error where the log refuses something. Of refusals that pass, the first one in a row is reported by an event.
     pub(crate) fn refuse(&self, refusal: Refusal) -> Error {
         match refusal {
             Refusal::Lasts(error) => self.fail(error),

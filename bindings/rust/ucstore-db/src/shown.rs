@@ -7,9 +7,9 @@ use ucstore::View;
 /// A view, and which groups it has.
 pub(crate) struct Shown {
     pub(crate) view: View,
-    /// How many groups were taken, or changes of the runs.
+    /// The number of groups taken, or changes of the runs.
     pub(crate) taken: u64,
-    /// How many of these were groups.
+    /// The number of groups among these.
     pub(crate) groups: u64,
     /// Whether what no run has yet is sorted in it.
     pub(crate) is_sorted: bool,

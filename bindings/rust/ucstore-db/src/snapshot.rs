@@ -14,7 +14,7 @@ use ucstore::{Scan, View};
 /// [`next_row`](Scan::next_row) lends each row; as an iterator it copies them.
 pub type Rows = Scan<View>;
 
-/// What a database held at a moment. It stays so, whatever is written, and ends where it is dropped. Each thread reads
+/// The contents of a database at a moment. They stay so, whatever is written, and it ends where it is dropped. Each thread reads
 /// a clone of its own.
 ///
 /// ```
@@ -33,12 +33,12 @@ pub struct Snapshot {
     view: View,
     /// Whether what no run has yet is sorted in it, for scans.
     is_sorted: Cell<bool>,
-    /// Those of its database.
+    /// The counts of its database.
     counts: Arc<Counts>,
 }
 
 impl Snapshot {
-    /// That of a view.
+    /// The snapshot of a view.
     pub(crate) fn of(view: View, counts: &Arc<Counts>) -> Snapshot {
         Snapshot {
             view,
@@ -47,14 +47,14 @@ impl Snapshot {
         }
     }
 
-    /// That of a view in which scans have nothing to sort.
+    /// The snapshot of a view in which scans have nothing to sort.
     pub(crate) fn sorted(view: View, counts: &Arc<Counts>) -> Snapshot {
         let snapshot = Snapshot::of(view, counts);
         snapshot.is_sorted.set(true);
         snapshot
     }
 
-    /// What it shows, and whose counts it has.
+    /// The view that it shows, and the counts that it has.
     pub(crate) fn parts(&self) -> (&View, &Arc<Counts>) {
         (&self.view, &self.counts)
     }
@@ -91,7 +91,7 @@ impl Snapshot {
     ///
     /// # Errors
     ///
-    /// Those of [`get`](Snapshot::get).
+    /// As [`get`](Snapshot::get).
     pub fn get_into(&self, key: impl AsRef<[u8]>, value: &mut Vec<u8>) -> Result<bool, Error> {
         Ok(self.view_to_read(&key).get_into(key, value)?)
     }
@@ -101,7 +101,7 @@ impl Snapshot {
     ///
     /// # Errors
     ///
-    /// Those of [`get`](Snapshot::get).
+    /// As [`get`](Snapshot::get).
     pub fn get_to_room(
         &self,
         key: impl AsRef<[u8]>,
@@ -114,7 +114,7 @@ impl Snapshot {
     ///
     /// # Errors
     ///
-    /// Those of [`get`](Snapshot::get).
+    /// As [`get`](Snapshot::get).
     pub fn get_many<K: AsRef<[u8]>>(
         &self,
         keys: impl IntoIterator<Item = K>,
@@ -134,7 +134,7 @@ impl Snapshot {
     ///
     /// # Errors
     ///
-    /// Those of [`get`](Snapshot::get), also for each row.
+    /// As [`get`](Snapshot::get), also for each row.
     pub fn iter(&self) -> Result<Rows, Error> {
         self.range("", None)
     }
@@ -143,7 +143,7 @@ impl Snapshot {
     ///
     /// # Errors
     ///
-    /// Those of [`iter`](Snapshot::iter).
+    /// As [`iter`](Snapshot::iter).
     pub fn range(&self, low: impl AsRef<[u8]>, high: Option<&[u8]>) -> Result<Rows, Error> {
         Ok(self.view_to_scan()?.into_scan(low, high))
     }
@@ -152,7 +152,7 @@ impl Snapshot {
     ///
     /// # Errors
     ///
-    /// Those of [`iter`](Snapshot::iter).
+    /// As [`iter`](Snapshot::iter).
     pub fn prefix(&self, prefix: impl AsRef<[u8]>) -> Result<Rows, Error> {
         Ok(self.view_to_scan()?.into_prefix(prefix))
     }

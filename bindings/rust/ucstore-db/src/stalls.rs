@@ -30,7 +30,7 @@ enum Cause {
 }
 
 impl Shared {
-    /// Slows a write while flushes or compactions fall behind. Requires `log` held.
+    /// Slows a write while flushes or compactions lag. Requires `log` held.
     pub(crate) fn slow_down(&self) {
         let cause = self.cause_to_slow();
         let was_slow = self.is_slowed.swap(cause.is_some(), Ordering::Relaxed);

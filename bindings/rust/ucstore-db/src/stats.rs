@@ -6,7 +6,7 @@ use std::fmt;
 use std::time::Duration;
 use ucstore::LookupSource;
 
-/// What a database holds, and what it did since it was opened. Shown, it is a table with a line for each number.
+/// Figures of what a database holds, and of what it did since it was opened. Shown, it is a table with a line for each number.
 #[derive(Clone, Copy, Debug, Default, PartialEq, Eq)]
 #[non_exhaustive]
 pub struct Stats {
@@ -14,17 +14,17 @@ pub struct Stats {
     pub uptime: Duration,
     /// The sequence of the last write.
     pub last: u64,
-    /// How many runs there are.
+    /// The number of runs.
     pub runs: u64,
     /// The bytes of all runs.
     pub bytes: u64,
-    /// How many writes no run has yet.
+    /// The number of writes that no run has yet.
     pub gathered: u64,
     /// The bytes of the logs that no checkpoint holds.
     pub log_bytes: u64,
-    /// How many batches were taken.
+    /// The number of batches taken.
     pub batches: u64,
-    /// How many records of the log they shared.
+    /// The number of records of the log that they shared.
     pub groups: u64,
     /// The bytes of the batches.
     pub user_bytes: u64,
@@ -34,7 +34,7 @@ pub struct Stats {
     pub base_bytes: u64,
     /// The bytes that the opening cut off the end of a log, where a crash had left them, and [set aside](crate::Event::SetAside).
     pub set_aside_bytes: u64,
-    /// How many keys were looked up, in it and in its snapshots.
+    /// The number of keys looked up, in it and in its snapshots.
     pub lookups: u64,
     /// About how many of the lookups the memtables answered, as
     /// [`LookupSource::Memtable`](ucstore::LookupSource::Memtable) says. Of 64 lookups one is asked, and counts for all of
@@ -44,21 +44,21 @@ pub struct Stats {
     pub lookups_by_filters: u64,
     /// About how many of them runs answered.
     pub lookups_by_runs: u64,
-    /// How often a log was synced.
+    /// The number of syncs of a log.
     pub syncs: u64,
     /// The time that half of the last 1,024 syncs kept to.
     pub sync_p50: Duration,
     /// The time that 99 percent of the last 1,024 syncs kept to.
     pub sync_p99: Duration,
-    /// How often writes began to be slowed, or waited for a compaction.
+    /// The number of times that writes began to be slowed, or waited for a compaction.
     pub stalls: u64,
-    /// How many groups of writes were slowed because there were many runs.
+    /// The number of groups of writes that were slowed because there were many runs.
     pub slowed: u64,
     /// For how long writes were slowed or waited.
     pub stalled: Duration,
-    /// How many runs were made of what was gathered, but for those that the store made itself.
+    /// The number of runs made of gathered writes, but for those that the store made itself.
     pub flushes: u64,
-    /// How many compactions there were, but for those that the store made itself.
+    /// The number of compactions, but for those that the store made itself.
     pub compactions: u64,
     /// The bytes of the runs that these flushes made.
     pub flush_bytes: u64,
@@ -66,14 +66,14 @@ pub struct Stats {
     pub compaction_read: u64,
     /// The bytes of the runs that these compactions made.
     pub compaction_written: u64,
-    /// How many checkpoints were made.
+    /// The number of checkpoints made.
     pub checkpoints: u64,
     /// Whether nothing can be written any more.
     pub is_read_only: bool,
 }
 
 impl Stats {
-    /// Those of a database.
+    /// The figures of a database.
     pub(crate) fn of(shared: &Shared) -> Stats {
         let log_bytes = shared.log_bytes();
         let report = lock(&shared.store).report();
@@ -112,7 +112,7 @@ impl Stats {
         }
     }
 
-    /// How many bytes were written to files for each byte of the batches: 0 if there were none.
+    /// The bytes written to files for each byte of the batches: 0 if there were none.
     pub fn write_amplification(&self) -> f64 {
         match self.user_bytes {
             0 => 0.0,
@@ -120,7 +120,7 @@ impl Stats {
         }
     }
 
-    /// How many bytes of runs were made, by flushes and compactions, for each byte that was flushed: 0 if nothing was. The more runs may
+    /// The bytes of runs made by flushes and compactions for each byte that was flushed: 0 if nothing was. The more runs may
     /// be, the lower it is.
     pub fn run_amplification(&self) -> f64 {
         match self.flush_bytes {
@@ -129,7 +129,7 @@ impl Stats {
         }
     }
 
-    /// How many batches a record of the log has on average: 0 if there were none.
+    /// The average number of batches in a record of the log: 0 if there were none.
     fn batches_a_group(&self) -> f64 {
         self.batches as f64 / self.groups.max(1) as f64
     }

@@ -5,15 +5,15 @@ use std::collections::VecDeque;
 use std::sync::Mutex;
 use std::time::Duration;
 
-/// How many syncs are kept.
+/// The number of syncs that are kept.
 const KEPT: usize = 1024;
 
-/// How long the last syncs took, the oldest first.
+/// The times that the last syncs took, the oldest first.
 #[derive(Default)]
 pub(crate) struct SyncTimes(Mutex<VecDeque<Duration>>);
 
 impl SyncTimes {
-    /// Adds a sync, and forgets the oldest one behind many.
+    /// Adds a sync, and forgets the oldest one of many.
     pub(crate) fn add(&self, took: Duration) {
         let mut times = lock(&self.0);
         if times.len() == KEPT {
@@ -46,7 +46,7 @@ mod tests {
         for micros in 0..3000 {
             times.add(Duration::from_micros(micros));
         }
-        // Those from 1,976 to 2,999 are kept.
+        // The syncs from 1,976 to 2,999 are kept.
         let wanted = [2487, 2989, 2999].map(Duration::from_micros);
         assert_eq!(times.percentiles([50, 99, 100]), wanted);
     }

@@ -4,10 +4,10 @@ use crate::header::HEADER_SIZE;
 use crate::padded::Padded;
 use std::sync::atomic::{AtomicU64, Ordering};
 
-/// How many cells there are: a power of two.
+/// The number of cells: a power of two.
 const CELLS: usize = 1 << 16;
 
-/// How many operations of a group are noted one by one.
+/// The most operations of a group that are noted one by one.
 const MOST_NOTED: usize = 64;
 
 /// The tags of operations in a batch.
@@ -18,7 +18,7 @@ const MERGE: u8 = 2;
 /// The tag of log data, which touches no key.
 const LOG_DATA: u8 = 3;
 
-/// Which group wrote a key last, so that a reader knows whether an older view has the key as it is now.
+/// Notes the group that wrote a key last, so that a reader knows whether an older view has the key as it is now.
 ///
 /// Each key has a cell, which has the number of the last group that wrote such a key. Keys share cells: so one that wasn't written may
 /// be taken for one that was, and never the other way round.
@@ -26,7 +26,7 @@ const LOG_DATA: u8 = 3;
 /// One thread at a time notes and counts, the one that writes a group. What it has noted is seen by those who see what it releases
 /// after that.
 pub(crate) struct Touched {
-    /// How many groups were taken.
+    /// The number of groups taken.
     groups: Padded<AtomicU64>,
     /// The last group that has more operations, or other ones, than are noted one by one.
     all: AtomicU64,
@@ -45,7 +45,7 @@ impl Default for Touched {
 }
 
 impl Touched {
-    /// How many groups were taken. It is asked while the store is locked.
+    /// The number of groups taken. It is asked while the store is locked.
     pub(crate) fn groups(&self) -> u64 {
         self.groups.0.load(Ordering::Relaxed)
     }
@@ -69,7 +69,7 @@ impl Touched {
         self.groups.0.store(self.groups() + 1, Ordering::Relaxed);
     }
 
-    /// Whether no group after so many has written a key, among those that the caller has seen.
+    /// Whether no group after this number of them has written a key, among those that the caller has seen.
     pub(crate) fn is_as_of(&self, key: &[u8], groups: u64) -> bool {
         self.cell(key).load(Ordering::Relaxed) <= groups
             && self.all.load(Ordering::Relaxed) <= groups
@@ -102,7 +102,7 @@ struct Keys<'a> {
 }
 
 impl<'a> Keys<'a> {
-    /// Those after the header of a batch.
+    /// The keys after the header of a batch.
     fn of(batch: &'a [u8]) -> Keys<'a> {
         Keys {
             rest: &batch[HEADER_SIZE..],

@@ -9,7 +9,7 @@ use crate::operator_file;
 use std::io;
 use ucstore::Operator;
 
-/// What is done to a directory before it is written to.
+/// The work that is done on a directory before it is written to.
 pub(crate) struct Unready {
     /// The one to be named in a file.
     pub(crate) operator: Option<Operator>,
@@ -17,13 +17,13 @@ pub(crate) struct Unready {
     pub(crate) number: u64,
     /// Whether it has to be made.
     pub(crate) is_new: bool,
-    /// How much of it is kept.
+    /// The size of the part that is kept in bytes.
     pub(crate) length: u64,
-    /// What is after that.
+    /// The end after that.
     pub(crate) ending: Ending,
     /// The logs that are there, in their order. Those after this one go.
     pub(crate) logs: Vec<u64>,
-    /// What holds nothing that isn't elsewhere.
+    /// Files that hold nothing that isn't elsewhere.
     pub(crate) spent: Vec<Name>,
 }
 

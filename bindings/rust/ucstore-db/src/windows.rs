@@ -23,7 +23,7 @@ pub(crate) struct Windows<'a> {
 }
 
 impl<'a> Windows<'a> {
-    /// Those of a file.
+    /// The windows of a file.
     pub(crate) fn of(folder: &'a dyn Folder, name: Name) -> Result<Windows<'a>, Error> {
         let name = name.text();
         let length = folder.length(&name).map_err(Error::of_file(&name))?;
@@ -53,12 +53,12 @@ impl<'a> Windows<'a> {
         &self.bytes
     }
 
-    /// What the window has from an offset on, which is in it.
+    /// The bytes of the window from an offset on, which is in it.
     pub(crate) fn rest(&self, offset: u64) -> &[u8] {
         &self.bytes[(offset - self.begin) as usize..]
     }
 
-    /// What the file has from an offset on: as many bytes as asked for, or fewer at its end. At most a block's are asked for.
+    /// The bytes of the file from an offset on: as many as asked for, or fewer at its end. At most a block's are asked for.
     pub(crate) fn at(&mut self, offset: u64, length: usize) -> Result<&[u8], Error> {
         let offset = offset.min(self.length);
         let most = (self.length - offset).min(length as u64);
@@ -92,7 +92,7 @@ impl<'a> Windows<'a> {
     /// Goes on with a walk that ended in the window after the batches before an offset. Returns where the next batch may begin, which
     /// is in the window then, or how the walk ends with the file.
     ///
-    /// That place may be after the offset: the last bytes of a block hold no header, and the next window may begin with the next block.
+    /// The place may be after the offset: the last bytes of a block hold no header, and the next window may begin with the next block.
     pub(crate) fn go_on(
         &mut self,
         offset: u64,
@@ -159,7 +159,7 @@ impl<'a> Windows<'a> {
     }
 }
 
-/// How a log ends of which a part that begins at an offset ends so.
+/// The end of a log, by the end of a part that begins at an offset.
 fn from_begin(begin: u64, ended: Ended) -> Ended {
     match ended {
         Ended::Torn { offset } => Ended::Torn {

@@ -8,7 +8,7 @@ use std::collections::HashSet;
 use std::env;
 use std::mem;
 
-/// What a batch is like.
+/// The kind of a batch.
 #[derive(Clone, Copy, PartialEq, Eq, Debug)]
 enum Kind {
     Usual,
@@ -36,7 +36,7 @@ impl Kind {
     }
 }
 
-/// What becomes of a group.
+/// The fate of a group.
 #[derive(Clone, Copy, PartialEq, Eq, Debug)]
 enum Fate {
     Written,
@@ -54,7 +54,7 @@ struct Scenario {
 }
 
 impl Scenario {
-    /// Whether a step of a writer is tried behind those of a path: writers of a kind begin in their order, because they differ by
+    /// Whether a step of a writer is tried after those of a path: writers of a kind begin in their order, because they differ by
     /// nothing else.
     fn is_next(&self, writer: usize, path: &[usize]) -> bool {
         let is_alike = writer > 0 && self.kinds[writer - 1] == self.kinds[writer];
@@ -76,7 +76,7 @@ enum Place {
     Told(Result<(), Error>),
 }
 
-/// What became of a group, as the log has it.
+/// The record of a group, as the log has it.
 #[derive(Debug)]
 struct Record {
     writers: Vec<u8>,
@@ -96,7 +96,7 @@ struct State<'a> {
 }
 
 impl<'a> State<'a> {
-    /// The state behind steps of these writers.
+    /// The state after steps of these writers.
     fn behind(scenario: &'a Scenario, path: &[usize]) -> State<'a> {
         let kinds = scenario.kinds.iter().enumerate();
         let mut state = State {
@@ -201,7 +201,7 @@ impl<'a> State<'a> {
         assert_eq!(count_of(&group.batch), counts.sum::<u32>());
     }
 
-    /// A writer is told what became of its record, behind it.
+    /// Checks the outcome that a writer gets for its record.
     fn check_told(&self, writer: usize, told: &Result<(), Error>) {
         let is_its = |record: &&Record| record.writers.contains(&(writer as u8));
         let record = self.records.iter().find(is_its).expect("its record");
@@ -303,7 +303,7 @@ fn search(scenario: &Scenario) -> usize {
     met.len()
 }
 
-/// All choices of so many kinds, without their order: writers differ by nothing else.
+/// All choices of a number of kinds, without their order: writers differ by nothing else.
 fn choices(count: usize, kinds: &[Kind]) -> Vec<Vec<Kind>> {
     if count == 0 {
         return vec![vec![]];
@@ -316,7 +316,7 @@ fn choices(count: usize, kinds: &[Kind]) -> Vec<Vec<Kind>> {
     (0..kinds.len()).flat_map(begin).collect()
 }
 
-/// Searches all scenarios of so many writers, and tells how many states they have.
+/// Searches all scenarios of a number of writers, and returns their number of states.
 fn search_all(count: usize, kinds: &[Kind]) -> usize {
     let fates = [Fate::Failed, Fate::Refused];
     let faults = (0..count).flat_map(|number| fates.map(|fate| Some((number, fate))));

@@ -1,4 +1,4 @@
-//! Which views readers share, and when.
+//! The views that readers share, and when.
 
 use super::*;
 use crate::flushes;
@@ -8,11 +8,11 @@ use crate::shared::Shared;
 use std::thread;
 use ucstore::Batch;
 
-/// How many threads read: some share a slot.
+/// The number of threads that read: some share a slot.
 const READERS: usize = 24;
 
 impl Newest {
-    /// How many groups each view has that is held.
+    /// The number of groups in each view that is held.
     fn held(&self) -> Vec<u64> {
         let taken = |held: &Option<Shown>| held.as_ref().map(|shown| shown.taken);
         let slots = self
