@@ -1,0 +1,8 @@
+use Rattle.std.proofs.Common.{sym, ap, arith}
+use Rattle.std.proofs.lemmas.List.{drop_all}
+use Rattle.uc_log_crash.specs.Marks as marks
+use Rattle.uc_log_crash.proofs.mark.mark_of.Goals as goal
+
+pub returns-in-None : goal.returns-in-None
+unfolding marks.mark_in
+returns-in-None c = sym (ap marks.mark_in (drop_all 12 c.args.payload.now (omega (arith, c.in-None.ensures.lookup))))

@@ -1,0 +1,33 @@
+//! Laws about what a crash leaves of a log.
+ghost use Rattle.std.specs.Prelude.{ℕ, ◌≤◌, ◌++◌, List};
+ghost use Rattle.uc_logrec.specs.Walk.{Walks, BeginsWith};
+ghost use Rattle.uc_log_crash.specs.Shown.{Shows, IsUnforged, ReadsOn};
+ghost use Rattle.uc_log_crash.specs.Marks.{Tells, AreTrue, AreOwn};
+
+use uc_logrec::{walk_begins_log, walk_is_kept};
+
+/// The batches before the synced offset are read again, whatever the device shows after it.
+pub fn synced_batches_are_read()
+    ensures { (written shown : List ℕ) (synced : ℕ) (before : List (List ℕ)) → Walks written before synced →
+        Shows written synced shown → Walks shown before synced }
+{
+    walk_is_kept();
+}
+
+/// The batches that are read after the synced ones are those that were written next: all that is read is a beginning of the log. So a
+/// batch that isn't whole ends it, whatever is shown after that.
+pub fn batches_that_are_read_were_written()
+    ensures walk { (written shown : List ℕ) (synced : ℕ) (before found : List (List ℕ)) (end : ℕ) → Walks written before synced →
+        IsUnforged written synced shown → ReadsOn shown before synced found end → Walks written (before ++ found) end }
+    ensures beginning { (written shown : List ℕ) (synced : ℕ) (before found : List (List ℕ)) (end : ℕ) → Walks written before synced →
+        IsUnforged written synced shown → ReadsOn shown before synced found end → BeginsWith written (before ++ found) end }
+{
+    walk_begins_log();
+}
+
+/// After a crash no batch tells that one was on the device which isn't there. The log ends at an offset where that of the synced bytes
+/// is, or after it.
+pub fn crash_is_no_damage()
+    ensures { (written shown : List ℕ) (synced end offset : ℕ) → AreTrue written synced → AreOwn written synced shown →
+        synced ≤ end → end ≤ offset → Tells shown end offset → ⊥ }
+{}

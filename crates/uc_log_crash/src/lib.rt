@@ -1,0 +1,21 @@
+//! Logs that a crash has torn, byte by byte: laws alone, over any bytes that a device may show.
+//!
+//! A device has the first bytes of a log for certain, up to where it was synced. After a crash it shows these, and after them anything: a
+//! part of what was written, pages in any order, zeros or older bytes between them (`specs/Shown.antt`). Each batch of a database's log
+//! has a mark, which tells how far the log was on the device when the batch was written (`specs/Marks.antt`).
+//!
+//! By [`synced_batches_are_read`] every batch before the synced offset is found again. By [`batches_that_are_read_were_written`] what
+//! is read after these is what was written next, in order and without a gap. By [`crash_is_no_damage`] no mark that is shown says
+//! that a batch which isn't there was on the device: so a mark that does tells damage, which no crash leaves.
+//!
+//! The second and the third law stand on a premise: bytes that nobody wrote at an offset don't pass as a batch there. Checksums and
+//! sequences make that so, but for chance, and for older bytes of the same log at the same offset.
+//!
+//! Tests: `tests/worlds.py`.
+#![tactic(auto)]
+
+mod laws;
+mod mark;
+
+pub use laws::{batches_that_are_read_were_written, crash_is_no_damage, synced_batches_are_read};
+pub use mark::{mark_bytes, mark_of};
