@@ -1,3 +1,4 @@
 pub mod Shown
 pub mod Bounds
 pub mod Spelling
+pub mod ReadBack

@@ -1,8 +1,8 @@
 //! Laws about what a crash leaves of a log.
-ghost use Rattle.std.specs.Prelude.{ℕ, ◌≤◌, ◌++◌, List};
+ghost use Rattle.std.specs.Prelude.{◌≡◌, ℕ, ◌≤◌, ◌<◌, ◌++◌, List, Some, length};
 ghost use Rattle.uc_logrec.specs.Walk.{Walks, BeginsWith};
 ghost use Rattle.uc_log_crash.specs.Shown.{Shows, IsUnforged, ReadsOn};
-ghost use Rattle.uc_log_crash.specs.Marks.{Tells, AreTrue, AreOwn};
+ghost use Rattle.uc_log_crash.specs.Marks.{Tells, AreTrue, AreOwn, mark_of, with_mark};
 
 use uc_logrec::{walk_begins_log, walk_is_kept};
 
@@ -30,4 +30,10 @@ pub fn batches_that_are_read_were_written()
 pub fn crash_is_no_damage()
     ensures { (written shown : List ℕ) (synced end offset : ℕ) → AreTrue written synced → AreOwn written synced shown →
         synced ≤ end → end ≤ offset → Tells shown end offset → ⊥ }
+{}
+
+/// A mark that is put after the header of a batch is read there again.
+pub fn written_marks_are_read()
+    ensures { (batch : List ℕ) (unsynced : ℕ) → 12 ≤ length batch → unsynced < 9223372036854775808 →
+        mark_of (with_mark batch unsynced) ≡ Some unsynced }
 {}
