@@ -107,7 +107,7 @@ static void check_said(unsigned number) {
         CHECK(ucstore_db_sync(NULL) == UCSTORE_DB_NULL && strstr(ucstore_db_error_text(), "null") != NULL);
     } else {
         CHECK(ucstore_db_get(db, "none", 4, NULL, 0, &size) == UCSTORE_DB_NOT_FOUND);
-        CHECK(strstr(ucstore_db_error_text(), "no value") != NULL);
+        CHECK(strstr(ucstore_db_error_text(), "key not found") != NULL);
     }
 }
 

@@ -1111,7 +1111,7 @@ static void without_checkpoint(void) {
     CHECK(ucstore_checkpoint(&shown, &none) == UCSTORE_NO_VIEW && none.at == NULL);
     CHECK(ucstore_checkpoint_next(&none, 0, 9, room, sizeof room, &size, &done) == UCSTORE_NO_CHECKPOINT);
     CHECK(ucstore_checkpoint_close(&none) == UCSTORE_NO_CHECKPOINT && room[0] == 0xAA && size == 99 && done);
-    CHECK(strcmp(ucstore_status_text(UCSTORE_NO_CHECKPOINT), "the handle has no checkpoint") == 0);
+    CHECK(strcmp(ucstore_status_text(UCSTORE_NO_CHECKPOINT), "checkpoint is not open") == 0);
     CHECK(strcmp(ucstore_status_text(UCSTORE_SEQUENCE_GAP + 1), ucstore_status_text(-1)) == 0);
 }
 
@@ -1219,7 +1219,7 @@ static void refusals(void) {
     size_t size = 0;
     uint64_t seq = 7;
     CHECK(ucstore_version() == UCSTORE_ABI);
-    CHECK(strcmp(ucstore_status_text(UCSTORE_ROOM), "the room is too small") == 0);
+    CHECK(strcmp(ucstore_status_text(UCSTORE_ROOM), "buffer too small") == 0);
     CHECK(ucstore_log_next(text, 1, &place, room, sizeof room, &size, &seq, &ended) == UCSTORE_BAD_PLACE && place.batches == 1);
     CHECK(ucstore_create(&store, UCSTORE_TAIL, &options) == UCSTORE_BAD_SIZE && store.at == NULL);
     CHECK(ucstore_options_init(&options) == UCSTORE_OK && options.write_buffer_size == 4194304 && options.size == sizeof options);

@@ -103,8 +103,8 @@ struct ucstore_job {
 enum ucstore_status {
     UCSTORE_OK = 0,                /* Success. */
     UCSTORE_OUT_OF_MEMORY = 1,     /* Out of memory. */
-    UCSTORE_NO_STORE = 2,          /* Handle has no store. */
-    UCSTORE_HAS_STORE = 3,         /* Handle already has a store. */
+    UCSTORE_NO_STORE = 2,          /* Store is not open. */
+    UCSTORE_HAS_STORE = 3,         /* Store is already open. */
     UCSTORE_NOT_FOUND = 4,         /* Key not found. */
     UCSTORE_NOT_PROTECTED = 5,     /* No snapshot at this sequence number. */
     UCSTORE_UNKNOWN_OPERATOR = 6,  /* Unknown merge operator. */
@@ -118,17 +118,17 @@ enum ucstore_status {
     UCSTORE_ROOM = 14,             /* Buffer too small. */
     UCSTORE_LOG_ENDS = 15,         /* No more batches in the log. */
     UCSTORE_SEQUENCE_BACK = 16,    /* Sequence number not above the last one. */
-    UCSTORE_BAD_KEYS = 17,         /* Key lengths do not match the keys, or the number of outputs is not that of the keys. */
+    UCSTORE_BAD_KEYS = 17,         /* Key lengths do not match the keys: their sum differs, or the output has another count. */
     UCSTORE_BATCH_FULL = 18,       /* Batch full: it has 2^32 - 1 operations. */
-    UCSTORE_NO_VIEW = 19,          /* Handle has no view. */
-    UCSTORE_HAS_VIEW = 20,         /* Handle already has a view. */
-    UCSTORE_NO_JOB = 21,           /* Handle has no job. */
-    UCSTORE_HAS_JOB = 22,          /* Handle already has a job. */
+    UCSTORE_NO_VIEW = 19,          /* View is not open. */
+    UCSTORE_HAS_VIEW = 20,         /* View is already open. */
+    UCSTORE_NO_JOB = 21,           /* Job is not open. */
+    UCSTORE_HAS_JOB = 22,          /* Job is already open. */
     UCSTORE_NOT_OF_STORE = 23,     /* Job of another store. */
     UCSTORE_RUNS_CLAIMED = 24,     /* Run limit reached: jobs hold the runs that would be compacted. End one. */
     UCSTORE_JOB_ENDED = 25,        /* Job already ended. */
-    UCSTORE_NO_CHECKPOINT = 26,    /* Handle has no checkpoint. */
-    UCSTORE_HAS_CHECKPOINT = 27,   /* Handle already has a checkpoint. */
+    UCSTORE_NO_CHECKPOINT = 26,    /* Checkpoint is not open. */
+    UCSTORE_HAS_CHECKPOINT = 27,   /* Checkpoint is already open. */
     UCSTORE_SEQUENCE_GAP = 28      /* Gap in sequence numbers: the next batch of the log does not follow the last write. */
 };
 
@@ -150,35 +150,35 @@ enum ucstore_source {
 /* Returns the message of a status. */
 static inline const char *ucstore_status_text(int32_t status) {
     static const char *const texts[] = {
-        "done",
+        "success",
         "out of memory",
-        "the handle has no store",
-        "the handle has a store already",
-        "there is no value under the key",
-        "no snapshot is at the sequence",
-        "no operator has the number",
-        "an option isn't in its range",
-        "a struct's size isn't the one that the library knows",
-        "no number is left for a run",
-        "too few sequences are left",
-        "a text has 2^32 bytes or more",
-        "the bytes aren't a write batch",
-        "no walk over a log leads to the place",
-        "the room is too small",
-        "no batch comes next in the log",
-        "the sequence of the batch is neither 0 nor above the last one",
-        "the keys' lengths don't add up to their bytes, or there aren't as many places for answers",
-        "the batch has 2^32 - 1 operations",
-        "the handle has no view",
-        "the handle has a view already",
-        "the handle has no job",
-        "the handle has a job already",
-        "the job was taken from another store",
-        "jobs have the runs that would be compacted",
-        "the job has ended",
-        "the handle has no checkpoint",
-        "the handle has a checkpoint already",
-        "the batch of the log begins later than right behind the last sequence",
+        "store is not open",
+        "store is already open",
+        "key not found",
+        "no snapshot at this sequence number",
+        "unknown merge operator",
+        "option out of range",
+        "unsupported struct size",
+        "run IDs exhausted",
+        "sequence numbers exhausted",
+        "key or value too long",
+        "malformed write batch",
+        "invalid log position",
+        "buffer too small",
+        "no more batches in the log",
+        "sequence number not above the last one",
+        "key lengths do not match the keys",
+        "batch full",
+        "view is not open",
+        "view is already open",
+        "job is not open",
+        "job is already open",
+        "job of another store",
+        "run limit reached",
+        "job already ended",
+        "checkpoint is not open",
+        "checkpoint is already open",
+        "gap in sequence numbers",
     };
     return status >= 0 && (size_t)status < sizeof texts / sizeof texts[0] ? texts[status] : "unknown status";
 }

@@ -359,7 +359,7 @@ class Killed(OnCluster):
                 with limited_files(size + room), self.assertRaisesRegex(OSError, "File too large"):
                     store.write([Put(b"0", b"2")])
                 for call in (lambda: store.last, store.snapshot, store.report, lambda: store.write(batch), snapshot.scan):
-                    with self.assertRaisesRegex(NoStore, "the store is closed"):
+                    with self.assertRaisesRegex(NoStore, "store is not open"):
                         call()
                 store.close()
                 with self.open(self.connect(), patience=10.0) as again:

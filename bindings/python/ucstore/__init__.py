@@ -42,7 +42,7 @@ __all__ = [
 
 
 class UcstoreError(Exception):
-    """A call that was refused. What it was asked of is as it was before."""
+    """A call that failed. The object that it was called on is unchanged."""
 
     status = -1
     text = "unexpected status"
@@ -52,7 +52,7 @@ class UcstoreError(Exception):
 
 
 class OutOfMemory(UcstoreError, MemoryError):
-    """Memory was refused."""
+    """An allocation failed."""
 
     status, text = 1, "out of memory"
 
@@ -60,85 +60,85 @@ class OutOfMemory(UcstoreError, MemoryError):
 class NoStore(UcstoreError, ValueError):
     """The store is closed."""
 
-    status, text = 2, "the store is closed"
+    status, text = 2, "store is not open"
 
 
 class NotProtected(UcstoreError, LookupError):
-    """No snapshot is at the sequence."""
+    """No snapshot protects this sequence number."""
 
-    status, text = 5, "no snapshot is at the sequence"
+    status, text = 5, "no snapshot at this sequence number"
 
 
 class UnknownOperator(UcstoreError, ValueError):
-    """No operator has the number."""
+    """There is no merge operator with this number."""
 
-    status, text = 6, "no operator has the number"
+    status, text = 6, "unknown merge operator"
 
 
 class BadOption(UcstoreError, ValueError):
-    """An option isn't in its range."""
+    """An option is out of range."""
 
-    status, text = 7, "an option isn't in its range"
+    status, text = 7, "option out of range"
 
 
 class IdsSpent(UcstoreError):
-    """No number is left for a run: the greatest is 2^64 - 2."""
+    """Run IDs are exhausted: the greatest is 2^64 - 2."""
 
-    status, text = 9, "no number is left for a run"
+    status, text = 9, "run IDs exhausted"
 
 
 class SequencesSpent(UcstoreError):
-    """Too few sequences are left: the greatest is 2^56 - 1."""
+    """Sequence numbers are exhausted: the greatest is 2^56 - 1."""
 
-    status, text = 10, "too few sequences are left"
+    status, text = 10, "sequence numbers exhausted"
 
 
 class TooLong(UcstoreError, ValueError):
-    """A text has 2^32 bytes or more."""
+    """A key or a value has 2^32 bytes or more."""
 
-    status, text = 11, "a text has 2^32 bytes or more"
+    status, text = 11, "key or value too long"
 
 
 class NotABatch(UcstoreError, ValueError):
-    """The bytes aren't a write batch."""
+    """The bytes are not a write batch."""
 
-    status, text = 12, "the bytes aren't a write batch"
+    status, text = 12, "malformed write batch"
 
 
 class SequenceBack(NotABatch):
-    """The sequence of the operations is neither 0 nor above the last one."""
+    """The sequence number of a batch is neither 0 nor above the last one."""
 
-    status, text = 16, "the sequence isn't above the last one"
+    status, text = 16, "sequence number not above the last one"
 
 
 class BatchFull(UcstoreError):
     """The batch has 2^32 - 1 operations."""
 
-    status, text = 18, "the batch has 2^32 - 1 operations"
+    status, text = 18, "batch full"
 
 
 class NoView(UcstoreError, ValueError):
     """The view is closed."""
 
-    status, text = 19, "the view is closed"
+    status, text = 19, "view is not open"
 
 
 class NoJob(UcstoreError, ValueError):
     """The job has ended."""
 
-    status, text = 21, "the job has ended"
+    status, text = 21, "job is not open"
 
 
 class RunsClaimed(UcstoreError):
-    """There are as many runs as there may be, and jobs have those that would be compacted: end a job, and try again."""
+    """The run limit is reached, and jobs hold the runs that would be compacted: end a job and retry."""
 
-    status, text = 24, "jobs have the runs that would be compacted"
+    status, text = 24, "run limit reached"
 
 
 class NoCheckpoint(UcstoreError, ValueError):
     """The checkpoint is closed."""
 
-    status, text = 26, "the checkpoint is closed"
+    status, text = 26, "checkpoint is not open"
 
 
 _OK, _NOT_FOUND, _ROOM, _LOG_ENDS = 0, 4, 14, 15

@@ -12,67 +12,67 @@ from . import (
 
 
 class DbError(UcstoreError):
-    """A call of a database that was refused. Its text names the file, the offset and the cause."""
+    """A call of a database that failed. Its message names the file, the offset and the cause."""
 
 
 class FileFault(DbError, OSError):
-    """A file can't be read or written."""
+    """A file cannot be read or written."""
 
-    status = 64
+    status, text = 64, "I/O error"
 
 
 class Locked(DbError):
-    """Another process has the folder open, or another `Db` of this one."""
+    """Another process, or another `Db` of this one, has the database open."""
 
-    status = 65
+    status, text = 65, "database is locked"
 
 
 class Damaged(DbError):
-    """A file isn't as it was written. Nothing was changed."""
+    """A file is corrupted. No file was changed."""
 
-    status = 66
+    status, text = 66, "corrupted file"
 
 
 class Missing(DbError):
-    """A file isn't there. Nothing was changed."""
+    """A file is missing. No file was changed."""
 
-    status = 67
+    status, text = 67, "missing file"
 
 
 class OtherOperator(DbError, ValueError):
-    """The folder was made with another operator. Nothing was changed."""
+    """The directory was created with another merge operator. No file was changed."""
 
-    status = 68
+    status, text = 68, "directory has another merge operator"
 
 
 class ReadOnly(DbError):
-    """Nothing can be written any more: a log failed, or is damaged."""
+    """The database takes no more writes: a log failed, or is corrupted."""
 
-    status = 69
+    status, text = 69, "database is read-only after an error"
 
 
 class Closed(DbError, ValueError):
-    """The database, its batch or its snapshot was closed."""
+    """The database, the batch or the snapshot is closed."""
 
-    status, text = 70, "it is closed"
+    status, text = 70, "already closed"
 
 
 class Forked(DbError):
-    """The process was forked after the opening. A child opens a database of its own."""
+    """The process was forked after the database was opened. A child must open its own."""
 
-    status = 71
+    status, text = 71, "process was forked after the database was opened"
 
 
 class NotRecoverable(DbError):
-    """What the files have doesn't end, or can't be given up, where the opening says. Nothing was changed."""
+    """The files cannot be recovered to the sequence number that the options give. No file was changed."""
 
-    status = 74
+    status, text = 74, "cannot recover to the given sequence number"
 
 
 class OtherDatabase(DbError, ValueError):
-    """The snapshot is one of another database."""
+    """The snapshot belongs to another database."""
 
-    status = 75
+    status, text = 75, "snapshot of another database"
 
 
 _ERRORS: Dict[int, Type[UcstoreError]] = {
@@ -85,7 +85,7 @@ _ERRORS: Dict[int, Type[UcstoreError]] = {
 
 
 def error_of(status: int, text: str) -> UcstoreError:
-    """What a status says, with the text of the library."""
+    """Returns the exception for a status, with the message of the library."""
     return _ERRORS.get(status, DbError)(text)
 
 

@@ -105,10 +105,10 @@ mod tests {
     #[test]
     fn each_thread_has_a_text_of_its_own() {
         assert_eq!(call(|| Err(Status::Forked.into())), Status::Forked as i32);
-        thread::spawn(|| assert_eq!(said(), "done")).join().unwrap();
+        thread::spawn(|| assert_eq!(said(), "success")).join().unwrap();
         // A call that is done leaves it.
         assert_eq!(call(|| Ok(())), 0);
-        assert_eq!(said(), "the process was forked behind the opening");
+        assert_eq!(said(), "process was forked after the database was opened");
     }
 
     #[test]
@@ -120,7 +120,7 @@ mod tests {
         };
         let refusal = Refusal::from(cause.clone());
         // A message that can't be a string of C becomes the status's text.
-        assert_eq!(&*refusal.text, c"a file isn't as it was written");
+        assert_eq!(&*refusal.text, c"corrupted file");
         let Error::Damaged { file, offset, .. } = cause else {
             unreachable!();
         };

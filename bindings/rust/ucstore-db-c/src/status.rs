@@ -7,59 +7,59 @@ use std::ffi::CStr;
 #[derive(Clone, Copy, Debug, PartialEq, Eq)]
 #[repr(i32)]
 pub enum Status {
-    /// It did what it was asked.
+    /// Success.
     Ok = 0,
-    /// Memory was refused.
+    /// Out of memory.
     OutOfMemory = 1,
-    /// There is no value under the key.
+    /// Key not found.
     NotFound = 4,
-    /// No snapshot was made at the sequence.
+    /// No snapshot at this sequence number.
     NotProtected = 5,
-    /// No operator has the number.
+    /// Unknown merge operator.
     UnknownOperator = 6,
-    /// An option isn't in its range.
+    /// Option out of range.
     BadOption = 7,
-    /// A struct's `size` isn't the one that the library knows.
+    /// Unsupported struct size.
     BadSize = 8,
-    /// No number is left for a run.
+    /// Run IDs exhausted: the greatest is 2^64 - 2.
     IdsSpent = 9,
-    /// Too few sequences are left.
+    /// Sequence numbers exhausted: the greatest is 2^56 - 1.
     SequencesSpent = 10,
-    /// A text has 2^32 bytes or more.
+    /// Key or value too long: it has 2^32 bytes or more.
     TooLong = 11,
-    /// The bytes aren't a write batch.
+    /// Malformed write batch.
     NotABatch = 12,
-    /// The room is too small.
+    /// Buffer too small.
     Room = 14,
-    /// The sequence of a batch is neither 0 nor above the last one.
+    /// Sequence number not above the last one.
     SequenceBack = 16,
-    /// The keys' lengths don't add up to their bytes.
+    /// Key lengths do not match the keys.
     BadKeys = 17,
-    /// The batch has 2^32 - 1 operations.
+    /// Batch full: it has 2^32 - 1 operations.
     BatchFull = 18,
-    /// A file can't be read or written.
+    /// I/O error.
     File = 64,
-    /// Another process has the folder open, or another handle of this one.
+    /// Database is locked.
     Locked = 65,
-    /// A file isn't as it was written.
+    /// Corrupted file.
     Damaged = 66,
-    /// A file isn't there.
+    /// Missing file.
     Missing = 67,
-    /// The folder was made with another operator.
+    /// Directory has another merge operator.
     OtherOperator = 68,
-    /// Nothing can be written any more.
+    /// Database is read-only after an error.
     ReadOnly = 69,
-    /// The database was closed.
+    /// Already closed.
     Closed = 70,
-    /// The process was forked after the opening.
+    /// Process was forked after the database was opened.
     Forked = 71,
-    /// An address is null.
+    /// Null pointer argument.
     Null = 72,
-    /// The library has a fault.
+    /// Internal error.
     Internal = 73,
-    /// The files don't end, or can't be given up, where the options say.
+    /// Cannot recover to the given sequence number.
     NotRecoverable = 74,
-    /// The snapshot is one of another database.
+    /// Snapshot of another database.
     OtherDatabase = 75,
 }
 
@@ -67,33 +67,33 @@ impl Status {
     /// The message where nothing else is known.
     pub(crate) fn text(self) -> &'static CStr {
         match self {
-            Status::Ok => c"done",
+            Status::Ok => c"success",
             Status::OutOfMemory => c"out of memory",
-            Status::NotFound => c"there is no value under the key",
-            Status::NotProtected => c"no snapshot was made at the sequence",
-            Status::UnknownOperator => c"no operator has the number",
-            Status::BadOption => c"an option isn't in its range",
-            Status::BadSize => c"a struct's size isn't the one that the library knows",
-            Status::IdsSpent => c"no number is left for a run",
-            Status::SequencesSpent => c"too few sequences are left",
-            Status::TooLong => c"a text has 2^32 bytes or more",
-            Status::NotABatch => c"the bytes aren't a write batch",
-            Status::Room => c"the room is too small",
-            Status::SequenceBack => c"the sequence isn't above the last one",
-            Status::BadKeys => c"the keys' lengths don't add up to their bytes",
-            Status::BatchFull => c"the batch has 2^32 - 1 operations",
-            Status::File => c"a file can't be read or written",
-            Status::Locked => c"the folder is open elsewhere",
-            Status::Damaged => c"a file isn't as it was written",
-            Status::Missing => c"a file isn't there",
-            Status::OtherOperator => c"the folder was made with another operator",
-            Status::ReadOnly => c"nothing can be written any more",
-            Status::Closed => c"the database is closed",
-            Status::Forked => c"the process was forked behind the opening",
-            Status::Null => c"an address is null",
-            Status::Internal => c"the library has a fault",
-            Status::NotRecoverable => c"a file can't be recovered to where the options say",
-            Status::OtherDatabase => c"the snapshot is one of another database",
+            Status::NotFound => c"key not found",
+            Status::NotProtected => c"no snapshot at this sequence number",
+            Status::UnknownOperator => c"unknown merge operator",
+            Status::BadOption => c"option out of range",
+            Status::BadSize => c"unsupported struct size",
+            Status::IdsSpent => c"run IDs exhausted",
+            Status::SequencesSpent => c"sequence numbers exhausted",
+            Status::TooLong => c"key or value too long",
+            Status::NotABatch => c"malformed write batch",
+            Status::Room => c"buffer too small",
+            Status::SequenceBack => c"sequence number not above the last one",
+            Status::BadKeys => c"key lengths do not match the keys",
+            Status::BatchFull => c"batch full",
+            Status::File => c"I/O error",
+            Status::Locked => c"database is locked",
+            Status::Damaged => c"corrupted file",
+            Status::Missing => c"missing file",
+            Status::OtherOperator => c"directory has another merge operator",
+            Status::ReadOnly => c"database is read-only after an error",
+            Status::Closed => c"already closed",
+            Status::Forked => c"process was forked after the database was opened",
+            Status::Null => c"null pointer argument",
+            Status::Internal => c"internal error",
+            Status::NotRecoverable => c"cannot recover to the given sequence number",
+            Status::OtherDatabase => c"snapshot of another database",
         }
     }
 }

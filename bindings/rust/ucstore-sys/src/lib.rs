@@ -4,63 +4,63 @@
 
 use std::ffi::c_void;
 
-/// It did what it was asked.
+/// Success.
 pub const UCSTORE_OK: i32 = 0;
-/// Memory was refused.
+/// Out of memory.
 pub const UCSTORE_OUT_OF_MEMORY: i32 = 1;
-/// The handle has no store.
+/// Store is not open.
 pub const UCSTORE_NO_STORE: i32 = 2;
-/// The handle has a store already.
+/// Store is already open.
 pub const UCSTORE_HAS_STORE: i32 = 3;
-/// There is no value under the key.
+/// Key not found.
 pub const UCSTORE_NOT_FOUND: i32 = 4;
-/// No snapshot is at the sequence.
+/// No snapshot at this sequence number.
 pub const UCSTORE_NOT_PROTECTED: i32 = 5;
-/// No operator has the number.
+/// Unknown merge operator.
 pub const UCSTORE_UNKNOWN_OPERATOR: i32 = 6;
-/// An option isn't in its range.
+/// Option out of range.
 pub const UCSTORE_BAD_OPTION: i32 = 7;
-/// A struct's `size` isn't the one that the library knows.
+/// Unsupported struct size.
 pub const UCSTORE_BAD_SIZE: i32 = 8;
-/// No number is left for a run.
+/// Run IDs exhausted.
 pub const UCSTORE_IDS_SPENT: i32 = 9;
-/// Too few sequences are left.
+/// Sequence numbers exhausted.
 pub const UCSTORE_SEQUENCES_SPENT: i32 = 10;
-/// A text has 2^32 bytes or more.
+/// Key or value too long.
 pub const UCSTORE_TOO_LONG: i32 = 11;
-/// The bytes aren't a write batch.
+/// Malformed write batch.
 pub const UCSTORE_NOT_A_BATCH: i32 = 12;
-/// No walk over a log leads to the place.
+/// Invalid log position.
 pub const UCSTORE_BAD_PLACE: i32 = 13;
-/// The room is too small.
+/// Buffer too small.
 pub const UCSTORE_ROOM: i32 = 14;
-/// No batch comes next in the log.
+/// No more batches in the log.
 pub const UCSTORE_LOG_ENDS: i32 = 15;
-/// The sequence of the batch is neither 0 nor above the last one.
+/// Sequence number not above the last one.
 pub const UCSTORE_SEQUENCE_BACK: i32 = 16;
-/// The keys' lengths don't add up to their bytes, or there aren't as many places for answers.
+/// Key lengths do not match the keys.
 pub const UCSTORE_BAD_KEYS: i32 = 17;
-/// The batch has 2^32 - 1 operations.
+/// Batch full.
 pub const UCSTORE_BATCH_FULL: i32 = 18;
-/// The handle has no view.
+/// View is not open.
 pub const UCSTORE_NO_VIEW: i32 = 19;
-/// The handle has a view already.
+/// View is already open.
 pub const UCSTORE_HAS_VIEW: i32 = 20;
-/// The handle has no job.
+/// Job is not open.
 pub const UCSTORE_NO_JOB: i32 = 21;
-/// The handle has a job already.
+/// Job is already open.
 pub const UCSTORE_HAS_JOB: i32 = 22;
-/// The store holds no claim of the job.
+/// Job of another store.
 pub const UCSTORE_NOT_OF_STORE: i32 = 23;
-/// No slot is free, and jobs have the runs that would be compacted.
+/// Run limit reached.
 pub const UCSTORE_RUNS_CLAIMED: i32 = 24;
-/// The job has ended.
+/// Job already ended.
 pub const UCSTORE_JOB_ENDED: i32 = 25;
-/// The handle has no checkpoint.
+/// Checkpoint is not open.
 pub const UCSTORE_NO_CHECKPOINT: i32 = 26;
-/// The handle has a checkpoint already.
+/// Checkpoint is already open.
 pub const UCSTORE_HAS_CHECKPOINT: i32 = 27;
-/// The batch of the log begins later than right behind the last sequence.
+/// Gap in sequence numbers.
 pub const UCSTORE_SEQUENCE_GAP: i32 = 28;
 
 /// One of the gathered writes puts or deletes the key.

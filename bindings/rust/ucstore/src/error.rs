@@ -7,25 +7,25 @@ use std::fmt;
 #[derive(Clone, Copy, Debug, PartialEq, Eq, Hash)]
 #[non_exhaustive]
 pub enum Error {
-    /// Memory was refused.
+    /// Out of memory.
     OutOfMemory,
-    /// No snapshot is at the sequence.
+    /// No snapshot at this sequence number.
     NotProtected,
-    /// An option isn't in its range.
+    /// Option out of range.
     BadOption,
-    /// No number is left for a run: the greatest is 2^64 - 2.
+    /// Run IDs exhausted: the greatest is 2^64 - 2.
     IdsSpent,
-    /// Too few sequences are left: the greatest is 2^56 - 1.
+    /// Sequence numbers exhausted: the greatest is 2^56 - 1.
     SequencesSpent,
-    /// A text has 2^32 bytes or more.
+    /// Key or value too long: it has 2^32 bytes or more.
     TooLong,
-    /// The bytes aren't a write batch.
+    /// Malformed write batch.
     NotABatch,
-    /// The sequence of a batch is neither 0 nor above the last one.
+    /// Sequence number not above the last one.
     SequenceBack,
-    /// The batch has 2^32 - 1 operations.
+    /// Batch full: it has 2^32 - 1 operations.
     BatchFull,
-    /// There are as many runs as there may be, and jobs have those that would be compacted: end a job, and try again.
+    /// Run limit reached: jobs hold the runs that would be compacted. End a job and retry.
     RunsClaimed,
     /// The library answered a status that the call doesn't have: it isn't of this crate's version.
     Unexpected(i32),
@@ -35,15 +35,15 @@ impl fmt::Display for Error {
     fn fmt(&self, formatter: &mut fmt::Formatter<'_>) -> fmt::Result {
         let text = match self {
             Error::OutOfMemory => "out of memory",
-            Error::NotProtected => "no snapshot is at the sequence",
-            Error::BadOption => "an option isn't in its range",
-            Error::IdsSpent => "no number is left for a run",
-            Error::SequencesSpent => "too few sequences are left",
-            Error::TooLong => "a text has 2^32 bytes or more",
-            Error::NotABatch => "the bytes aren't a write batch",
-            Error::SequenceBack => "the sequence isn't above the last one",
-            Error::BatchFull => "the batch has 2^32 - 1 operations",
-            Error::RunsClaimed => "jobs have the runs that would be compacted",
+            Error::NotProtected => "no snapshot at this sequence number",
+            Error::BadOption => "option out of range",
+            Error::IdsSpent => "run IDs exhausted",
+            Error::SequencesSpent => "sequence numbers exhausted",
+            Error::TooLong => "key or value too long",
+            Error::NotABatch => "malformed write batch",
+            Error::SequenceBack => "sequence number not above the last one",
+            Error::BatchFull => "batch full",
+            Error::RunsClaimed => "run limit reached",
             Error::Unexpected(status) => return write!(formatter, "unexpected status {status}"),
         };
         formatter.write_str(text)

@@ -268,7 +268,7 @@ fn options_out_of_their_ranges_are_refused() {
     let error = Store::create(Operator::Tail, &options).unwrap_err();
     assert_eq!(error, Error::BadOption);
     let shown: Box<dyn StdError> = Box::new(error);
-    assert_eq!(shown.to_string(), "an option isn't in its range");
+    assert_eq!(shown.to_string(), "option out of range");
 }
 
 #[test]
