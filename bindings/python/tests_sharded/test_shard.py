@@ -859,7 +859,7 @@ class Queries(unittest.TestCase):
         for error, wrong, query in (
             (ValueError, "from 0 to", Scan(limit=-1)), (ValueError, "from 0 to", Scan(limit=1 << 70)),
             (TypeError, "float", Scan(limit=1.5)), (TypeError, "str", Scan(limit="1")),
-            (TypeError, "a text is bytes, not str", Scan("a")), (TypeError, "a text is bytes, not int", Scan(b"", 7)),
+            (TypeError, "expected bytes, not str", Scan("a")), (TypeError, "expected bytes, not int", Scan(b"", 7)),
         ):
             with self.subTest(query=query), self.assertRaisesRegex(error, wrong):
                 query._checked()

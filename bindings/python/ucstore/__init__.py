@@ -1,4 +1,4 @@
-"""An embedded log-structured merge store in memory, proved against its contracts.
+"""An embedded key-value store in memory, an LSM tree that is proved against its contracts.
 
     >>> with Store(Operator.APPEND) as store:
     ...     store[b"colour"] = b"blue"
@@ -7,8 +7,8 @@
     ...         before[b"colour"], store.get(b"colour")
     (b'blue', None)
 
-The store itself is in memory. Its owner keeps a log in a file: `Store.prepare` returns what to append before
-`Store.commit` writes, and `Store.open` reads it again.
+A `Store` is in memory only. To make it durable, keep a log in a file: append what `Store.prepare` returns before calling
+`Store.commit`, and read the file with `Store.open`.
 
     >>> with Store(Operator.APPEND) as store:
     ...     log = store.prepare(0, [Put(b"colour", b"blue")])
@@ -17,7 +17,7 @@ The store itself is in memory. Its owner keeps a log in a file: `Store.prepare` 
     ...     store[b"colour"], str(store.ended)
     (b'blue', 'clean')
 
-`Db` is a database in a folder, which is durable, and which threads share.
+`Db` is a durable database in a directory, which threads share.
 """
 
 import ctypes
@@ -153,45 +153,45 @@ _ERRORS = {
 
 
 def _check(status: int) -> None:
-    """Raises what a status says."""
+    """Raises the exception of a status, if it is an error."""
     if status != _OK:
         raise _ERRORS[status]() if status in _ERRORS else UcstoreError(f"unexpected status {status}")
 
 
 class Operator(enum.IntEnum):
-    """Which operator merges a key's operands into its value."""
+    """Merge operators. An operator combines a key's operands and its value."""
 
     APPEND = 0
-    """Texts joined by commas."""
+    """Byte strings joined by commas."""
     COUNTER = 1
-    """Sums of 64-bit numbers, 8 bytes each, little-endian. Any other text is 0."""
+    """Sum of 64-bit numbers, 8 bytes each, little-endian. Any other value counts as 0."""
     MAXIMUM = 2
-    """The greater text."""
+    """The greater byte string."""
     TAIL = 3
-    """The last four bytes of all texts."""
+    """The last four bytes of the byte strings joined."""
 
 
 class Options(NamedTuple):
-    """How a store is kept, with the names and the meaning of RocksDB's options (its wiki, "Universal Compaction")."""
+    """Options of a store, with the names and meanings of RocksDB's (its wiki, "Universal Compaction")."""
 
     write_buffer_size: int = 4194304
-    """From how many bytes on the memtable is full, at least 1."""
+    """Size in bytes at which the memtable is full, at least 1."""
     compaction_trigger: int = 4
-    """From how many runs on something is compacted, at least 1."""
+    """Number of runs at which compaction starts, at least 1."""
     stop_trigger: int = 36
-    """From how many runs on a write compacts before it goes on, `compaction_trigger` to 255."""
+    """Number of runs at which a write that flushes compacts first, `compaction_trigger` to 255."""
     size_ratio: int = 1
-    """By how many percent a run may be larger than those above it to be compacted with them."""
+    """Percentage by which a run may exceed the newer ones that are compacted with it."""
     max_size_amplification_percent: int = 200
-    """Above how many percent of the oldest run's size the newer ones are compacted with it."""
+    """Size of the newer runs, in percent of the oldest, above which all are compacted."""
     min_merge_width: int = 2
-    """The least number of runs for a compaction by size ratio, at least 2."""
+    """Minimum number of runs compacted by size ratio, at least 2."""
     max_merge_width: int = 4294967295
-    """The greatest number of runs for a compaction, at least `min_merge_width`."""
+    """Maximum number of runs in a compaction, at least `min_merge_width`."""
     compacts_itself: bool = True
-    """Whether the store compacts after a flush. Else it does only from `stop_trigger` runs on."""
+    """True to compact after each flush, False to compact only at `stop_trigger` runs."""
     max_write_buffer_number: int = 1
-    """How many memtables are gathered at most, at least 1. With more than 1 a job flushes a full one, and a write only once as many are."""
+    """Maximum number of memtables, at least 1. With more than 1, a job flushes a full one, and a write only when all are full."""
 
 
 class Put(NamedTuple):
@@ -202,20 +202,20 @@ class Put(NamedTuple):
 
 
 class Delete(NamedTuple):
-    """Removes a key."""
+    """Deletes a key."""
 
     key: bytes
 
 
 class Merge(NamedTuple):
-    """Combines a key with an operand."""
+    """Merges an operand into a key's value."""
 
     key: bytes
     operand: bytes
 
 
 class DeleteRange(NamedTuple):
-    """Removes each key from `begin` to below `end`."""
+    """Deletes all keys from `begin` (inclusive) to `end` (exclusive)."""
 
     begin: bytes
     end: bytes
@@ -223,22 +223,22 @@ class DeleteRange(NamedTuple):
 
 Operation = Union[Put, Delete, Merge, DeleteRange]
 
-# The tags of RocksDB's write batches.
+# Tags of RocksDB's write batches.
 _TAGS = {Delete: 0, Put: 1, Merge: 2, DeleteRange: 15}
 _KINDS = {tag: kind for kind, tag in _TAGS.items()}
 
 
 class Write(NamedTuple):
-    """A write of a log."""
+    """A write in a log."""
 
     sequence: int
     operation: Operation
 
 
 class Report(NamedTuple):
-    """What a store holds, in numbers.
+    """Statistics of a store.
 
-    `bytes` has 8 for each sequence, and `gathered` counts the writes that no run has yet.
+    `bytes` includes 8 bytes for each sequence number, and `gathered` is the number of writes in the memtables.
     """
 
     runs: int
@@ -251,18 +251,18 @@ class Report(NamedTuple):
 
 
 class LookupSource(enum.IntEnum):
-    """Where a lookup at the last sequence is answered."""
+    """Part of the store that answers a lookup."""
 
     MEMTABLE = 0
-    """By the memtables: one of the writes that no run has yet puts the key, or deletes it, alone or in a range."""
+    """The memtables: they hold a put or a deletion of the key, or a range deletion over it."""
     FILTERS = 1
-    """By the filters of the runs: none of those writes does, and no write of a run touches the key."""
+    """The filters: the memtables do not answer, and no run has a write of the key."""
     RUNS = 2
-    """By the runs: none of those writes does, and a write of a run touches the key."""
+    """The runs: the memtables do not answer, and a run has a write of the key."""
 
 
 class End(enum.IntEnum):
-    """How far a log can be read: to its end, to what was being written, or to a fault of a record or a batch."""
+    """Ways in which a log ends: at its end, in an incomplete record, or at a fault of a record or of a batch."""
 
     CLEAN = 0
     TORN = 1
@@ -271,7 +271,7 @@ class End(enum.IntEnum):
 
 
 class LogFault(enum.IntEnum):
-    """What is wrong with a record of a log."""
+    """Faults of a log record."""
 
     BAD_LENGTH = 1
     BAD_CHECKSUM = 2
@@ -283,7 +283,7 @@ class LogFault(enum.IntEnum):
 
 
 class BatchFault(enum.IntEnum):
-    """What is wrong with a batch of a log."""
+    """Faults of a batch in a log."""
 
     TOO_SHORT = 1
     SEQUENCE_BACK = 2
@@ -297,7 +297,7 @@ class BatchFault(enum.IntEnum):
 
 
 class Ended(NamedTuple):
-    """How a log ends.
+    """Where and why reading a log ended.
 
     `place` is an offset in the log; with `End.BATCH_FAULT` it is the number of a payload, from 1.
     """
@@ -308,7 +308,7 @@ class Ended(NamedTuple):
 
     @property
     def is_sound(self) -> bool:
-        """Whether nothing was lost but what a crash left unfinished."""
+        """True if nothing was lost except writes that a crash left unfinished."""
         return self.end in (End.CLEAN, End.TORN)
 
     def __str__(self) -> str:
@@ -335,7 +335,7 @@ class _Options(ctypes.Structure):
 
     @classmethod
     def of(cls, options: Options) -> "_Options":
-        """The options as C sees them. A number that a field has no room for would be cut silently."""
+        """Returns the options as a C struct. Raises `BadOption` for a number that its field would truncate."""
         found = cls(ctypes.sizeof(cls), *options)
         if any(getattr(found, name) != value for name, value in zip(Options._fields, options)):
             raise BadOption()
@@ -359,23 +359,23 @@ class _LogPlace(ctypes.Structure):
     _fields_ = [("offset", ctypes.c_uint64), ("last", ctypes.c_uint64), ("batches", ctypes.c_uint64)]
 
 
-# The version of the library's functions.
+# Version of the library's binary interface.
 _ABI = 2
 
 
 def _load() -> ctypes.CDLL:
-    """The shared object: the one that is named, the one beside the module, or the system's."""
+    """Loads the shared library: the one that is named, or the one next to this module, or the system's."""
     name = f"libucstore.so.{_ABI}"
     beside = Path(__file__).with_name(name)
     return ctypes.CDLL(os.environ.get("UCSTORE_LIBRARY") or (str(beside) if beside.exists() else name))
 
 
-# The types of the arguments: a text is its address and its length.
+# Argument types. A byte string is a pointer and a length.
 _POINTER, _SIZE, _U64, _U32 = ctypes.c_void_p, ctypes.c_size_t, ctypes.c_uint64, ctypes.c_uint32
 _TEXT = (ctypes.c_char_p, _SIZE)
 _PLACE = (_POINTER, _SIZE)
 
-# Those of the functions that read a store, or a view.
+# Functions that read a store or a view.
 _READS: Dict[str, Sequence[Any]] = {
     "last": (_POINTER, _POINTER),
     "get": (_POINTER, *_TEXT, *_PLACE, _POINTER),
@@ -435,9 +435,9 @@ _Function = Callable[..., int]
 
 
 class _Library:
-    """The functions of `ucstore.h`, without their prefix. It says what each does and what its caller owes.
+    """The functions of `ucstore.h`, without their prefix. The header documents them and the requirements on the caller.
 
-    The shared object is loaded at the first call: a program that uses `Db` alone doesn't need it.
+    The shared library is loaded at the first call: a program that uses `Db` alone does not need it.
     """
 
     def __init__(self) -> None:
@@ -445,7 +445,7 @@ class _Library:
         self._is_loaded = False
 
     def load(self) -> None:
-        """Loads the shared object, unless that is done. Raises `OSError` and `ImportError`."""
+        """Loads the shared library once. Raises `OSError` and `ImportError`."""
         with self._loading:
             if not self._is_loaded:
                 self.__dict__.update(self._functions())
@@ -462,7 +462,7 @@ class _Library:
     def _functions() -> "Dict[str, _Function]":
         library = _load()
         if library.ucstore_version() != _ABI:
-            raise ImportError(f"the functions of {library._name} aren't of version {_ABI}")
+            raise ImportError(f"{library._name} does not have ABI version {_ABI}")
         functions = {}
         for name, types in _SIGNATURES.items():
             function = getattr(library, f"ucstore_{name}")
@@ -473,55 +473,55 @@ class _Library:
 
 _library = _Library()
 
-# The bytes of a value for which a lookup doesn't ask twice, those for each of many values, and those of a scan's page.
+# Sizes in bytes: of the buffer for one value, for each of many values, and for a page of a scan.
 _USUAL_VALUE, _USUAL_SHARE, _PAGE_BYTES = 512, 256, 16 * 1024
 
-# What the library says of a key without a value.
+# Length that the library returns for a key without a value.
 _NO_VALUE = (1 << 64) - 1
 
-# The bytes of a record's header in a log, and the most that a record has behind it.
+# Size in bytes of a record's header in a log, and maximum size of the data that follows it.
 _HEADER = 7
 _MOST_FRAGMENT = 32768 - _HEADER
 
-# How many rows a page has at most.
+# Maximum number of rows in a page.
 _PAGE_ROWS = 128
 
-# How many rows the first piece of a checkpoint has at most and how many any has, and the bytes of one with more rows than one.
+# Rows of a checkpoint's first piece, maximum rows of a piece, and maximum bytes of a piece with more than one row.
 _FIRST_ROWS, _MOST_ROWS, _PIECE_BYTES = 16, 4096, 64 * 1024
 
 _Row = Tuple[bytes, bytes]
 
 
 def _bytes_of(text: bytes) -> bytes:
-    """The text, if it is one: ctypes takes None for bytes too."""
+    """Returns bytes unchanged. Raises `TypeError` for anything else: ctypes would accept None."""
     if not isinstance(text, bytes):
-        raise TypeError(f"a text is bytes, not {type(text).__name__}")
+        raise TypeError(f"expected bytes, not {type(text).__name__}")
     return text
 
 
 def _texts(*texts: bytes) -> Iterator[Union[bytes, int]]:
-    """The arguments for texts: each one's address and its length."""
+    """Returns the arguments for byte strings: the pointer and the length of each."""
     for text in texts:
         yield _bytes_of(text)
         yield len(text)
 
 
 def _sequence(at: int) -> int:
-    """The sequence, if it has 64 bits: ctypes would cut it silently."""
+    """Returns a sequence number if it has 64 bits: ctypes would truncate it silently."""
     if not 0 <= at < 1 << 64:
         raise NotProtected()
     return at
 
 
 def _text_at(room: memoryview, place: int) -> Tuple[bytes, int]:
-    """The text at a place, behind its length of 8 bytes, and the place behind it."""
+    """Returns the byte string that follows its 8-byte length at an offset, and the offset after it."""
     (length,) = struct.unpack_from("<Q", room, place)
     end = place + 8 + length
     return bytes(room[place + 8:end]), end
 
 
 def _cut(values: bytes, lengths: Iterable[int]) -> Iterator[Optional[bytes]]:
-    """Values that stand one after the other. A length may say that there is none."""
+    """Yields values that are stored one after the other. A length may say that there is none."""
     place = 0
     for length in lengths:
         if length == _NO_VALUE:
@@ -532,15 +532,15 @@ def _cut(values: bytes, lengths: Iterable[int]) -> Iterator[Optional[bytes]]:
 
 
 def _end_of_prefix(prefix: bytes) -> Optional[bytes]:
-    """The least key above all that begin with these bytes, or None if there is no greater key."""
+    """Returns the least key above all keys that begin with these bytes, or None if there is none."""
     kept = _bytes_of(prefix).rstrip(b"\xff")
     return kept[:-1] + bytes([kept[-1] + 1]) if kept else None
 
 
 class _Reader:
-    """What a store, its snapshots and its views are read by.
+    """Read methods of a store, its snapshots and its views.
 
-    Like a dict, they raise `KeyError` only for `reader[key]`.
+    As in a dict, only `reader[key]` raises `KeyError`.
     """
 
     def _get(self, key: bytes) -> Optional[bytes]:
@@ -550,38 +550,38 @@ class _Reader:
         raise NotImplementedError
 
     def get(self, key: bytes, default: Optional[bytes] = None) -> Optional[bytes]:
-        """The value under a key, or `default`. Raises `OutOfMemory`."""
+        """Returns the value of a key, or `default`. Raises `OutOfMemory`."""
         found = self._get(key)
         return default if found is None else found
 
     def __getitem__(self, key: bytes) -> bytes:
-        """The value under a key. Raises `KeyError` and `OutOfMemory`."""
+        """Returns the value of a key. Raises `KeyError` and `OutOfMemory`."""
         found = self._get(key)
         if found is None:
             raise KeyError(key)
         return found
 
     def __contains__(self, key: bytes) -> bool:
-        """Whether there is a value under a key. Raises `OutOfMemory`."""
+        """Returns True if a key has a value. Raises `OutOfMemory`."""
         return self._get(key) is not None
 
     def __iter__(self) -> Iterator[bytes]:
-        """The keys, in the order of their bytes. Raises `OutOfMemory`."""
+        """Yields the keys in byte order. Raises `OutOfMemory`."""
         return (key for key, _ in self.scan())
 
     def items(self) -> Iterator[_Row]:
-        """The keys with their values, in the order of the keys' bytes. Raises `OutOfMemory`."""
+        """Yields the keys with their values, in byte order of the keys. Raises `OutOfMemory`."""
         return self.scan()
 
     def scan(self, low: bytes = b"", high: Optional[bytes] = None) -> Iterator[_Row]:
-        """The keys from `low` to below `high`, or to the last one, with their values.
+        """Yields the keys from `low` to below `high`, or to the last one, with their values.
 
-        They come in the order of the keys' bytes, and are fetched in pages. Raises `OutOfMemory`.
+        They are in byte order of the keys, and fetched in pages. Raises `OutOfMemory`.
         """
         return self._scan(low, high)
 
     def prefix(self, prefix: bytes) -> Iterator[_Row]:
-        """The keys that begin with some bytes, with their values, as `scan` gives them. Raises `OutOfMemory`."""
+        """Yields the keys that begin with a prefix, with their values, as `scan` does. Raises `OutOfMemory`."""
         return self._scan(prefix, _end_of_prefix(prefix))
 
 
@@ -589,10 +589,10 @@ _Self = TypeVar("_Self", bound="_Held")
 
 
 class _Held:
-    """An object over a handle of the library. Its calls wait for one another, so that threads may share it."""
+    """An object with a handle of the library. Its calls wait for one another, so that threads may share it."""
 
     def _begin(self) -> None:
-        """A handle that is all zeros. Raises `OSError` and `ImportError` if the library isn't there."""
+        """Creates a handle of zeros. Raises `OSError` and `ImportError` if the library is missing."""
         _library.load()
         self._at = _Handle()
         self._handle = ctypes.byref(self._at)
@@ -603,7 +603,7 @@ class _Held:
             _check(function(self._handle, *arguments))
 
     def close(self) -> None:
-        """Frees it. A second call does nothing."""
+        """Frees the object. A second call does nothing."""
         raise NotImplementedError
 
     def __enter__(self: _Self) -> _Self:
@@ -613,13 +613,13 @@ class _Held:
         self.close()
 
     def __del__(self) -> None:
-        # An object whose making failed has no handle; an interpreter that ends may have no library.
+        # The handle is missing if construction failed, and the library may be when the interpreter exits.
         if _library is not None and "_lock" in self.__dict__:
             self.close()
 
 
 class WriteBatch(_Held):
-    """Operations that a store takes at once. They may be written more than once.
+    """Operations that a store writes atomically. A batch may be written more than once.
 
         >>> with WriteBatch() as batch:
         ...     batch.put(b"colour", b"blue")
@@ -627,7 +627,7 @@ class WriteBatch(_Held):
         ...     len(batch)
         2
 
-    One that `Store.write_batch` made is written when its `with` ends without an error.
+    A batch from `Store.write_batch` is written when its `with` block ends without an exception.
     """
 
     def __init__(self, store: Optional["Store"] = None) -> None:
@@ -635,22 +635,22 @@ class WriteBatch(_Held):
         self._begin()
 
     def put(self, key: bytes, value: bytes) -> None:
-        """Adds that a key is set to a value.
+        """Adds a put.
 
-        Raises `TooLong` for a text of 2^32 bytes or more, `BatchFull` behind 2^32 - 1 operations, and `OutOfMemory`.
+        Raises `TooLong` for a key or value of 2^32 bytes or more, `BatchFull` after 2^32 - 1 operations, and `OutOfMemory`.
         """
         self._call(_library.batch_put, *_texts(key, value))
 
     def delete(self, key: bytes) -> None:
-        """Adds that a key is removed. Raises what `put` does."""
+        """Adds a deletion. Raises what `put` does."""
         self._call(_library.batch_delete, *_texts(key))
 
     def merge(self, key: bytes, operand: bytes) -> None:
-        """Adds that a key is combined with an operand. Raises what `put` does."""
+        """Adds a merge. Raises what `put` does."""
         self._call(_library.batch_merge, *_texts(key, operand))
 
     def delete_range(self, begin: bytes, end: bytes) -> None:
-        """Adds that each key from `begin` to below `end` is removed. Raises what `put` does."""
+        """Adds a deletion of all keys from `begin` to below `end`. Raises what `put` does."""
         self._call(_library.batch_delete_range, *_texts(begin, end))
 
     def add(self, operations: Iterable[Operation]) -> None:
@@ -659,19 +659,19 @@ class WriteBatch(_Held):
             self._call(getattr(_library, _ADDS[type(operation)]), *_texts(*operation))
 
     def clear(self) -> None:
-        """Removes all operations. Their memory stays for others."""
+        """Removes all operations, and keeps their memory for new ones."""
         self._call(_library.batch_clear)
 
     def __len__(self) -> int:
-        """How many operations there are."""
+        """Returns the number of operations."""
         count = _U64()
         self._call(_library.batch_count, ctypes.byref(count))
         return count.value
 
     def to_bytes(self, sequence: int = 0) -> bytes:
-        """The batch as RocksDB writes it. Its first operation has the sequence.
+        """Returns the batch in RocksDB's format. `sequence` is the sequence number of its first operation.
 
-        Raises `SequenceBack` for one below 0.
+        Raises `SequenceBack` if it is below 0.
         """
         if sequence < 0:
             raise SequenceBack()
@@ -683,13 +683,13 @@ class WriteBatch(_Held):
         return room.raw
 
     def _size(self) -> int:
-        """How many bytes the batch has."""
+        """Returns the size of the batch in bytes."""
         size = _SIZE()
         self._call(_library.batch_bytes, None, 0, ctypes.byref(size))
         return size.value
 
     def close(self) -> None:
-        """Frees the operations. The batch has none then, and may gather others."""
+        """Frees the operations. The batch is empty then, and can be used again."""
         with self._lock:
             _library.batch_close(self._handle)
 
@@ -706,7 +706,7 @@ _ADDS = {Put: "batch_put", Delete: "batch_delete", Merge: "batch_merge", DeleteR
 
 
 def _batch_of(operations: Union[WriteBatch, Iterable[Operation]]) -> WriteBatch:
-    """The batch, or one of the operations."""
+    """Returns a batch unchanged, and operations as a batch."""
     if isinstance(operations, WriteBatch):
         return operations
     batch = WriteBatch()
@@ -715,12 +715,12 @@ def _batch_of(operations: Union[WriteBatch, Iterable[Operation]]) -> WriteBatch:
 
 
 def batch_bytes(operations: Iterable[Operation], sequence: int = 0) -> bytes:
-    """The bytes of operations as a write batch of RocksDB. The first one has the sequence."""
+    """Returns operations as a write batch in RocksDB's format. `sequence` is the sequence number of the first one."""
     return _batch_of(operations).to_bytes(sequence)
 
 
 class _HeldReader(_Held, _Reader):
-    """A store or a view, which the library reads by functions of the same names after a prefix."""
+    """A store or a view: the library's functions for both have the same names after a prefix."""
 
     _prefix = ""
 
@@ -730,13 +730,13 @@ class _HeldReader(_Held, _Reader):
 
     @property
     def last(self) -> int:
-        """The last sequence: 0 if nothing was written."""
+        """The last sequence number: 0 if nothing was written."""
         sequence = _U64()
         self._call(self._function("last"), ctypes.byref(sequence))
         return sequence.value
 
     def source(self, key: bytes) -> LookupSource:
-        """Where `get` finds what it answers of a key. It costs a lookup at most. Raises `OutOfMemory`.
+        """Returns the part of the store that answers a lookup of a key. Costs at most a lookup. Raises `OutOfMemory`.
 
             >>> with Store(Operator.APPEND) as store:
             ...     store[b"colour"] = b"blue"
@@ -748,15 +748,15 @@ class _HeldReader(_Held, _Reader):
         return LookupSource(source.value)
 
     def get_at(self, key: bytes, at: int) -> Optional[bytes]:
-        """The value under a key at a snapshot, or None. Raises `NotProtected` and `OutOfMemory`."""
+        """Returns the value of a key at a snapshot, or None. Raises `NotProtected` and `OutOfMemory`."""
         return self._value(self._function("get_at"), *_texts(key), _sequence(at))
 
     def scan_at(self, low: bytes, high: Optional[bytes], at: int) -> Iterator[_Row]:
-        """The rows of a `scan` at a snapshot. Raises `NotProtected` and `OutOfMemory`."""
+        """Yields the rows of a `scan` at a snapshot. Raises `NotProtected` and `OutOfMemory`."""
         return self._scan(low, high, at)
 
     def get_many(self, keys: Iterable[bytes]) -> List[Optional[bytes]]:
-        """For each key its value, or None. Raises `OutOfMemory`."""
+        """Returns the value of each key, or None. Raises `OutOfMemory`."""
         asked = list(map(_bytes_of, keys))
         count, size, length = len(asked), _SIZE(), _USUAL_SHARE * len(asked)
         key_lengths, value_lengths = (_U64 * count)(*map(len, asked)), (_U64 * count)()
@@ -772,7 +772,7 @@ class _HeldReader(_Held, _Reader):
         return self._value(self._function("get"), *_texts(key))
 
     def _value(self, function: _Function, *arguments: object) -> Optional[bytes]:
-        """The value that a lookup copies into a room, if there is one."""
+        """Returns the value that a lookup copies to a buffer, or None."""
         size, length = _SIZE(), _USUAL_VALUE
         with self._lock:
             while True:
@@ -799,7 +799,7 @@ class _HeldReader(_Held, _Reader):
             elif limit == 1:
                 room = bytearray(size)
             else:
-                # The next page tells how large its one row is.
+                # The next page reports how large its only row is.
                 limit = 1
             if rows:
                 # No key is between the last one and this.
@@ -808,7 +808,7 @@ class _HeldReader(_Held, _Reader):
     def _page(
         self, low: bytes, high: Optional[bytes], at: Optional[int], limit: int, room: bytearray
     ) -> Tuple[List[_Row], int]:
-        """The first rows of a scan, at most `limit`, as many as fit the room, and the size of all."""
+        """Returns the first rows of a scan, at most `limit`, that fit the buffer, and the size of all rows found."""
         size, count = _SIZE(), _U64()
         ends = (*_texts(low, b"" if high is None else high), high is not None)
         place = ((ctypes.c_char * len(room)).from_buffer(room), len(room), ctypes.byref(size), ctypes.byref(count))
@@ -824,35 +824,35 @@ class _HeldReader(_Held, _Reader):
         return rows, size.value
 
     def report(self) -> Report:
-        """What it holds, in numbers."""
+        """Returns statistics."""
         report = _Report(ctypes.sizeof(_Report))
         self._call(self._function("report"), ctypes.byref(report))
         return Report(*(getattr(report, name) for name in Report._fields))
 
 
 class Store(_HeldReader):
-    """A log-structured merge store in memory.
+    """An LSM tree in memory.
 
-    Writes are gathered in a memtable, which becomes a run when it is full. Runs are compacted then.
+    Writes go to a memtable, which is flushed to a run when it is full. Runs are then compacted.
 
     Its calls wait for one another, so that threads may share it. It opens without snapshots. Each `take_snapshot` at a
-    sequence is counted, and needs a `release` of its own. A scan of the store whose rows come in several pages sees
-    what is written between them: a scan of a snapshot doesn't.
+    sequence number is counted, and needs its own `release`. A scan of the store that takes several pages sees writes made
+    between them; a scan of a snapshot does not.
 
     `with` closes it at the end. A closed store raises `NoStore`.
     """
 
     ended = Ended(End.CLEAN, None, 0)
-    """How the log ended that the store was opened from."""
+    """Where and why reading the log ended that the store was opened from."""
 
     def __init__(self, operator: Operator, options: Options = Options()) -> None:
-        """An empty store. Raises `BadOption` and `OutOfMemory`."""
+        """Creates an empty store. Raises `BadOption` and `OutOfMemory`."""
         self._begin()
         _check(_library.create(self._handle, operator, ctypes.byref(_Options.of(options))))
 
     @classmethod
     def open(cls, operator: Operator, log: bytes, options: Options = Options()) -> "Store":
-        """A store with the writes of a write-ahead log before its first fault. Its `ended` says how the log ends.
+        """Opens a store with all writes of a write-ahead log before its first fault. Its `ended` says how the log ends.
 
         Raises `BadOption`, `IdsSpent` and `OutOfMemory`.
         """
@@ -869,11 +869,11 @@ class Store(_HeldReader):
             _library.close(self._handle)
 
     def write(self, operations: Union["WriteBatch", Iterable[Operation]], sequence: int = 0) -> None:
-        """Writes a batch, or operations at once: all, or none of them.
+        """Writes a batch, or operations, atomically.
 
-        They get sequences one by one, from `sequence` on, or from the one behind the last. `sequence` is 0 or above the
-        last one: there may be gaps. Raises `SequenceBack`, `SequencesSpent`, `IdsSpent` and `OutOfMemory`, and for
-        operations what a batch raises.
+        They get consecutive sequence numbers, from `sequence` on, or from the one after the last write if `sequence` is 0.
+        It must be above the last one; gaps are allowed. Raises `SequenceBack`, `SequencesSpent`, `IdsSpent` and
+        `OutOfMemory`, and for operations what a batch raises.
         """
         batch = _batch_of(operations)
         if sequence == 0:
@@ -883,11 +883,11 @@ class Store(_HeldReader):
             self.write_bytes(batch.to_bytes(sequence))
 
     def write_bytes(self, batch: bytes) -> None:
-        """Writes a batch that `batch_bytes` or RocksDB wrote. Raises `NotABatch`, and what `write` does."""
+        """Writes a batch that `batch_bytes` or RocksDB has encoded. Raises `NotABatch`, and what `write` does."""
         self._call(_library.write_bytes, *_texts(batch))
 
     def write_batch(self) -> "WriteBatch":
-        """A batch that is written when its `with` ends, unless that raises.
+        """Returns a batch that is written when its `with` block ends, unless that raises.
 
             >>> with Store(Operator.APPEND) as store:
             ...     with store.write_batch() as batch:
@@ -901,7 +901,7 @@ class Store(_HeldReader):
     def put(self, key: bytes, value: bytes) -> None:
         """Sets a key to a value.
 
-        Raises `TooLong` for a text of 2^32 bytes or more, `SequencesSpent`, `IdsSpent` and `OutOfMemory`.
+        Raises `TooLong` for a key or value of 2^32 bytes or more, `SequencesSpent`, `IdsSpent` and `OutOfMemory`.
         """
         self._call(_library.put, *_texts(key, value))
 
@@ -910,23 +910,23 @@ class Store(_HeldReader):
         self.put(key, value)
 
     def delete(self, key: bytes) -> None:
-        """Removes a key. Raises what `put` does."""
+        """Deletes a key. Raises what `put` does."""
         self._call(_library.delete, *_texts(key))
 
     def __delitem__(self, key: bytes) -> None:
-        """Removes a key, as `delete` does. A key without a value is no error: nothing is read."""
+        """Deletes a key, as `delete` does. It is no error if the key has no value: nothing is read."""
         self.delete(key)
 
     def merge(self, key: bytes, operand: bytes) -> None:
-        """Combines a key with an operand. Raises what `put` does."""
+        """Merges an operand into a key's value. Raises what `put` does."""
         self._call(_library.merge, *_texts(key, operand))
 
     def delete_range(self, begin: bytes, end: bytes) -> None:
-        """Removes each key from `begin` to below `end`. Raises what `put` does."""
+        """Deletes all keys from `begin` (inclusive) to `end` (exclusive). Raises what `put` does."""
         self._call(_library.delete_range, *_texts(begin, end))
 
     def take_snapshot(self) -> int:
-        """Takes a snapshot at the last sequence, until `release` is called as often as this. Returns the sequence.
+        """Takes a snapshot at the last sequence number, and returns that. It lasts until `release` was called as often as this.
 
         Raises `IdsSpent` and `OutOfMemory`.
         """
@@ -935,20 +935,20 @@ class Store(_HeldReader):
         return sequence.value
 
     def release(self, sequence: int) -> None:
-        """Undoes a `take_snapshot`. The last release at a sequence ends its snapshot. Raises `NotProtected`."""
+        """Undoes one `take_snapshot`. The last release at a sequence number ends its snapshot. Raises `NotProtected`."""
         self._call(_library.release, _sequence(sequence))
 
     def snapshot(self) -> "Snapshot":
-        """A snapshot at the last sequence, which `with` releases at its end. Raises `IdsSpent` and `OutOfMemory`."""
+        """Takes a snapshot at the last sequence number; `with` releases it. Raises `IdsSpent` and `OutOfMemory`."""
         return Snapshot(self)
 
     def view(self) -> "View":
-        """What the store holds now, for other threads to read. `with` closes it at its end. Raises `OutOfMemory`."""
+        """Takes a view of the store as it is now, for other threads to read; `with` closes it. Raises `OutOfMemory`."""
         return View(_library.view, self)
 
     def take_job(self) -> Optional["Job"]:
-        """Takes out a job, if there is one: the flush of a full memtable, with `max_write_buffer_number` above 1, or else
-        the compaction that is picked next among the runs that no other job has.
+        """Takes out a job, or returns None: the flush of a full memtable, if `max_write_buffer_number` is above 1, or else the
+        next compaction that is due among the runs that no other job has.
 
         Raises `OutOfMemory`.
         """
@@ -957,7 +957,7 @@ class Store(_HeldReader):
 
     @property
     def snapshots(self) -> List[int]:
-        """The sequences at which snapshots are, which rise."""
+        """The sequence numbers of the snapshots, in ascending order."""
         count = _SIZE()
         with self._lock:
             self._call(_library.snapshots, (_U64 * 1)(), 0, ctypes.byref(count))
@@ -966,27 +966,27 @@ class Store(_HeldReader):
         return list(room)
 
     def flush(self) -> None:
-        """Makes a run of what is gathered. Raises `IdsSpent` and `OutOfMemory`."""
+        """Flushes the memtables. Raises `IdsSpent` and `OutOfMemory`."""
         self._call(_library.flush)
 
     def compact(self) -> bool:
-        """Compacts the runs that are picked next, if there are any, and tells whether there were.
+        """Does the next compaction that is due, and returns True if there was one.
 
-        A store that compacts by itself needs no such call. Raises `IdsSpent` and `OutOfMemory`.
+        Optional if the store compacts automatically. Raises `IdsSpent` and `OutOfMemory`.
         """
         compacted = ctypes.c_bool()
         self._call(_library.compact, ctypes.byref(compacted))
         return compacted.value
 
     def prepare(self, length: int, operations: Union["WriteBatch", Iterable[Operation]], sequence: int = 0) -> bytes:
-        """Prepares a batch, or operations, so that `commit` can write them, and returns what they add to a log.
+        """Prepares a batch, or operations, for `commit`, and returns the bytes to append to a log of `length` bytes.
 
-        The log has `length` bytes before, and `sequence` is that of `write`. No read sees it before `commit`.
-        What was prepared before is given up, as it is by a write, a flush or a snapshot in between.
+        `sequence` is as in `write`. No read sees the batch before `commit`. It discards a batch prepared earlier, as do a
+        write, a flush or a snapshot before the commit.
 
-        Append the bytes to the log's file, wait until they are on its device, and `commit`: then `open` has them again
-        after a crash. If the file fails, cut it back, and `give_up`. A file that was read is cut first, as
-        `LogWrites.end` says.
+        Append the bytes to the log's file, sync it, and call `commit`: then `open` recovers the batch after a crash. If
+        the file fails, truncate it to its old length, and call `give_up`. Before you append to a file that was read,
+        truncate it as `LogWrites.end` says.
 
         Raises what `write` would.
         """
@@ -997,12 +997,12 @@ class Store(_HeldReader):
             return self._record(batch._size(), _library.prepare, batch._handle, length)
 
     def prepare_bytes(self, length: int, batch: bytes) -> bytes:
-        """Prepares a batch that `batch_bytes` or RocksDB wrote, as `prepare` does. Raises what `write_bytes` would."""
+        """Prepares a batch that `batch_bytes` or RocksDB has encoded, as `prepare` does. Raises what `write_bytes` would."""
         return self._record(len(batch), _library.prepare_bytes, *_texts(batch), length)
 
     def _record(self, batch_size: int, function: _Function, *arguments: object) -> bytes:
-        """What a batch adds to a log."""
-        # Room for a header in each block, and for the end of the block before.
+        """Returns the bytes that a batch adds to a log."""
+        # Space for a header in each block, and for the end of the previous block.
         size, room_length = _SIZE(), batch_size + _HEADER * (batch_size // _MOST_FRAGMENT + 3)
         while True:
             room = ctypes.create_string_buffer(room_length)
@@ -1014,26 +1014,26 @@ class Store(_HeldReader):
             room_length = size.value
 
     def commit(self) -> None:
-        """Writes what is prepared; if nothing is, it does nothing. It takes no memory."""
+        """Makes the prepared batch visible, if there is one. Allocates no memory."""
         self._call(_library.commit)
 
     def give_up(self) -> None:
-        """Gives up what is prepared, if anything is."""
+        """Discards the prepared batch, if there is one."""
         self._call(_library.give_up)
 
 
 class Snapshot(_Reader):
-    """A snapshot of a store: it reads what was written before it was taken. `with` releases it at its end."""
+    """A snapshot of a store. It reads what was written before it was taken. `with` releases it."""
 
     def __init__(self, store: Store) -> None:
         self._store = store
         self._is_held = False
         self.sequence = store.take_snapshot()
-        """The sequence that it is at."""
+        """Its sequence number."""
         self._is_held = True
 
     def release(self) -> None:
-        """Releases the snapshot. A second call does nothing, and neither does one after the store's end."""
+        """Releases the snapshot. A second call does nothing, nor does a call after the store was closed."""
         if self._is_held:
             self._is_held = False
             if self._store._at.at is not None:
@@ -1053,11 +1053,11 @@ class Snapshot(_Reader):
 
 
 class View(_HeldReader):
-    """What a store held at a moment, as `Store.view` makes it.
+    """A read-only view of a store at one point in time, from `Store.view`.
 
-    It stays so, whatever is written, flushed and compacted, and also when the store is closed. Its calls wait for one
-    another, and not for those of the store: each thread takes one of its own by `again`. It holds the memory of the
-    runs that it has, until `with` closes it.
+    No write, flush or compaction changes it, nor does closing the store. Its calls wait for one another, but not for
+    those of the store: give each thread its own handle with `again`. It keeps the memory of its runs until `with`
+    closes it.
 
         >>> with Store(Operator.APPEND) as store:
         ...     store[b"colour"] = b"blue"
@@ -1074,11 +1074,11 @@ class View(_HeldReader):
         source._call(function, self._handle)
 
     def again(self) -> "View":
-        """The view once more, for another thread. No run is copied. Raises `OutOfMemory`."""
+        """Returns another handle to the view, for another thread. Copies no data. Raises `OutOfMemory`."""
         return View(_library.view_again, self)
 
     def checkpoint(self) -> "Checkpoint":
-        """The rows at the last sequence as a log, piece by piece. The view stays. Raises `OutOfMemory`."""
+        """Starts a checkpoint: the rows at the last sequence number as a log. The view stays open. Raises `OutOfMemory`."""
         return Checkpoint(self)
 
     def close(self) -> None:
@@ -1088,10 +1088,10 @@ class View(_HeldReader):
 
 
 class Checkpoint(_Held):
-    """The rows of a view at its last sequence as a log, piece by piece, as `View.checkpoint` makes it.
+    """The rows of a view at its last sequence number as a log, piece by piece, from `View.checkpoint`.
 
-    `Store.open` opens a store of exactly these rows from the pieces one after the other. They are numbered from 1, so
-    batches that were written later go on after them.
+    `Store.open` opens a store of exactly these rows from the concatenated pieces. The rows are numbered from 1, so
+    batches that were written later can follow them.
 
         >>> with Store(Operator.APPEND) as store:
         ...     store[b"colour"] = b"red"
@@ -1112,7 +1112,7 @@ class Checkpoint(_Held):
         return self
 
     def __next__(self) -> bytes:
-        """The next piece. Raises `NoCheckpoint`, `TooLong` and `OutOfMemory`: no piece comes after one."""
+        """Returns the next piece. Raises `NoCheckpoint`, `TooLong` and `OutOfMemory`, after which there is no other piece."""
         with self._lock:
             if self._is_done:
                 raise StopIteration
@@ -1126,7 +1126,7 @@ class Checkpoint(_Held):
             return piece
 
     def _piece(self) -> bytes:
-        """Lays the next piece out. It has fewer rows if it doesn't fit, and the room grows for a single one."""
+        """Encodes the next piece. It has fewer rows if it does not fit; for a single row the buffer grows."""
         size, done = _SIZE(), ctypes.c_bool()
         while True:
             length = len(self._room) if self._rows == 1 else _PIECE_BYTES
@@ -1147,13 +1147,13 @@ class Checkpoint(_Held):
         return bytes(memoryview(self._room)[:size.value])
 
     def close(self) -> None:
-        """Frees the checkpoint. Its view stays. A second call does nothing."""
+        """Frees the checkpoint. Its view stays open. A second call does nothing."""
         with self._lock:
             _library.checkpoint_close(self._handle)
 
 
 class Job(_Held):
-    """A flush or a compaction that `Store.take_job` takes out of a store. Any thread runs it, while the store goes on.
+    """A flush or a compaction that `Store.take_job` has taken out of a store. Any thread may run it, while the store is used.
 
         >>> with Store(Operator.APPEND, Options(compacts_itself=False)) as store:
         ...     for number in range(4):
@@ -1173,15 +1173,15 @@ class Job(_Held):
         self._is_out = taken.value
 
     def run(self) -> None:
-        """Sorts the writes, or merges the runs. It touches no store. One that was run isn't run again.
+        """Runs the job, unless it was run already. Uses no store.
 
-        Raises `NoJob` and `OutOfMemory`. Then the job is as it was.
+        Raises `NoJob` and `OutOfMemory`, which leave the job unchanged.
         """
         self._call(_library.job_run)
 
     @property
     def input_bytes(self) -> int:
-        """How many bytes the runs have together that it compacts, as `Report.bytes` counts them: 0 for a flush.
+        """Total size of the runs that it compacts, as `Report.bytes` counts: 0 for a flush.
 
         Raises `NoJob`.
         """
@@ -1190,16 +1190,16 @@ class Job(_Held):
         return size.value
 
     def end(self) -> bool:
-        """Ends the job: if it was run, its run takes the place of what it had. Tells whether it did.
+        """Ends the job, and installs its run if it was run. Returns True if the run was installed.
 
-        It doesn't if the store is closed, or has no number left for a run, nor if it has flushed the writes of the job
-        itself. A second call does nothing.
+        It is not if the store is closed, if run IDs are exhausted, or if the store has flushed the job's writes itself. A
+        second call does nothing.
         """
         installed = ctypes.c_bool()
         with self._lock:
             with self._store._lock:
                 _library.job_end(self._store._handle, self._handle, ctypes.byref(installed))
-            # The runs that it had are freed while the store goes on.
+            # Frees the old runs while the store is in use.
             _library.job_close(self._handle)
         return installed.value
 
@@ -1223,14 +1223,14 @@ class LogWrites:
 
     @property
     def offset(self) -> int:
-        """Where the log goes on after the batches that were read."""
+        """Offset after the batches that were read."""
         return int(self._place.offset)
 
     def end(self) -> Tuple[int, Ended]:
-        """Passes over what is left, and returns where the log goes on, and how it ends.
+        """Skips the remaining writes, and returns the offset where the log ends, and how it ends.
 
-        A log's file is cut to this length before more is appended to it: what is after may be a torn record, or zeros
-        that a crash left. Raises `OutOfMemory`.
+        Truncate the log's file to this length before you append to it: the rest may be an incomplete record, or zeros that
+        a crash left. Raises `OutOfMemory`.
         """
         self._batch = iter(())
         while self.ended is None:
@@ -1241,7 +1241,7 @@ class LogWrites:
         return self
 
     def __next__(self) -> Write:
-        """The next write. Raises `OutOfMemory`."""
+        """Returns the next write. Raises `OutOfMemory`."""
         for write in self._batch:
             return write
         while self.ended is None:
@@ -1251,7 +1251,7 @@ class LogWrites:
         raise StopIteration
 
     def _fetch(self) -> int:
-        """Fetches a batch, and returns how many writes it has: none where the log ends, or if the room must grow."""
+        """Fetches a batch, and returns its number of writes: 0 at the end of the log, or if the buffer has to grow."""
         size, writes, ended = _SIZE(), _U64(), _Ended()
         length = len(self._room)
         room = (ctypes.c_char * length).from_buffer(self._room)
@@ -1266,7 +1266,7 @@ class LogWrites:
         return writes.value
 
     def _writes(self, count: int) -> Iterator[Write]:
-        """The writes of the room: each its sequence, its tag, and two texts, the second empty for a deletion."""
+        """Yields the writes in the buffer: each a sequence number, a tag and two byte strings, the second empty for a deletion."""
         view, place = memoryview(self._room), 0
         for _ in range(count):
             sequence, tag = struct.unpack_from("<QB", view, place)
@@ -1277,11 +1277,11 @@ class LogWrites:
 
 
 def log_writes(log: bytes) -> LogWrites:
-    """The writes of a log, given as its bytes."""
+    """Returns the writes of a log, which is given as bytes."""
     return LogWrites(log)
 
 
-# Behind what they use of this module.
+# At the end, since they import this module.
 from ._db import Db, DbBatch, DbSnapshot  # noqa: E402
 from ._db_types import (  # noqa: E402
     Closed, Damaged, DbError, DbOptions, DbStats, Event, EventKind, FileFault, Forked, Locked, Missing, NotRecoverable,

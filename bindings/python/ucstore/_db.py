@@ -1,7 +1,7 @@
-"""`Db`: a durable database for many threads, in a folder.
+"""`Db`: a durable database in a directory, for many threads.
 
-It loads the file that `UCSTORE_DB_LIBRARY` names, else `libucstore_db.so.2` beside this module, else the one that the
-system's loader finds, when the first database is opened.
+The first database that is opened loads the shared library: the file that `UCSTORE_DB_LIBRARY` names, or
+`libucstore_db.so.2` next to this module, or the one that the system's loader finds.
 """
 
 from __future__ import annotations
@@ -22,61 +22,62 @@ _Size, _U64 = ctypes.c_size_t, ctypes.c_uint64
 
 
 class DbBatch(Alone):
-    """Operations that a database takes at once: all of them, or none. It is written when its `with` ends without an error.
+    """Operations that a database writes atomically. A batch is written when its `with` block ends without an exception.
 
-    Its calls raise `TooLong` for a text of 2^32 bytes or more, `BatchFull` behind 2^32 - 1 operations, and `OutOfMemory`.
+    Its methods raise `TooLong` for a key or value of 2^32 bytes or more, `BatchFull` after 2^32 - 1 operations, and
+    `OutOfMemory`.
     """
 
     _close = "batch_close"
 
     def __init__(self, db: Db) -> None:
-        """That of a database, as `Db.write_batch` makes it."""
+        """Creates an empty batch of a database, as `Db.write_batch` does."""
         self._db = db
         super().__init__(db._library, "batch_create")
 
     def put(self, key: Bytes, value: Bytes) -> None:
-        """Adds that a key is set to a value."""
+        """Adds a put."""
         first, second = bytes_of(key), bytes_of(value)
         self._call("batch_put", first, len(first), second, len(second))
 
     def merge(self, key: Bytes, operand: Bytes) -> None:
-        """Adds that a key is combined with an operand."""
+        """Adds a merge."""
         first, second = bytes_of(key), bytes_of(operand)
         self._call("batch_merge", first, len(first), second, len(second))
 
     def delete(self, key: Bytes) -> None:
-        """Adds that a key is removed."""
+        """Adds a deletion."""
         first = bytes_of(key)
         self._call("batch_delete", first, len(first))
 
     def delete_range(self, begin: Bytes, end: Bytes) -> None:
-        """Adds that each key from `begin` to below `end` is removed."""
+        """Adds a deletion of all keys from `begin` to below `end`."""
         first, second = bytes_of(begin), bytes_of(end)
         self._call("batch_delete_range", first, len(first), second, len(second))
 
     def __setitem__(self, key: Bytes, value: Bytes) -> None:
-        """Adds that a key is set to a value."""
+        """Adds a put."""
         self.put(key, value)
 
     def __delitem__(self, key: Bytes) -> None:
-        """Adds that a key is removed."""
+        """Adds a deletion."""
         self.delete(key)
 
     def __len__(self) -> int:
-        """How many operations there are."""
+        """Returns the number of operations."""
         count = _U64()
         self._call("batch_count", ctypes.byref(count))
         return count.value
 
     def clear(self) -> None:
-        """Removes all operations. Their memory stays for others."""
+        """Removes all operations, and keeps their memory for new ones."""
         self._call("batch_clear")
 
     def __enter__(self) -> DbBatch:
         return self
 
     def __exit__(self, kind: Optional[Type[BaseException]], *_: object) -> None:
-        """Writes it, unless an error ends the `with`. Raises what `Db.write` does."""
+        """Writes the batch, unless an exception ends the `with` block. Raises what `Db.write` does."""
         try:
             if kind is None:
                 self._db.write(self)
@@ -85,9 +86,9 @@ class DbBatch(Alone):
 
 
 class DbSnapshot(Alone, Reader):
-    """What a database held at a moment, as `Db.snapshot` makes it. It stays so, whatever is written.
+    """A read-only view of a database at one point in time, from `Db.snapshot`. Later writes do not change it.
 
-    It is read after the end of its database too. It holds the memory of what it has, until `with` closes it.
+    It can be read even after its database was closed. It keeps its memory until `with` closes it.
     """
 
     _close = "snapshot_close"
@@ -97,7 +98,7 @@ class DbSnapshot(Alone, Reader):
         super().__init__(db._library, function, db._at, *arguments)
 
     def again(self) -> DbSnapshot:
-        """Another one of the same, so that another thread doesn't wait. Nothing is copied."""
+        """Returns another handle to the snapshot, so that two threads need not wait for one another. Copies no data."""
         with self._lock:
             if self._is_closed:
                 raise Closed()
@@ -107,7 +108,7 @@ class DbSnapshot(Alone, Reader):
 
     @property
     def sequence(self) -> int:
-        """The sequence of the last write that it has."""
+        """Sequence number of the last write in the snapshot."""
         sequence = _U64()
         self._call("snapshot_sequence", ctypes.byref(sequence))
         return sequence.value
@@ -124,7 +125,7 @@ class DbSnapshot(Alone, Reader):
 
 
 class Db(Reader):
-    """A durable database in a folder, which threads share.
+    """A durable database in a directory, which threads share.
 
     >>> import tempfile
     >>> with tempfile.TemporaryDirectory() as folder:
@@ -134,12 +135,12 @@ class Db(Reader):
     ...         list(db.items())
     [(b'colour', b'blue')]
 
-    Keys and values are bytes, or like bytes. A write is acknowledged once it is on the device, or as the options say. Other
-    threads run while a call works. A process that is forked goes on with it in the parent alone: the child is told
-    `Forked`.
+    Keys and values are bytes or bytes-like. When a write returns, it is acknowledged, and durable unless the options say
+    otherwise. Calls release the interpreter lock. After a fork only the parent can use the database: in the child its
+    calls raise `Forked`.
 
-    Calls that write raise `ReadOnly` if a log fails or has failed, `SequencesSpent`, `IdsSpent`, `TooLong` for a text of
-    2^32 bytes or more, and `OutOfMemory`. Then nothing was taken.
+    Calls that write raise `ReadOnly` if a log fails or has failed, `SequencesSpent`, `IdsSpent`, `TooLong` for a key or
+    value of 2^32 bytes or more, and `OutOfMemory`. A call that raises has written nothing.
     """
 
     def __init__(
@@ -155,21 +156,21 @@ class Db(Reader):
         marks: Sequence[int] = (),
         must_exist: bool = False,
     ) -> None:
-        """Opens the database of a directory, which is made if it isn't there. With `must_exist` that raises `Missing` instead.
+        """Opens the database in a directory, which is created if it does not exist. With `must_exist` it raises `Missing` instead.
 
-        `progress` is told how far the opening is, and `events` what the database does: by the thread that did it, which
-        waits meanwhile. Both may call the database, but for its `close`.
+        `progress` is called with the progress of the opening, and `events` with each event, by the thread that did the
+        work, which waits for the call. Both may call the database, except its `close`.
 
-        What the files have after the sequence `recover_to` is given up: it is cut off before the first write. No batch of
-        that may begin after `give_up_until`. Snapshots are made at the sequences `marks`, for `take_mark`. Each of these
-        is the end of a batch.
+        Writes after the sequence number `recover_to` are discarded: the first write removes them from the files. Opening
+        fails if a discarded batch begins after `give_up_until`. Snapshots are taken at the sequence numbers `marks`, for
+        `take_mark`. Each of these numbers must be the end of a batch.
 
         Raises `Locked`, `Damaged`, `Missing`, `NotRecoverable`, `OtherOperator`, `FileFault`, `BadOption`, `OutOfMemory`,
-        and `ValueError` for a name with a zero byte.
+        and `ValueError` for a name with a null byte.
         """
         name = os.fsencode(folder)
         if b"\0" in name:
-            raise ValueError("a zero byte is in the folder's name")
+            raise ValueError("directory name contains a null byte")
         given = Options.of(operator, options)
         given.recover(recover_to, give_up_until, marks)
         given.must_exist = must_exist
@@ -177,7 +178,7 @@ class Db(Reader):
 
     @classmethod
     def in_memory(cls, operator: Operator = Operator.APPEND, options: DbOptions = DbOptions()) -> Db:
-        """An empty database without a folder. Raises `BadOption`, `FileFault` and `OutOfMemory`."""
+        """Creates an empty database without files. Raises `BadOption`, `FileFault` and `OutOfMemory`."""
         db = cls.__new__(cls)
         db._begin(Options.of(operator, options), None, None, "in_memory")
         return db
@@ -191,7 +192,7 @@ class Db(Reader):
         *arguments: object,
     ) -> None:
         functions = library()
-        # They are called as long as it is open.
+        # Keeps the callbacks alive while the database is open.
         self._listeners = (progress_function(progress), event_function(events))
         given.progress, given.event = self._listeners
         super().__init__(functions, function, *arguments, ctypes.byref(given))
@@ -207,26 +208,26 @@ class Db(Reader):
         self.put(key, value)
 
     def merge(self, key: Bytes, operand: Bytes) -> None:
-        """Combines a key with an operand."""
+        """Merges an operand into a key's value."""
         first, second = bytes_of(key), bytes_of(operand)
         self._call("merge", first, len(first), second, len(second))
 
     def delete(self, key: Bytes) -> None:
-        """Removes a key. One without a value is no error: nothing is read."""
+        """Deletes a key. It is no error if the key has no value: nothing is read."""
         first = bytes_of(key)
         self._call("delete", first, len(first))
 
     def __delitem__(self, key: Bytes) -> None:
-        """Removes a key, as `delete` does."""
+        """Deletes a key, as `delete` does."""
         self.delete(key)
 
     def delete_range(self, begin: Bytes, end: Bytes) -> None:
-        """Removes each key from `begin` to below `end`: none if `begin` isn't below `end`."""
+        """Deletes all keys from `begin` (inclusive) to `end` (exclusive). The range may be empty."""
         first, second = bytes_of(begin), bytes_of(end)
         self._call("delete_range", first, len(first), second, len(second))
 
     def write_batch(self) -> DbBatch:
-        """A batch that is written when its `with` ends, unless that raises.
+        """Returns a batch that is written when its `with` block ends, unless that raises.
 
         >>> with Db.in_memory() as db:
         ...     with db.write_batch() as batch:
@@ -238,7 +239,7 @@ class Db(Reader):
         return DbBatch(self)
 
     def write(self, batch: DbBatch, synced: Optional[bool] = None) -> None:
-        """Takes a batch: all of it, or nothing. `synced` says whether it is to be on the device then, else the options do."""
+        """Writes a batch atomically. `synced` says whether it is durable on return; by default the options decide."""
         with batch._lock:
             if batch._is_closed:
                 raise Closed()
@@ -248,58 +249,61 @@ class Db(Reader):
                 self._call("write_with", batch._at, synced)
 
     def write_bytes(self, batch: Bytes, synced: bool = True) -> None:
-        """Takes a batch that `batch_bytes` or RocksDB wrote, alone in its record.
+        """Writes a batch that `batch_bytes` or RocksDB has encoded, in a log record of its own.
 
-        Its operations get its sequence and those behind it, or the ones behind the last one if it is 0. There may be a gap
-        before it, which its record tells. Raises `NotABatch` and `SequenceBack` too.
+        Its operations get the sequence number of the batch and those that follow it, or, if it is 0, the next ones of the
+        database. The batch may skip sequence numbers; its log record notes the gap. Also raises `NotABatch` and
+        `SequenceBack`.
         """
         text = bytes_of(batch)
         self._call("write_bytes", text, len(text), synced)
 
     def snapshot(self) -> DbSnapshot:
-        """What it holds now. `with` closes it at its end."""
+        """Takes a snapshot of the database as it is now; `with` closes it."""
         if self._is_closed:
             raise Closed()
         return DbSnapshot(self)
 
     def sync(self) -> None:
-        """Waits until all acknowledged writes are on the device. Raises `ReadOnly`."""
+        """Waits until all acknowledged writes are durable. Raises `ReadOnly`."""
         self._call("sync")
 
     def flush(self) -> None:
-        """Makes a run of what is gathered. Nothing has to call this."""
+        """Flushes the memtables. Optional: flushes happen automatically."""
         self._call("flush")
 
     def compact(self) -> None:
-        """Compacts until nothing is picked. Nothing has to call this."""
+        """Compacts until no compaction is due. Optional: compactions happen automatically."""
         self._call("compact")
 
     def checkpoint(self) -> None:
-        """Writes all that it holds to a base, and removes the logs before it. Others write meanwhile.
+        """Writes a checkpoint, and deletes the logs that it covers. Writers are not stopped.
 
-        Raises `FileFault` if the base isn't written: then the logs stay, and the database goes on. Raises `ReadOnly`.
+        Raises `FileFault` if the checkpoint is not written: the logs are kept, and the database works as before. Raises
+        `ReadOnly`.
         """
         self._call("checkpoint")
 
     def checkpoint_to(self, snapshot: DbSnapshot) -> None:
-        """Writes what a snapshot has to a base, and removes the logs that have nothing behind it.
+        """Writes a checkpoint of a snapshot, and deletes the logs that hold no later write.
 
-        What came behind it stays, so that it may be a mark. Others write meanwhile. If a base has as much, it does nothing.
-        It ends by `Closed` if the database is closed. Raises `OtherDatabase`, and what `checkpoint` does.
+        Later writes stay in logs, so that the snapshot can be one of the `marks` of the next opening. Writers are not
+        stopped. Does nothing if an existing checkpoint covers the snapshot. Raises `Closed` if the database is closed
+        before it ends, `OtherDatabase`, and what `checkpoint` does.
         """
-        # Who reads it meanwhile doesn't wait.
+        # With its own handle, other readers of the snapshot need not wait.
         with snapshot.again() as again:
             self._call("checkpoint_to", again._at)
 
     def next_log(self) -> None:
-        """Goes on in a new log, so that a base of now will let the ones before it go. Nothing has to call this.
+        """Switches to a new log. A checkpoint of the present state can then delete all older logs. Optional.
 
-        Raises `FileFault` if it can't be made: then this one goes on. Raises `ReadOnly`.
+        Raises `FileFault` if no log can be created: the current one stays in use. Raises `ReadOnly`.
         """
         self._call("next_log")
 
     def take_mark(self, sequence: int) -> DbSnapshot:
-        """Gives out the snapshot that was made at one of the opening's `marks`, once. `with` closes it at its end.
+        """Returns the snapshot that opening took at `sequence`, one of its `marks`; `with` closes it. Each can be taken once.
 
         Raises `NotProtected`.
         """
@@ -308,29 +312,29 @@ class Db(Reader):
         return DbSnapshot(self, "take_mark", sequence)
 
     def failure(self) -> Optional[UcstoreError]:
-        """Why nothing can be written any more, if that is so."""
+        """Returns the error after which the database takes no more writes, or None."""
         status = self._status("failure")
         return None if status == OK else self._library.error(status)
 
     def stats(self) -> DbStats:
-        """What it holds and did, in numbers."""
+        """Returns statistics."""
         stats = Stats(ctypes.sizeof(Stats))
         self._call("stats", ctypes.byref(stats))
         return DbStats(*(getattr(stats, name) for name in DbStats._fields))
 
     def stats_text(self) -> str:
-        """What it holds and did, as a table."""
+        """Returns the statistics as a table."""
         size, room = _Size(), ctypes.create_string_buffer(4096)
         self._call("stats_text", room, len(room), ctypes.byref(size))
         return room.value.decode()
 
     def close(self) -> None:
-        """Closes it. What was acknowledged is on the device then. A second call does nothing.
+        """Closes the database. On return all acknowledged writes are durable. A second call does nothing.
 
-        Raises what failed before: `ReadOnly`, or what refused a checkpoint in the background.
+        Raises the earlier failure, if there was one: `ReadOnly`, or the error of a background checkpoint.
         """
         if not self._is_closed:
-            # Calls of other threads end as they can. What they read is freed with the last reference.
+            # Calls of other threads complete. Their memory is freed with the last reference.
             status = self._library.functions["end"](self._at)
             self._is_closed = True
             _open.discard(self)
@@ -343,7 +347,7 @@ class Db(Reader):
     def __exit__(
         self, kind: Optional[Type[BaseException]], error: Optional[BaseException], _: Optional[TracebackType]
     ) -> None:
-        """Closes it. An error that ends the `with` isn't hidden by another one."""
+        """Closes the database. If an exception ends the `with` block, errors of closing do not replace it."""
         try:
             self.close()
         except UcstoreError:
@@ -351,18 +355,18 @@ class Db(Reader):
                 raise
 
     def __del__(self) -> None:
-        # One whose opening failed has no address.
+        # The pointer is missing if opening failed.
         if self.__dict__.get("_at"):
             self._library.functions["close"](self._at)
 
 
-# Those that are open: their threads call what an interpreter that ends hasn't any more.
+# Open databases: their threads must not call into an interpreter that is exiting.
 _open: weakref.WeakSet[Db] = weakref.WeakSet()
 
 
 @atexit.register
 def _close_all() -> None:
-    """Closes what is open. What fails here is known to those alone who close it."""
+    """Closes all open databases. Errors are ignored; call `close` to see them."""
     for db in list(_open):
         try:
             db.close()

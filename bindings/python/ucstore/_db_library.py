@@ -1,4 +1,4 @@
-"""The functions of `ucstore_db.h`, by ctypes: see `Db`."""
+"""The functions of `ucstore_db.h`, called through ctypes: see `Db`."""
 
 from __future__ import annotations
 
@@ -11,12 +11,12 @@ from typing import Any, Callable, Dict, Optional, Sequence
 from . import BadOption, Operator, UcstoreError
 from ._db_types import DbOptions, DbStats, Event, EventKind, Progress, error_of
 
-# Statuses that aren't errors of their own.
+# Statuses that are not raised as errors.
 OK, NOT_FOUND, ROOM = 0, 4, 14
 
 _Pointer, _Size, _U64 = ctypes.c_void_p, ctypes.c_size_t, ctypes.c_uint64
 
-# What stands for no sequence.
+# Value that means no sequence number.
 _NONE = (1 << 64) - 1
 
 
@@ -49,14 +49,14 @@ class Options(ctypes.Structure):
 
     @classmethod
     def of(cls, operator: Operator, options: DbOptions) -> Options:
-        """The options as C sees them. A number that a field has no room for would be cut silently."""
+        """Returns the options as a C struct. Raises `BadOption` for a number that its field would truncate."""
         found = cls(ctypes.sizeof(cls), operator, *options, recover_to=_NONE, give_up_until=_NONE)
         if any(getattr(found, name) != value for name, value in zip(DbOptions._fields, options)):
             raise BadOption()
         return found
 
     def recover(self, to: Optional[int], give_up_until: Optional[int], marks: Sequence[int]) -> None:
-        """Says what is given up, and where snapshots are made. Raises `BadOption` for what is no sequence."""
+        """Sets the options of recovery. Raises `BadOption` for a number that is no sequence number."""
         if not all(0 <= sequence < _NONE for sequence in (to or 0, give_up_until or 0, *marks)):
             raise BadOption()
         self.recover_to = _NONE if to is None else to
@@ -68,7 +68,7 @@ class Stats(ctypes.Structure):
     _fields_ = [("size", _Size), *((name, _U64) for name in DbStats._fields)]
 
 
-# The types of the arguments: a text is its address and its length.
+# Argument types. A byte string is a pointer and a length.
 _TEXT = (ctypes.c_char_p, _Size)
 _PLACE = (_Pointer, _Size)
 _GET = (_Pointer, *_TEXT, *_PLACE, _Pointer)
@@ -122,10 +122,10 @@ _SIGNATURES: Dict[str, Sequence[Any]] = {
     "cursor_close": (_Pointer,),
 }
 
-# The version of the library's functions.
+# Version of the library's binary interface.
 _ABI = 2
 
-# A function of the library, which answers a status.
+# A function of the library, which returns a status.
 _Function = Callable[..., int]
 
 
@@ -137,7 +137,7 @@ class Library:
         beside = Path(__file__).with_name(name)
         found = ctypes.CDLL(os.environ.get("UCSTORE_DB_LIBRARY") or (str(beside) if beside.exists() else name))
         if found.ucstore_db_version() != _ABI:
-            raise ImportError(f"the functions of {found._name} aren't of version {_ABI}")
+            raise ImportError(f"{found._name} does not have ABI version {_ABI}")
         self.error_text = found.ucstore_db_error_text
         self.error_text.restype = ctypes.c_char_p
         self.functions: Dict[str, _Function] = {}
@@ -147,7 +147,7 @@ class Library:
             self.functions[name] = function
 
     def error(self, status: int) -> UcstoreError:
-        """What a status says, that the last call of this thread answered."""
+        """Returns the exception for the status of this thread's last call."""
         return error_of(status, self.error_text().decode(errors="replace"))
 
 
@@ -156,7 +156,7 @@ _loading = threading.Lock()
 
 
 def library() -> Library:
-    """The library, which is loaded once."""
+    """Returns the library, which is loaded once."""
     global _loaded
     with _loading:
         if _loaded is None:
@@ -165,7 +165,7 @@ def library() -> Library:
 
 
 def progress_function(tell: Optional[Callable[[Progress], None]]) -> Any:
-    """A function for C that tells how far an opening is."""
+    """Returns a callback for C that reports the progress of an opening."""
     if tell is None:
         return _ProgressFunction(0)
 
@@ -179,7 +179,7 @@ def progress_function(tell: Optional[Callable[[Progress], None]]) -> Any:
 
 
 def event_function(tell: Optional[Callable[[Event], None]]) -> Any:
-    """A function for C that tells what a database does. Of kinds that this module doesn't know it tells nothing."""
+    """Returns a callback for C that reports events. It ignores kinds that this module does not know."""
     if tell is None:
         return _EventFunction(0)
 

@@ -1,4 +1,4 @@
-"""What a database and its snapshots are read by: see `Db`."""
+"""Read methods of a database and its snapshots: see `Db`."""
 
 from __future__ import annotations
 
@@ -12,7 +12,7 @@ from ._db_library import NOT_FOUND, OK, ROOM, Library
 from ._db_types import Closed
 
 Bytes = Union[bytes, bytearray, memoryview]
-"""A key or a value: anything else that is like bytes is taken too."""
+"""A key or a value. Other bytes-like objects are accepted too."""
 
 _Row = Tuple[bytes, bytes]
 
@@ -20,49 +20,49 @@ _Pointer, _Size, _U64 = ctypes.c_void_p, ctypes.c_size_t, ctypes.c_uint64
 
 
 def bytes_of(text: Bytes) -> bytes:
-    """The bytes of a key or a value. Raises `TypeError` for what isn't like bytes."""
+    """Returns the bytes of a key or a value. Raises `TypeError` if it is not bytes-like."""
     return text if isinstance(text, bytes) else memoryview(text).tobytes()
 
 
-# The bytes of a value for which a lookup doesn't ask twice, and those for each of many values.
+# Sizes in bytes of the buffer for one value, and for each of many values. A larger value takes a second call.
 _USUAL_VALUE, _USUAL_SHARE = 512, 256
 _UsualRoom = ctypes.c_char * _USUAL_VALUE
 
-# The rows and the bytes of a scan's first page, and by how many times the second page, and the third, have more.
+# Rows and bytes of a scan's first page, and the factor by which the second and the third page are larger.
 _PAGE_ROWS, _PAGE_BYTES, _GROWTH = 64, 4096, 8
 
-# What the library says of a key without a value.
+# Length that the library returns for a key without a value.
 _NO_VALUE = (1 << 64) - 1
 
 
 class Handle:
-    """Something of the library's, behind its address."""
+    """A pointer to an object of the library."""
 
     def __init__(self, library: Library, function: str, *arguments: object) -> None:
-        """What a function makes, which takes these arguments."""
+        """Creates the object by a function that takes these arguments."""
         self._library = library
         self._at = _Pointer()
         self._is_closed = False
         self._check(library.functions[function](*arguments, ctypes.byref(self._at)))
 
     def _check(self, status: int) -> None:
-        """Raises what a status says."""
+        """Raises the exception of a status, if it is an error."""
         if status != OK:
             raise self._library.error(status)
 
     def _call(self, name: str, *arguments: object) -> None:
-        """Calls a function with this. Raises `Closed` behind its end."""
+        """Calls a function with the object. Raises `Closed` after it was closed."""
         self._check(self._status(name, *arguments))
 
     def _status(self, name: str, *arguments: object) -> int:
-        """What a function answers that is called with this. Raises `Closed` behind its end."""
+        """Calls a function with the object, and returns its status. Raises `Closed` after it was closed."""
         if self._is_closed:
             raise Closed()
         return self._library.functions[name](self._at, *arguments)
 
 
 class Alone(Handle):
-    """Something that takes one call at a time: those of several threads wait for one another."""
+    """An object that takes one call at a time: calls of other threads wait."""
 
     _close = ""
 
@@ -75,25 +75,25 @@ class Alone(Handle):
             return super()._status(name, *arguments)
 
     def close(self) -> None:
-        """Frees it. A second call does nothing."""
+        """Frees the object. A second call does nothing."""
         with self._lock:
             if not self._is_closed and self._at:
                 self._is_closed = True
                 self._library.functions[self._close](self._at)
 
     def __del__(self) -> None:
-        # One whose making failed has no address.
+        # The pointer is missing if construction failed.
         if "_at" in self.__dict__:
             self.close()
 
 
 class Cursor(Alone):
-    """A place in a range of keys."""
+    """A cursor over a range of keys."""
 
     _close = "cursor_close"
 
     def pages(self) -> Iterator[Iterator[bytes]]:
-        """The rows in pages, each of keys with their values behind them. It is closed behind them."""
+        """Yields the rows in pages: keys, each followed by its value. Closes the cursor at the end."""
         count, length = 2 * _PAGE_ROWS, _PAGE_BYTES
         try:
             while True:
@@ -103,7 +103,7 @@ class Cursor(Alone):
                     return
                 rows, size = found
                 if rows > 0:
-                    # One read for each text is quicker than a slice.
+                    # Reading each key and value is faster than slicing.
                     read = io.BytesIO(ctypes.string_at(room, size)).read
                     yield map(read, memoryview(lengths).cast("B").cast("Q")[:2 * rows].tolist())
                     count = min(_GROWTH * count, 2 * _GROWTH * _GROWTH * _PAGE_ROWS)
@@ -114,7 +114,7 @@ class Cursor(Alone):
     def _fill(
         self, lengths: ctypes.Array[ctypes.c_uint64], room: ctypes.Array[ctypes.c_char]
     ) -> Optional[Tuple[int, int]]:
-        """How many rows were copied, and their bytes. No row, and the bytes of the next one, if that has no room."""
+        """Returns the number of rows copied and their size. If the first row does not fit: 0, and the size of that row."""
         rows, size = _Size(), _Size()
         told = (ctypes.byref(rows), ctypes.byref(size))
         status = self._status("cursor_page", lengths, len(lengths), room, len(room), *told)
@@ -125,32 +125,32 @@ class Cursor(Alone):
 
 
 class Reader(Handle):
-    """What a database and its snapshots are read by, in the order of the keys' bytes.
+    """Read methods of a database and its snapshots. Rows are in byte order of the keys.
 
-    Like a dict, they raise `KeyError` only for `reader[key]`. Each call raises `OutOfMemory` if memory is refused, and
+    As in a dict, only `reader[key]` raises `KeyError`. Each call raises `OutOfMemory` if an allocation fails, and
     `Closed` and `Forked`.
     """
 
     _prefix = ""
 
     def get(self, key: Bytes, default: Optional[bytes] = None) -> Optional[bytes]:
-        """The value under a key, or `default`."""
+        """Returns the value of a key, or `default`."""
         found = self._get(bytes_of(key))
         return default if found is None else found
 
     def __getitem__(self, key: Bytes) -> bytes:
-        """The value under a key. Raises `KeyError`."""
+        """Returns the value of a key. Raises `KeyError`."""
         found = self._get(bytes_of(key))
         if found is None:
             raise KeyError(key)
         return found
 
     def __contains__(self, key: Bytes) -> bool:
-        """Whether there is a value under a key."""
+        """Returns True if a key has a value."""
         return self._get(bytes_of(key)) is not None
 
     def get_many(self, keys: Iterable[Bytes]) -> List[Optional[bytes]]:
-        """For each key its value, or None, at one moment."""
+        """Returns the value of each key, or None, at one point in time."""
         asked = list(map(bytes_of, keys))
         count, length, size = len(asked), _USUAL_SHARE * len(asked), _Size()
         texts = b"".join(asked)
@@ -166,27 +166,27 @@ class Reader(Handle):
     def items(
         self, low: Bytes = b"", high: Optional[Bytes] = None, *, prefix: Optional[Bytes] = None
     ) -> Iterator[_Row]:
-        """The keys from `low` to below `high`, or to the last one, or those that begin with `prefix`, with their values.
+        """Returns an iterator over the keys from `low` to below `high`, or those that begin with `prefix`, with their values.
 
-        They are those of the moment of the call. They are fetched in pages.
+        They are read at the point in time of the call, and fetched in pages. Without `high` the range goes to the last key.
         """
         pages = self._cursor(low, high, prefix).pages()
         return itertools.chain.from_iterable(zip(texts, texts) for texts in pages)
 
     def keys(self, low: Bytes = b"", high: Optional[Bytes] = None, *, prefix: Optional[Bytes] = None) -> Iterator[bytes]:
-        """The keys of `items`."""
+        """Returns an iterator over the keys of `items`."""
         return (key for key, _ in self.items(low, high, prefix=prefix))
 
     def values(self, low: Bytes = b"", high: Optional[Bytes] = None, *, prefix: Optional[Bytes] = None) -> Iterator[bytes]:
-        """The values of `items`."""
+        """Returns an iterator over the values of `items`."""
         return (value for _, value in self.items(low, high, prefix=prefix))
 
     def __iter__(self) -> Iterator[bytes]:
-        """All keys."""
+        """Returns an iterator over all keys."""
         return self.keys()
 
     def _get(self, key: bytes) -> Optional[bytes]:
-        """The value that a lookup copies into a room, if there is one."""
+        """Returns the value that a lookup copies to a buffer, or None."""
         room: ctypes.Array[ctypes.c_char] = _UsualRoom()
         length, size = _USUAL_VALUE, _Size()
         while True:
@@ -196,12 +196,12 @@ class Reader(Handle):
             self._check(status)
             if size.value <= length:
                 return ctypes.string_at(room, size.value)
-            # The value may have grown since. Few lengths are few types of ctypes.
+            # The value may have grown since. A small set of lengths keeps the number of ctypes types small.
             length = 1 << size.value.bit_length()
             room = (ctypes.c_char * length)()
 
     def _cursor(self, low: Bytes, high: Optional[Bytes], prefix: Optional[Bytes]) -> Cursor:
-        """A cursor over a range, or over a prefix. Raises `TypeError` for both."""
+        """Creates a cursor over a range or a prefix. Raises `TypeError` if both are given."""
         if self._is_closed:
             raise Closed()
         if prefix is None:
@@ -215,7 +215,7 @@ class Reader(Handle):
 
 
 def _values(room: bytes, lengths: Iterable[int]) -> List[Optional[bytes]]:
-    """Values that stand one behind the other. A length may say that there is none."""
+    """Returns values that are stored one after the other. A length may say that there is none."""
     values: List[Optional[bytes]] = []
     place = 0
     for length in lengths:

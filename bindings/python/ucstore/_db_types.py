@@ -1,4 +1,4 @@
-"""What a database refuses, how it is kept, and what it tells: see `Db`."""
+"""Errors, options, events and statistics of a database: see `Db`."""
 
 from __future__ import annotations
 
@@ -90,148 +90,151 @@ def error_of(status: int, text: str) -> UcstoreError:
 
 
 class Sync(enum.IntEnum):
-    """When a write is on the device."""
+    """Times at which an acknowledged write becomes durable."""
 
     ALWAYS = 0
-    """When it is acknowledged."""
+    """Before it is acknowledged."""
     EVERY = 1
-    """About `DbOptions.sync_milliseconds` after that."""
+    """About `DbOptions.sync_milliseconds` later."""
     NEVER = 2
-    """When the system puts it there. A process that ends loses nothing by it."""
+    """When the operating system writes it out. A crash of the process alone loses nothing."""
 
 
 class DbOptions(NamedTuple):
-    """How a database is kept. The names of the store's part are those of RocksDB's options."""
+    """Options of a database. Options of compaction have the names of RocksDB's."""
 
     sync: Sync = Sync.ALWAYS
-    """When a write is on the device."""
+    """Time at which an acknowledged write becomes durable."""
     sync_milliseconds: int = 100
-    """For `Sync.EVERY`, at least 1."""
+    """Period of `Sync.EVERY`, at least 1."""
     write_buffer_size: int = 4194304
-    """From how many bytes on the memtable is full, at least 1."""
+    """Size in bytes at which the memtable is flushed, at least 1."""
     compaction_trigger: int = 4
-    """From how many runs on something is compacted, at least 1."""
+    """Number of runs at which compaction starts, at least 1."""
     stop_trigger: int = 36
-    """From how many runs on a write compacts before it goes on, `compaction_trigger` to 255."""
+    """Number of runs at which a writer compacts before it writes, `compaction_trigger` to 255."""
     size_ratio: int = 1
-    """By how many percent a run may be larger than those above it to be compacted with them."""
+    """Percentage by which a run may exceed the newer ones that are compacted with it."""
     max_size_amplification_percent: int = 200
-    """Above how many percent of the oldest run's size the newer ones are compacted with it."""
+    """Size of the newer runs, in percent of the oldest, above which all are compacted."""
     min_merge_width: int = 2
-    """The least number of runs for a compaction by size ratio, at least 2."""
+    """Minimum number of runs compacted by size ratio, at least 2."""
     max_merge_width: int = 4294967295
-    """The greatest number of runs for a compaction, at least `min_merge_width`."""
+    """Maximum number of runs in a compaction, at least `min_merge_width`."""
     compactors: int = 2
-    """How many threads compact; one more is kept for flushes. Without any, writes do both."""
+    """Number of compaction threads; one more is for flushes. With 0, writers do both."""
     slow_trigger: int = 20
-    """From how many runs on writes are slowed, by a millisecond each time."""
+    """Number of runs at which each write is delayed by a millisecond."""
     checkpoint_ratio: int = 2
-    """By how many times the logs exceed the data when a checkpoint is made."""
+    """Size of the logs, as a multiple of the data's, at which a checkpoint is made."""
     checkpoint_least: int = 67108864
-    """How many bytes the logs have at least when a checkpoint is made. With 2^64 - 1 none is made by itself."""
+    """Minimum size of the logs in bytes for a checkpoint. 2^64 - 1: never make one automatically."""
     recovers_to_fault: bool = False
-    """Whether a damaged folder is opened up to the damage. Nothing can be written then."""
+    """True to open a corrupted database, read-only, up to the corruption."""
 
 
 class Progress(NamedTuple):
-    """How far an opening is."""
+    """Progress of an opening."""
 
     file: str
-    """The name of the file that is read."""
+    """Name of the file being read."""
     read: int
-    """How many bytes of all files were read."""
+    """Number of bytes read so far, of all files."""
     whole: int
-    """How many bytes all files have."""
+    """Number of bytes of all files."""
 
 
 class EventKind(enum.IntEnum):
-    """What a database did."""
+    """Kinds of events."""
 
     FLUSHED = 0
-    """Bytes that were gathered became a run."""
+    """A memtable was flushed to a run."""
     COMPACTED = 1
-    """Runs were compacted to one."""
+    """Runs were compacted into one."""
     CHECKPOINTED = 2
-    """A base was written, whose name is the text. The logs before it are gone."""
+    """A checkpoint was written to the file `text`, and the older logs were deleted."""
     STALLED = 3
-    """Writes are slowed, or wait, from now on: flushes or compactions fall behind."""
+    """Writes are being slowed or stopped, because flushes or compactions fall behind."""
     FAILED = 4
-    """A log or a checkpoint failed: the error says why."""
+    """A log or a checkpoint failed: `error` has the cause."""
     SET_ASIDE = 5
-    """The opening cut bytes off the end of the last log, where a crash had left them, and wrote them to the file that the text names."""
+    """Opening cut bytes that a crash had left off the end of the last log, and kept them in the file `text`."""
 
 
 class Event(NamedTuple):
-    """Something that a database did. What its kind doesn't name is 0, and the text empty."""
+    """An event of a database. A field that does not apply to its kind is 0, or an empty string."""
 
     kind: EventKind
     runs: int
-    """How many runs there are."""
+    """Number of runs."""
     bytes: int
-    """How many bytes a flush or a checkpoint has."""
+    """Size in bytes of the flush, the checkpoint or the bytes set aside."""
     seconds: float
-    """How long it took."""
+    """Duration."""
     text: str
     error: Optional[UcstoreError]
-    """Of a failure: after `ReadOnly` nothing can be written any more."""
+    """Error of a failure. After `ReadOnly`, the database takes no more writes."""
 
 
 class DbStats(NamedTuple):
-    """What a database holds, and what it did since it was opened. Times are in microseconds."""
+    """Statistics of a database since it was opened. Times are in microseconds.
+
+    Flushes and compactions that a write had to make itself within the store are not counted.
+    """
 
     uptime: int
-    """For how long it is open."""
+    """Time since the database was opened."""
     last: int
-    """The sequence of the last write."""
+    """Sequence number of the last write."""
     runs: int
-    """How many runs there are."""
+    """Number of runs."""
     bytes: int
-    """The bytes of all runs."""
+    """Size of the runs in bytes."""
     gathered: int
-    """How many writes no run has yet."""
+    """Number of writes in the memtables."""
     log_bytes: int
-    """The bytes of the logs that no checkpoint holds."""
+    """Size in bytes of the logs that no checkpoint covers."""
     batches: int
-    """How many batches were taken."""
+    """Number of batches written."""
     groups: int
-    """How many records of the log they shared."""
+    """Number of log records they were written in."""
     user_bytes: int
-    """The bytes of the batches."""
+    """Bytes of the batches."""
     logged_bytes: int
-    """The bytes that were appended to logs for them."""
+    """Bytes appended to logs for them."""
     base_bytes: int
-    """The bytes of the checkpoints that were written."""
+    """Bytes of the checkpoints written."""
     lookups: int
-    """How many keys were looked up, in it and in its snapshots."""
+    """Number of keys looked up, in the database and its snapshots."""
     syncs: int
-    """How often a log was synced."""
+    """Number of syncs of logs."""
     sync_p50: int
-    """The time that half of the last 1,024 syncs kept to."""
+    """Median duration of the last 1,024 syncs."""
     sync_p99: int
-    """The time that 99 percent of them kept to."""
+    """99th percentile of the same."""
     stalls: int
-    """How often writes began to be slowed, or waited for a flush or a compaction."""
+    """Number of times that writes started to be slowed or stopped."""
     slowed: int
-    """How many groups of writes were slowed."""
+    """Number of log records whose writes were slowed."""
     stalled: int
-    """For how long writes were slowed or waited."""
+    """Total time for which writes were slowed or stopped."""
     flushes: int
-    """How many runs were made of what was gathered, but for those that the store made itself."""
+    """Number of flushes."""
     compactions: int
-    """How many compactions there were, but for those that the store made itself."""
+    """Number of compactions."""
     flush_bytes: int
-    """The bytes of the runs that these flushes made."""
+    """Bytes of the runs made by flushes."""
     compaction_read: int
-    """The bytes of the runs that these compactions read."""
+    """Bytes of the runs read by compactions."""
     compaction_written: int
-    """The bytes of the runs that these compactions made."""
+    """Bytes of the runs made by compactions."""
     checkpoints: int
-    """How many checkpoints were made."""
+    """Number of checkpoints."""
     lookups_by_memtable: int
-    """About how many of the lookups the memtables answered: 64 times those of one in 64 that were asked."""
+    """Lookups that the memtables answered. Estimated, as the next two: one lookup in 64 is sampled."""
     lookups_by_filters: int
-    """The same of those that filters answered: no write of a run touched the key."""
+    """Lookups that the filters answered: no run has a write of the key."""
     lookups_by_runs: int
-    """The same of those that runs answered."""
+    """Lookups that searched runs."""
     set_aside_bytes: int
-    """The bytes that the opening cut off the last log, where a crash had left them, and set aside."""
+    """Bytes that opening cut off the last log and kept in a file (`EventKind.SET_ASIDE`)."""
