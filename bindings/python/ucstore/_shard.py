@@ -1,4 +1,4 @@
-"""What a sharded store's writer has: its manifest, the lock and the sequencer's log. Nothing here knows of Dask."""
+"""Files of a sharded store's writer: the manifest, the lock and the sequencer's log. Independent of Dask."""
 
 from __future__ import annotations
 
@@ -25,30 +25,30 @@ from . import _TAGS, Delete, DeleteRange, Operation, Operator, Options, Store
 from ._shard_files import AnotherWriter, BadManifest, LogDamaged, OlderFormat, Writer
 from ._shard_files import append, locked, refusing, replace, undoing
 
-# The format of a store's files. It grows when they change their meaning.
+# Version of the files' format. Increases when the format changes its meaning.
 FORMAT = 5
 
-# Those of older versions, whose shards had logs of their own.
+# Formats of older versions, whose shards had their own logs.
 _OLDER_FORMATS = (2, 3, 4)
 
-# How many operations are packed together: so few that the processor's cache holds them meanwhile.
+# Number of operations packed together: few enough to fit the processor's cache.
 PIECE = 2000
 
-# From how many bytes on the sequencer's log is begun anew.
+# Size in bytes at which the sequencer's log is restarted.
 MOST_RECORDS = 1 << 20
 
-# The bytes that a device writes whole.
+# Number of bytes that a device writes atomically.
 _SECTOR = 512
 
 
 def dumps(found: Any) -> bytes:
-    """What is sent, in one piece: Dask would send the texts of a list one by one."""
-    # This version of the format doesn't look for equal texts, and takes half the time.
+    """Serializes what is sent, as one piece: Dask would send the byte strings of a list one by one."""
+    # This version of the protocol does not search for equal byte strings, and takes half the time.
     return marshal.dumps(found, 2)
 
 
 def _deletions(tags: bytes) -> Iterator[int]:
-    """The places of operations that have no second text."""
+    """Yields the indexes of operations without a second argument."""
     place = tags.find(_TAGS[Delete])
     while place >= 0:
         yield place
@@ -56,7 +56,7 @@ def _deletions(tags: bytes) -> Iterator[int]:
 
 
 def packed(operations: Sequence[Operation]) -> bytes:
-    """A piece: the tags of operations, and their first and second texts. Raises `TypeError` for what is neither."""
+    """Returns a piece: the tags, the first and the second arguments of operations. Raises `TypeError` for other objects."""
     kinds = list(map(type, operations))
     firsts, seconds = list(map(itemgetter(0), operations)), list(map(itemgetter(-1), operations))
     if not (set(kinds) <= _TAGS.keys() and {*map(type, firsts), *map(type, seconds)} <= {bytes}):
@@ -69,23 +69,23 @@ def packed(operations: Sequence[Operation]) -> bytes:
 
 @lru_cache(1 << 16)
 def _length(length: int) -> bytes:
-    """A text's length as it stands before it: seven bits to a byte, the low ones first."""
+    """Encodes a length as a varint: seven bits per byte, the low ones first."""
     low, rest = length & 0x7F, length >> 7
     return bytes([low | 0x80]) + _length(rest) if rest else bytes([low])
 
 
-# What most texts need: a list is quicker than a function. And each tag as it stands before an operation.
+# Encoded lengths of most byte strings: a list is faster than a function. And the encoded tag of each operation.
 _LENGTHS, _TAG_BYTES = [_length(length) for length in range(4096)], [bytes([tag]) for tag in range(16)]
 
 
 def _spelled_lengths(texts: Sequence[bytes]) -> list[bytes]:
-    """The lengths of texts as they stand before them."""
+    """Returns the encoded lengths of byte strings."""
     lengths = list(map(len, texts))
     return list(map(_LENGTHS.__getitem__ if max(lengths) < len(_LENGTHS) else _length, lengths))
 
 
 def batch_of(part: bytes, first: int) -> bytes:
-    """The pieces of a part as a write batch of RocksDB, whose first operation has a sequence."""
+    """Encodes the pieces of a part as a write batch of RocksDB. `first` is its sequence number."""
     bodies, count = [], 0
     for piece in marshal.loads(part):
         tags, firsts, seconds = marshal.loads(piece)
@@ -99,24 +99,24 @@ def batch_of(part: bytes, first: int) -> bytes:
 
 
 def _remove_folders(folders: Sequence[Path]) -> None:
-    """Removes folders that are empty. The inner ones come first."""
+    """Removes empty directories. Inner ones come first."""
     for folder in folders:
         with suppress(OSError):
             folder.rmdir()
 
 
 def _checksum(shape: Mapping[str, Any]) -> str:
-    """The checksum of all that JSON says, however it is laid out."""
+    """Returns a checksum of the contents of JSON, whatever its layout."""
     return sha256(json.dumps(shape, sort_keys=True).encode()).hexdigest()
 
 
 def sealed(shape: Mapping[str, Any]) -> bytes:
-    """The text of a manifest's file: JSON with a checksum of all that it says."""
+    """Returns the contents of a manifest's file: JSON with a checksum."""
     return json.dumps({**shape, "sha256": _checksum(shape)}, indent=1).encode()
 
 
 def unsealed(text: bytes) -> dict[str, Any]:
-    """What a manifest's file says. Raises `BadManifest` and `ValueError` if it was changed."""
+    """Parses a manifest's file. Raises `BadManifest` and `ValueError` if it was changed."""
     shape = json.loads(text)
     if not isinstance(shape, dict):
         raise BadManifest("it isn't an object")
@@ -132,21 +132,21 @@ def unsealed(text: bytes) -> dict[str, Any]:
 
 
 class Claim:
-    """What the one writer of a folder has: the lock of a file in it, and a name for its epoch."""
+    """The rights of the only writer of a directory: the lock of a file in it, and a name for its epoch."""
 
     def __init__(self, folder: Path, patience: float) -> None:
-        """Waits for the lock, so many seconds. Raises `AnotherWriter` and `OSError`."""
+        """Waits for the lock for at most `patience` seconds. Raises `AnotherWriter` and `OSError`."""
         self.epoch, path = uuid.uuid4().hex, folder / "lock"
         self._process, self._file = os.getpid(), open(path, "r+b")
         with undoing(self._file.close):
             is_mine = locked(self._file, patience)
-            # Its creator may have removed the file meanwhile, and another may have made a new one.
+            # The creator may have removed the file, and another process may have created a new one.
             if not (is_mine and os.path.samestat(os.fstat(self._file.fileno()), path.stat())):
                 raise AnotherWriter(f"another writer has {folder} open")
 
     @classmethod
     def create(cls, folder: Path) -> Claim:
-        """Makes the file. Of those who try at once, one does. The others raise `BadManifest`."""
+        """Creates the file. Only one of several concurrent callers succeeds; the others raise `BadManifest`."""
         lock = folder / "lock"
         with refusing(BadManifest, f"{folder} isn't empty", FileExistsError):
             lock.touch(exist_ok=False)
@@ -154,8 +154,8 @@ class Claim:
             return cls(folder, 0)
 
     def release(self) -> None:
-        """Lets others have the folder. A second call does nothing."""
-        # A forked child shares the lock: it doesn't end it, and ending it here ends it there too.
+        """Releases the directory. A second call does nothing."""
+        # A forked child shares the lock and must not release it. Releasing it here releases it there too.
         if not self._file.closed and self._process == os.getpid():
             with suppress(OSError):
                 fcntl.flock(self._file, fcntl.LOCK_UN)
@@ -163,7 +163,7 @@ class Claim:
 
 
 class Manifest(NamedTuple):
-    """How many shards there are, between which keys if not by hash, and how they are opened."""
+    """The number of shards, the split points if keys are not placed by hash, and the options of the shards."""
 
     shards: int
     splits: tuple[bytes, ...] | None
@@ -172,9 +172,9 @@ class Manifest(NamedTuple):
 
     @contextmanager
     def created(self, folder: Path) -> Iterator[Claim]:
-        """Makes the files of an empty store, and removes them upon an error of the `with` block.
+        """Creates the files of an empty store, and removes them if the `with` block raises.
 
-        Raises `BadManifest` if there are any files, and `TypeError` if the manifest has no text.
+        Raises `BadManifest` if there are any files, and `TypeError` if the manifest cannot be encoded.
         """
         self.of(self._shape())
         missing = [path for path in (folder, *folder.parents) if not path.exists()]
@@ -188,7 +188,7 @@ class Manifest(NamedTuple):
                 yield claim
 
     def _shape(self) -> dict[str, Any]:
-        """The manifest as JSON spells it. Raises `TypeError` for what it can't spell."""
+        """Encodes the manifest as JSON. Raises `TypeError` for a value that JSON lacks."""
         if not isinstance(self.operator, Operator):
             raise TypeError(f"an operator is one like Operator.APPEND, not {self.operator!r}")
         if not isinstance(self.options, Options):
@@ -201,7 +201,7 @@ class Manifest(NamedTuple):
         return {**shape, "operator": self.operator.name, "options": self.options._asdict()}
 
     def _files(self) -> list[str]:
-        """The names of a store's files. Without the first one there is no store."""
+        """The names of a store's files. The first one makes the directory a store."""
         shards = (f"shard-{number}" for number in range(self.shards))
         return ["manifest.json", "lock", "epoch", "sequencer.log", *shards]
 
@@ -213,19 +213,19 @@ class Manifest(NamedTuple):
         replace(folder / "manifest.json", sealed(self._shape()))
 
     def _remove_files(self, folder: Path, claim: Claim) -> None:
-        """Removes the files that were made, unless a writer of another machine has them."""
+        """Removes the files that were created, unless a writer of another machine has opened them."""
         with suppress(OSError):
             epoch = folder / "epoch"
             if not epoch.exists() or epoch.read_text() in ("", claim.epoch):
                 for path in map(folder.joinpath, self._files()):
-                    # What a shard's database made goes with its folder.
+                    # Files that a shard's database has created are removed with its directory.
                     if path.is_dir():
                         shutil.rmtree(path)
                     path.unlink(True)
 
     @classmethod
     def of(cls, shape: Any) -> Manifest:
-        """The manifest that JSON spells. Raises `BadManifest` with what is wrong."""
+        """Decodes a manifest from JSON. Raises `BadManifest` with the reason."""
         names = ["format", "operator", "options", "placement", "shards"]
         if not isinstance(shape, dict) or sorted(shape) != names:
             raise BadManifest(f"it isn't an object of {', '.join(names)}")
@@ -251,7 +251,7 @@ class Manifest(NamedTuple):
 
     @classmethod
     def read(cls, folder: Path) -> Manifest:
-        """The manifest of a folder that has all files."""
+        """Reads the manifest of a directory, and checks that all files exist."""
         path = folder / "manifest.json"
         with refusing(BadManifest, f"{path} is refused", OSError, TypeError, ValueError, BadManifest):
             manifest = cls.of(unsealed(path.read_bytes()))
@@ -261,11 +261,11 @@ class Manifest(NamedTuple):
         return manifest
 
     def owner(self, key: bytes) -> int:
-        """The shard that a key belongs to."""
+        """Returns the shard of a key."""
         return crc32(key) % self.shards if self.splits is None else bisect_right(self.splits, key)
 
     def touched(self, low: bytes, high: bytes | None) -> range:
-        """The shards that may have keys from `low` to below `high`, in the keys' order if split."""
+        """Returns the shards that may have keys from `low` to below `high`, in the order of the keys if there are split points."""
         if high is not None and low >= high:
             return range(0)
         if self.splits is None:
@@ -274,18 +274,18 @@ class Manifest(NamedTuple):
         return range(bisect_right(self.splits, low), end)
 
     def parts(self, operations: Sequence[Operation]) -> dict[int, bytes]:
-        """The part of each shard that has some of the operations. Raises what `packed` does."""
+        """Divides operations into one part for each shard that has some. Raises what `packed` does."""
         parts: dict[int, list[bytes]] = defaultdict(list)
         for begin in range(0, len(operations), PIECE):
             for number, some in enumerate(self._placed(operations[begin : begin + PIECE])):
                 if some:
                     parts[number].append(packed(some))
-            # Lets those threads go on that send the batch before.
+            # Lets the threads run that send the previous batch.
             time.sleep(0)
         return {number: dumps(pieces) for number, pieces in parts.items()}
 
     def _placed(self, operations: Sequence[Operation]) -> list[list[Operation]]:
-        """The operations of each shard."""
+        """Returns the operations of each shard."""
         placed: list[list[Operation]] = [[] for _ in range(self.shards)]
         takes, owners = [some.append for some in placed], self._owners(operations)
         if DeleteRange in set(map(type, operations)):
@@ -296,13 +296,13 @@ class Manifest(NamedTuple):
                 else:
                     takes[owner](operation)
         else:
-            # Most have no range, and this loop takes most of a writer's time.
+            # Most batches have no range, and this loop takes most of a writer's time.
             for operation, owner in zip(operations, owners):
                 takes[owner](operation)
         return placed
 
     def _owners(self, operations: Sequence[Operation]) -> Iterator[int]:
-        """The shard to which the key of each operation belongs, as `owner` says."""
+        """Returns the shard of each operation's key, by `owner`."""
         keys, shards = map(itemgetter(0), operations), self.shards
         if self.splits is None:
             return (number % shards for number in map(crc32, keys))
@@ -310,16 +310,16 @@ class Manifest(NamedTuple):
 
 
 def _record(numbers: Sequence[int]) -> bytes:
-    """A record of the sequencer's log: the last sequence, that of each shard, and a checksum."""
+    """Encodes a record of the sequencer's log: the last sequence number, that of each shard, and a checksum."""
     body = struct.pack(f"<{len(numbers)}Q", *numbers)
     return body + crc32(body).to_bytes(4, "little")
 
 
 def last_numbers(path: Path, count: int) -> Sequence[int]:
-    """The numbers of the last record of a sequencer's log. Raises `LogDamaged`.
+    """Returns the numbers of the last record of a sequencer's log. Raises `LogDamaged`.
 
-    A crash leaves less than a record at the end, or zeros in some of its sectors: this is passed over. Any
-    other record was whole, and may have been acknowledged. So it must have its checksum.
+    A crash leaves less than a record at the end, or zeros in some of its sectors; these are skipped. Any other
+    record was complete and may have been acknowledged, so its checksum must match.
     """
     text, size = path.read_bytes(), 8 * count + 4
     numbers: Sequence[int] = ()
@@ -337,7 +337,7 @@ def last_numbers(path: Path, count: int) -> Sequence[int]:
 
 
 def _is_torn(record: bytes, place: int) -> bool:
-    """Whether a crash may have left a last record like this: without its checksum, and with a sector of zeros."""
+    """True if a crash may have left this last record: its checksum does not match, and a sector of it is zero."""
     if crc32(record[:-4]).to_bytes(4, "little") == record[-4:]:
         return False
     begins = [0, *range(_SECTOR - place % _SECTOR, len(record), _SECTOR)]
@@ -345,26 +345,26 @@ def _is_torn(record: bytes, place: int) -> bool:
 
 
 def acknowledged(folder: Path, count: int) -> Sequence[int]:
-    """The numbers that a sequencer's log ends with, read beside its writer. They are on its device then.
+    """Returns the last numbers of a sequencer's log, read while its writer runs. They are durable then.
 
     Raises `LogDamaged` and `OSError`.
     """
     path, size = folder / "sequencer.log", 8 * count + 4
     while True:
         with open(path, "rb") as file:
-            # Behind the last whole record one may be under way.
+            # A record may be in progress after the last complete one.
             whole = os.fstat(file.fileno()).st_size // size
             file.seek(max(whole - 2, 0) * size)
             records = [file.read(size) for _ in range(min(whole, 2))]
             os.fsync(file.fileno())
             is_current = os.path.samestat(os.fstat(file.fileno()), path.stat())
-        # A file that was replaced meanwhile may have a record that nobody else reads.
+        # A file that was replaced concurrently may have a record that nobody else reads.
         if is_current:
             return _last_of(records, path)
 
 
 def _last_of(records: Sequence[bytes], path: Path) -> Sequence[int]:
-    """The numbers of the last one of some records that has its checksum. Raises `LogDamaged` if none has."""
+    """Returns the numbers of the last of some records whose checksum matches. Raises `LogDamaged` if none does."""
     for record in reversed(records):
         if crc32(record[:-4]).to_bytes(4, "little") == record[-4:]:
             return struct.unpack(f"<{len(record) // 8}Q", record[:-4])
@@ -372,10 +372,10 @@ def _last_of(records: Sequence[bytes], path: Path) -> Sequence[int]:
 
 
 class Sequencer:
-    """The log of how far all shards are. What it doesn't have wasn't acknowledged."""
+    """The log of the last sequence numbers of all shards. Writes that it does not have are not acknowledged."""
 
     def __init__(self, writer: Writer) -> None:
-        """Begins an epoch: older writers are refused. Raises `LogDamaged` and `OSError`."""
+        """Begins an epoch, in which older writers are rejected. Raises `LogDamaged` and `OSError`."""
         replace(writer.folder / "epoch", writer.epoch.encode())
         self._writer, self._path = writer, writer.folder / "sequencer.log"
         self.last, *self.reached = last_numbers(self._path, writer.manifest.shards + 1)
@@ -383,25 +383,25 @@ class Sequencer:
 
     def _begin_file(self) -> None:
         """Begins a file with the last record. Raises `OSError`."""
-        # A writer that was thought dead goes on with the old file, which nobody reads.
+        # A writer that was thought dead continues with the old file, which nobody reads.
         replace(self._path, _record([self.last, *self.reached]))
-        # Without a buffer nothing of a record that failed is written later.
+        # Unbuffered, so that no byte of a failed record is written later.
         self._file = open(self._path, "ab", buffering=0)
 
     def append(self, last: int, reached: Mapping[int, int]) -> None:
-        """Acknowledges a batch, up to which some shards have reached. Raises `AnotherWriter` and `OSError`, and isn't used then."""
+        """Acknowledges a batch that some shards have reached. Raises `AnotherWriter` and `OSError`, and is not used after that."""
         if self._file.tell() >= MOST_RECORDS:
             self._writer.check()
             self._file.close()
             self._begin_file()
         everywhere = [reached.get(number, before) for number, before in enumerate(self.reached)]
         append(self._file, _record([last, *everywhere]), self._writer.sync)
-        # A newer writer begins an epoch, and then reads the log: it has this record, or is seen.
+        # A newer writer begins its epoch before it reads the log: either it has this record, or it is seen here.
         self._writer.check()
-        # Readers see a batch once it can't be lost any more.
+        # Readers see a batch only when it can no longer be lost.
         self.last, self.reached = last, everywhere
 
     def close(self) -> None:
-        """Closes the file. What was acknowledged is in it, so that an error says nothing."""
+        """Closes the file. All acknowledged batches are in it, so errors are ignored."""
         with suppress(OSError):
             self._file.close()

@@ -1,4 +1,4 @@
-"""What a sharded store refuses, and how its files are written."""
+"""Errors of a sharded store, and writing of its files."""
 
 from __future__ import annotations
 
@@ -14,33 +14,33 @@ from . import UcstoreError
 if TYPE_CHECKING:
     from ._shard import Manifest
 
-# How many bytes of its logs a shard's base lets go at least.
+# Minimum number of bytes of logs that a shard's checkpoint deletes.
 LEAST = 16 << 20
 
 
 class ShardedError(UcstoreError):
-    """What shards refuse besides what a store refuses."""
+    """An error of a sharded store, in addition to those of a store."""
 
 
 class BadManifest(ShardedError):
-    """A store can't be made or opened as its manifest says."""
+    """A store cannot be created or opened as its manifest says."""
 
 
 class OlderFormat(BadManifest):
-    """A store of an older version of ucstore, whose files this one doesn't read."""
+    """The store was created by an older version of ucstore, whose files this version does not read."""
 
 
 class LogDamaged(ShardedError):
-    """A log lacks writes that were acknowledged, or can't be read up to them."""
+    """A log lacks acknowledged writes, or cannot be read up to them."""
 
 
 class AnotherWriter(ShardedError):
-    """Another writer has the store. Whether it has a batch of this one's isn't known."""
+    """Another writer has the store open. It is unknown whether it has a batch of this one."""
 
 
 @contextmanager
 def refusing(refusal: type[ShardedError], text: str, *errors: type[Exception]) -> Iterator[None]:
-    """Raises a refusal in place of some errors. One that is of its kind stays of its own."""
+    """Replaces errors by a `refusal`. An error that is a `refusal` keeps its class."""
     try:
         yield
     except errors as error:
@@ -50,7 +50,7 @@ def refusing(refusal: type[ShardedError], text: str, *errors: type[Exception]) -
 
 @contextmanager
 def undoing(undo: Callable[..., None], *arguments: Any) -> Iterator[None]:
-    """Undoes something upon an error."""
+    """Calls a function if the block raises."""
     try:
         yield
     except BaseException:
@@ -59,7 +59,7 @@ def undoing(undo: Callable[..., None], *arguments: Any) -> Iterator[None]:
 
 
 def polls(patience: float) -> Iterator[None]:
-    """Waits between the steps of a loop, which ends after so many seconds."""
+    """Waits between the steps of a loop, which ends after a number of seconds."""
     until = time.monotonic() + patience
     yield
     while time.monotonic() < until:
@@ -68,7 +68,7 @@ def polls(patience: float) -> Iterator[None]:
 
 
 def locked(file: BinaryIO, patience: float) -> bool:
-    """Whether this process got a file's lock within so many seconds."""
+    """Locks a file, and returns True if that succeeded within a number of seconds."""
     for _ in polls(patience):
         with suppress(BlockingIOError):
             fcntl.flock(file, fcntl.LOCK_EX | fcntl.LOCK_NB)
@@ -77,9 +77,9 @@ def locked(file: BinaryIO, patience: float) -> bool:
 
 
 def append(file: BinaryIO, text: bytes, sync: bool = True) -> None:
-    """Writes to a file, and waits for its device."""
+    """Writes to a file, and syncs it if `sync` is set."""
     rest = memoryview(text)
-    # A file without a buffer may take a part.
+    # An unbuffered write may be partial.
     while rest:
         rest = rest[file.write(rest) :]
     file.flush()
@@ -88,7 +88,7 @@ def append(file: BinaryIO, text: bytes, sync: bool = True) -> None:
 
 
 def sync_folder(folder: Path) -> None:
-    """Waits until the names of a folder's files are on its device."""
+    """Syncs a directory."""
     opened = os.open(folder, os.O_RDONLY)
     try:
         os.fsync(opened)
@@ -97,7 +97,7 @@ def sync_folder(folder: Path) -> None:
 
 
 def replace(path: Path, text: bytes) -> None:
-    """Writes a file, so that a crash leaves the old one or the new one."""
+    """Replaces a file atomically: a crash leaves the old one or the new one."""
     new = path.with_suffix(".new")
     with undoing(new.unlink, True):
         with open(new, "wb") as file:
@@ -107,7 +107,7 @@ def replace(path: Path, text: bytes) -> None:
 
 
 class Writer(NamedTuple):
-    """Who has a store open, and how."""
+    """The writer that has a store open, and its options."""
 
     folder: Path
     manifest: Manifest

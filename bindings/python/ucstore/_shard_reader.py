@@ -1,4 +1,4 @@
-"""Readers of a sharded store in other processes than its writer's, and in tasks of Dask."""
+"""Readers of a sharded store in other processes than its writer's, and in Dask tasks."""
 
 from __future__ import annotations
 
@@ -19,37 +19,37 @@ from ._shard_files import polls
 from ._shard_part import Refusal
 from ._shard_reads import Deadline, Reads, Scans, ShardTimeout
 
-# Seconds between two looks for shards that have been opened elsewhere, and those that a call usually takes at most.
+# Seconds between two searches for shards that were reopened elsewhere, and the usual maximum duration of a call.
 _POLL, _USUAL = 0.2, 1.0
 
-# For each shard the key of its actor, and the address of the worker that has it.
+# For each shard, the key of its actor and the address of the actor's worker.
 Places = Dict[int, Tuple[str, str]]
 
 
 def places_name(folder: Path) -> str:
-    """Under which name the scheduler knows the places of a store's shards. It is that of the writer's lock too."""
+    """Returns the name under which the scheduler has the locations of a store's shards, which is also that of the writer's lock."""
     return f"ucstore {os.path.realpath(folder)}"
 
 
 def tell_places(client: Client, folder: Path, places: Places | None) -> None:
-    """Tells readers where the shards are, or that no writer has them open any more."""
+    """Publishes the locations of the shards to readers, or that no writer has them open any more."""
     told = None if places is None else {str(number): list(place) for number, place in places.items()}
     client.set_metadata(places_name(folder), told)
 
 
 class ShardedReader(Reads):
-    """Reads a store that a writer has open, from any process that reaches its scheduler, its workers and its folder.
+    """Reads a store that a writer has open, in any process that reaches its scheduler, its workers and its directory.
 
-    It may be sent to another process or to a task, where it takes the client that is the current one.
+    It may be sent to another process or to a task, where it uses the current client.
     """
 
     def __init__(
         self, client: Client | None, path: str | Path, *, patience: float = 30.0, timeout: float | None = None
     ) -> None:
-        """That of a folder. Without a client it takes the current one, as a task has it.
+        """Creates a reader of a directory. Without a client it uses the current one, as a task has.
 
-        `patience` is for how many seconds a call waits for shards that are being opened again, and `timeout` for how
-        many it waits in all, if it isn't told another number. Raises `BadManifest`.
+        `patience` is the number of seconds that a call waits for shards that are being reopened, and `timeout` the
+        number of seconds that a call without its own timeout waits in total. Raises `BadManifest`.
         """
         self._client, self._folder = client, Path(path).absolute()
         self._patience, self._timeout = patience, timeout
@@ -61,23 +61,23 @@ class ShardedReader(Reads):
 
     @property
     def last(self) -> int:
-        """The last sequence that was acknowledged. Raises `LogDamaged` and `OSError`."""
+        """The last acknowledged sequence number. Raises `LogDamaged` and `OSError`."""
         return self._moment()[0]
 
     def _moment(self) -> tuple[int, Sequence[int]]:
-        """The last sequence that was acknowledged, and that of each shard then."""
+        """Returns the last acknowledged sequence number, and that of each shard at that time."""
         last, *reached = acknowledged(self._folder, self._manifest.shards + 1)
         return last, reached
 
     def snapshot(self, seconds: float = 60.0, *, timeout: float | None = None) -> SharedSnapshot:
-        """A snapshot at the last sequence, which ends if it isn't read for so many seconds, or if a worker is lost.
+        """Takes a snapshot at the last sequence number. It ends if it is not read for `seconds`, or if a worker is lost.
 
         Raises what `answers` does.
         """
         deadline = self._deadline(timeout)
         for _ in polls(self._patience):
             sequence, reached = self._moment()
-            # One that is behind was written to since, or was opened again.
+            # A shard at an older state was written to since, or reopened.
             with suppress(NotProtected):
                 self._ask("lease", {number: (place, seconds) for number, place in enumerate(reached)}, deadline)
                 return SharedSnapshot(self, sequence, reached, seconds)
@@ -97,7 +97,7 @@ class ShardedReader(Reads):
         return Deadline(self._timeout if timeout is None else timeout)
 
     def _ask(self, method: str, calls: Mapping[int, tuple], deadline: Deadline) -> dict[int, Any]:
-        """What shards answer to a call, all at the same time. It waits for those that are being opened again."""
+        """Returns the answers of shards to a call, made on all at the same time. Waits for shards that are being reopened."""
         answers = self._ended(method, calls, deadline, _USUAL)
         if len(answers) < len(calls):
             with _aside():
@@ -112,9 +112,9 @@ class ShardedReader(Reads):
     def _ended(
         self, method: str, calls: Mapping[int, tuple], deadline: Deadline, most: float | None = None
     ) -> dict[int, Any]:
-        """What calls come to, but for those of shards that aren't where they were. Raises a shard's error.
+        """Returns the results of calls, except those of shards that have moved. Raises a shard's error.
 
-        It waits for `most` seconds at most: if that is too few, there is none.
+        Waits for at most `most` seconds; if that is too short, there is no result.
         """
         self._places = self._places or self._find_places()
         asked, client = {number: call for number, call in calls.items() if number in self._places}, self._client or get_client()
@@ -132,7 +132,7 @@ class ShardedReader(Reads):
         return found
 
     async def _call(self, client: Client, method: str, calls: Mapping[int, tuple]) -> dict[int, Any]:
-        """The answers of shards that are where they were."""
+        """Returns the answers of the shards that have not moved."""
         tasks = {asyncio.ensure_future(self._execute(client, method, *item)): item[0] for item in calls.items()}
         pending = set(tasks)
         try:
@@ -150,22 +150,22 @@ class ShardedReader(Reads):
         return {number: task.result() for number, task in ended.items()}
 
     async def _execute(self, client: Client, method: str, number: int, arguments: tuple) -> Any:
-        """What a shard answers to a call."""
-        # An object of Dask's for an actor would keep it alive, and with it its log's lock.
+        """Returns the answer of a shard to a call."""
+        # Dask's object for an actor would keep it alive, and with it the lock of its log.
         key, address = self._places[number]
         rpc = client.rpc(address) if client.direct_to_workers else ProxyRPC(client.scheduler, address)
         sent = [to_serialize(argument) for argument in (method, *arguments)]
         return (await rpc.actor_execute(actor=key, function="call", args=sent, kwargs={}))["result"]
 
     async def _told_places(self, client: Client) -> Places:
-        """Where the writer said that the shards are. Raises `NoStore` if it has closed the store."""
+        """Returns the locations that the writer has published. Raises `NoStore` if it has closed the store."""
         found = await client.scheduler.get_metadata(keys=[places_name(self._folder)], default={})
         if found is None:
             raise NoStore(f"no writer has {self._folder} open")
         return {int(number): (key, address) for number, (key, address) in found.items()}
 
     def _find_places(self) -> Places:
-        """Where the writer said that the shards are, or nowhere if the scheduler doesn't answer. Raises `NoStore`."""
+        """Returns the locations that the writer has published, or none if the scheduler does not answer. Raises `NoStore`."""
         client = self._client or get_client()
         with suppress(OSError, TimedOut):
             return client.sync(self._told_places, client)
@@ -174,11 +174,11 @@ class ShardedReader(Reads):
 
 @contextmanager
 def _aside() -> Iterator[None]:
-    """Lets the worker of a task do other things meanwhile, such as to open a shard again."""
+    """Lets the worker of a task do other things while the task waits, such as reopening a shard."""
     try:
         secede()
     except (ValueError, KeyError):
-        # It is no task, or one that did so itself.
+        # Not in a task, or in one that did so itself.
         yield
     else:
         try:
@@ -188,24 +188,24 @@ def _aside() -> Iterator[None]:
 
 
 def _reader_of(folder: str, patience: float, timeout: float | None) -> ShardedReader:
-    """A reader that was sent."""
+    """Recreates a reader that was sent."""
     return ShardedReader(None, folder, patience=patience, timeout=timeout)
 
 
 class SharedSnapshot(Scans):
-    """A snapshot that is read by a reader, and may be sent to another process or to a task.
+    """A snapshot that is read through a reader, and may be sent to another process or to a task.
 
-    One that a writer took stays until the writer releases it. One that a reader took ends if it isn't read for a while,
-    or if a worker is lost: then it raises `NotProtected`.
+    If a writer took it, it lasts until the writer releases it. If a reader took it, it ends if it is not read for a
+    while, or if a worker is lost; then it raises `NotProtected`.
     """
 
     def __init__(self, reader: ShardedReader, sequence: int, reached: Sequence[int], seconds: float = 0.0) -> None:
         self._reader, self._manifest = reader, reader._manifest
         self._seconds = seconds
         self.sequence = sequence
-        """The sequence that it is at."""
+        """Its sequence number."""
         self.reached = reached
-        """The last sequence of each shard then."""
+        """The last sequence number of each shard at that time."""
 
     def __reduce__(self) -> tuple:
         return SharedSnapshot, (self._reader, self.sequence, self.reached, self._seconds)

@@ -1,4 +1,4 @@
-"""What a sharded store is asked, and how the answers of its shards are put together."""
+"""Queries of a sharded store, and merging of its shards' answers."""
 
 from __future__ import annotations
 
@@ -17,21 +17,21 @@ from ._shard_files import ShardedError
 
 
 class NoWorkers(ShardedError):
-    """No worker is left on which a shard could be opened."""
+    """No worker is left to open a shard on."""
 
 
 class ShardTimeout(ShardedError):
-    """A shard hasn't answered in time. What was written isn't there."""
+    """A shard has not answered in time. A write that raises this was not made."""
 
 
 class Deadline:
-    """When a call has to have ended: so many seconds from now, or never."""
+    """The time by which a call must have ended: a number of seconds from now, or never."""
 
     def __init__(self, seconds: float | None) -> None:
         self._begun, self._seconds = time.monotonic(), seconds
 
     def left(self) -> float | None:
-        """For how many seconds the call may go on, at least 0. None if it may for ever."""
+        """Returns the number of seconds that are left, at least 0, or None for no limit."""
         return None if self._seconds is None else max(self._begun + self._seconds - time.monotonic(), 0.0)
 
     def check(self, what: str) -> None:
@@ -40,19 +40,19 @@ class Deadline:
             raise self.refusal(what)
 
     def refusal(self, what: str) -> ShardTimeout:
-        """The error that says what the time was over for."""
+        """Returns the error for a call whose time is over."""
         return ShardTimeout(f"{what} hasn't answered for {time.monotonic() - self._begun:.1f} s")
 
 
 class Scan(NamedTuple):
-    """A query for rows from `low` to below `high`, or to the last: the first `limit`, or all."""
+    """A query for the first `limit` rows, or all rows, from `low` to below `high`, or to the last key."""
 
     low: bytes = b""
     high: bytes | None = None
     limit: int | None = None
 
     def _checked(self) -> Scan:
-        """The same query. Raises `TypeError` and `ValueError` if it isn't one."""
+        """Returns the query unchanged. Raises `TypeError` and `ValueError` if it is malformed."""
         high = None if self.high is None else _bytes_of(self.high)
         limit = None if self.limit is None else index(self.limit)
         if limit is not None and not 0 <= limit <= sys.maxsize:
@@ -61,31 +61,31 @@ class Scan(NamedTuple):
 
 
 def _checked(query: bytes | Scan) -> bytes | Scan:
-    """A query. Raises `TypeError` and `ValueError` for another thing: no shard is asked that."""
+    """Returns a query unchanged. Raises `TypeError` and `ValueError` for a malformed one, before any shard is called."""
     return query._checked() if isinstance(query, Scan) else _bytes_of(query)
 
 
 class Reads:
-    """What is read from all shards at one moment, which is that of the call.
+    """Read methods over all shards. A call reads at one point in time.
 
-    Each call may have a `timeout` in seconds of its own, behind which it raises `ShardTimeout`.
+    Each call may have its own `timeout` in seconds, after which it raises `ShardTimeout`.
     """
 
     _manifest: Manifest
 
     def _read(self, method: str, calls: Mapping[int, tuple], timeout: float | None) -> Mapping[int, bytes]:
-        """What shards answer to a call."""
+        """Returns the answers of shards to a call."""
         raise NotImplementedError
 
     def get(self, key: bytes, *, timeout: float | None = None) -> bytes | None:
-        """The value under a key, or None. Raises what `answers` does."""
+        """Returns the value of a key, or None. Raises what `answers` does."""
         return self.answers([_bytes_of(key)], timeout=timeout)[0]
 
     def answers(self, queries: Iterable[bytes | Scan], *, timeout: float | None = None) -> list[Any]:
-        """The answers to queries, in their order: a key's value or None, and the rows of a `Scan`.
+        """Returns the answers to queries, in their order: a value or None for a key, and the rows for a `Scan`.
 
-        Each shard is asked once, for all that it has to answer. Raises `OutOfMemory`, `NoWorkers`, `ShardTimeout`,
-        `TypeError`, and `ValueError` for a wrong limit. At a snapshot that was released it raises `NotProtected`.
+        Calls each shard once, for all its answers. Raises `OutOfMemory`, `NoWorkers`, `ShardTimeout`, `TypeError`, and
+        `ValueError` for a wrong limit. On a snapshot that was released it raises `NotProtected`.
         """
         asked = list(map(_checked, queries))
         parts: dict[int, list] = defaultdict(list)
@@ -104,12 +104,12 @@ class Reads:
 
 
 class Scans(Reads):
-    """What is read at a moment that stays, so that scans may take their time."""
+    """Read methods of a snapshot. Its state stays, so scans may take long."""
 
     def scan(
         self, low: bytes = b"", high: bytes | None = None, limit: int | None = None, *, timeout: float | None = None
     ) -> Iterator[tuple[bytes, bytes]]:
-        """The rows that a `Scan` asks for, in the order of their keys. Raises what `answers` does.
+        """Yields the rows of a `Scan` in the order of their keys. Raises what `answers` does.
 
         They are fetched in pages of at most 1,000 rows from each shard, and of a MiB or one row. Each may take `timeout`.
         """
@@ -121,7 +121,7 @@ class Scans(Reads):
     def _rows(
         self, number: int, page: bytes, high: bytes | None, timeout: float | None
     ) -> Iterator[tuple[bytes, bytes]]:
-        """The rows of a shard from a page on."""
+        """Yields the rows of a shard, starting with a page."""
         rows, more = marshal.loads(page)
         yield from rows
         while more:

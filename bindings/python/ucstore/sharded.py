@@ -1,11 +1,11 @@
-"""A store over many processes: Dask places its shards on workers, calls them, and opens them again.
+"""A store over several processes. Dask places its shards on workers, calls them, and reopens lost ones.
 
-A key belongs to the shard `zlib.crc32(key) % shards`, or to the one between whose split points it
-lies. Each shard is a `Db` in a folder of its own. These lie in one folder, which the client and all
-workers reach under the same path. A batch is there on all shards or on none: when all have their
-parts of it in their logs, the writer appends their last sequences to `sequencer.log`. What is behind
-isn't there, and the next batch cuts it off. Long logs are cut: the rows of the oldest snapshot, or of
-now, are written to a base, and the logs before it go.
+A key belongs to the shard `zlib.crc32(key) % shards`, or to the shard whose split points enclose it. Each
+shard is a `Db` in its own directory. All shards are in one directory, which the client and all workers reach
+under the same path. A batch is written to all its shards or to none: when all have logged their parts of it,
+the writer appends their last sequence numbers to `sequencer.log`. Later writes of a shard do not count, and
+the next batch cuts them off. Long logs are cut: the rows of the oldest snapshot, or of the present state, are
+written to a checkpoint, and older logs are deleted.
 """
 
 from __future__ import annotations
@@ -38,40 +38,40 @@ except ImportError:
 __all__ = ["AnotherWriter", "BadManifest", "LogDamaged", "NoWorkers", "OlderFormat", "Scan", "SharedSnapshot"]
 __all__ += ["ShardReport", "ShardTimeout", "ShardedError", "ShardedReader", "ShardedSnapshot", "ShardedStore"]
 
-# Seconds between two looks at a shard that doesn't answer, and how often it is opened for a call.
+# Seconds between two checks of a shard that does not answer, and number of openings per call.
 _POLL, _TRIES = 0.2, 10
 
-# Seconds between two looks for shards that were lost.
+# Seconds between two searches for lost shards.
 _WATCH = 0.5
 
-# How many batches are under way: one that the shards take, and one that is placed meanwhile.
+# Maximum number of batches in progress: the shards write one while the next is divided into parts.
 _AHEAD = 2
 
-# What Dask says of an actor whose worker is gone.
+# Dask's message for an actor whose worker is gone.
 _LOST = "Worker holding Actor was lost"
 
 
 class _Begun(NamedTuple):
-    """A call, or an opening, that is under way."""
+    """A call or an opening in progress."""
 
     opening: Future
-    """That of the shard."""
+    """Future of the shard's opening."""
     future: Any
-    """That of the call, or of the opening again."""
+    """Future of the call, or of the reopening."""
 
 
 def _is_lost(future: Any, error: Exception) -> bool:
-    """Whether an error of a call, or of an opening, says that the shard's worker was lost."""
-    # Dask has no class for the error of an actor that was lost.
+    """True if an error of a call or of an opening says that the shard's worker was lost."""
+    # Dask has no class for the error of a lost actor.
     if isinstance(error, (CancelledError, KilledWorker, TimedOut)) or _LOST in str(error):
         return True
-    # A call's own errors are answers, and an opening's are those of its task.
+    # Errors of the call itself are returned as answers, and those of an opening are errors of its task.
     is_own = isinstance(future, Future) and future.status == "error"
     return not is_own and isinstance(error, (OSError, ValueError))
 
 
 def _outcome(step: Written[Any], deadline: Deadline) -> Any:
-    """What a step comes to. One that hasn't begun in time is given up by `ShardTimeout`."""
+    """Returns the result of a step. Cancels a step that has not begun in time, and raises `ShardTimeout`."""
     wait([step], deadline.left())
     if not step.done() and step.cancel():
         raise deadline.refusal("the step before")
@@ -79,7 +79,7 @@ def _outcome(step: Written[Any], deadline: Deadline) -> Any:
 
 
 def _watch(found: weakref.ref[ShardedStore]) -> None:
-    """Has lost shards of a store opened again until it ends."""
+    """Reopens lost shards of a store until the store is closed."""
     while True:
         time.sleep(_WATCH)
         store = found()
@@ -90,10 +90,10 @@ def _watch(found: weakref.ref[ShardedStore]) -> None:
 
 
 class ShardedStore(Reads, AbstractContextManager):
-    """A store over shards, whose one writer has it open. Threads may share it.
+    """A store over shards, opened by its only writer. Threads may share it.
 
-    Writes and snapshots are taken in the order of their calls, and reads at the last sequence meanwhile. A call may have a
-    `timeout` of its own, in seconds for all that it does. Behind it, it raises `ShardTimeout`.
+    Writes and snapshots happen in the order of their calls; reads at the last sequence number run concurrently. A call
+    may have its own `timeout` in seconds for all that it does, after which it raises `ShardTimeout`.
     """
 
     @classmethod
@@ -111,11 +111,10 @@ class ShardedStore(Reads, AbstractContextManager):
         timeout: float | None = None,
         checkpoint_least: int = LEAST,
     ) -> ShardedStore:
-        """Makes an empty store in a folder that is empty or isn't there.
+        """Creates an empty store in a directory that is empty or does not exist.
 
-        Its keys are placed by hash, or by `splits`, which lie between shards. If it can't be opened
-        then, nothing is left of it. Raises `BadManifest`, `TypeError` for a wrong argument, and
-        what `open` does.
+        Keys are placed by hash, or by `splits`, the split points between shards. If the store cannot be opened after
+        that, it is deleted. Raises `BadManifest`, `TypeError` for a wrong argument, and what `open` does.
         """
         points, folder = None if splits is None else tuple(splits), Path(path).absolute()
         manifest = Manifest(shards, points, operator, options)
@@ -136,15 +135,14 @@ class ShardedStore(Reads, AbstractContextManager):
     ) -> ShardedStore:
         """Opens a store with all batches that were acknowledged.
 
-        `sync` says whether each batch is on the logs' devices before it is acknowledged. Without
-        it, a machine that crashes may leave logs that are refused. `patience` is for how many
-        seconds a call waits for a worker or a lock, and `timeout` for how many it waits for a
-        shard's answer, if it has no timeout of its own: for ever, if it is None. Openings have no
-        such limit. A shard's log is cut when that lets `checkpoint_least` bytes go, and twice those
-        of the data.
+        `sync` says whether each batch is durable before it is acknowledged. Without it, a crash of a machine may
+        leave logs that cannot be opened. `patience` is the number of seconds that a call waits for a worker or a
+        lock. `timeout` is the number of seconds that a call without its own timeout waits for a shard's answer;
+        None waits forever. Openings have no such limit. A shard's log is cut when that deletes at least
+        `checkpoint_least` bytes, and twice the size of the data.
 
         Raises what `Store.open` does, `BadManifest`, `AnotherWriter`, `LogDamaged`, `NoWorkers`,
-        and `ShardedError` and `OSError` for a file's error.
+        and `ShardedError` and `OSError` for an I/O error.
         """
         folder = Path(path).absolute()
         manifest, claim = Manifest.read(folder), Claim(folder, patience)
@@ -156,21 +154,21 @@ class ShardedStore(Reads, AbstractContextManager):
     def reader(
         client: Client, path: str | Path, *, patience: float = 30.0, timeout: float | None = None
     ) -> ShardedReader:
-        """What reads a store that another process has open. Raises `BadManifest`."""
+        """Returns a reader of a store that another process has open. Raises `BadManifest`."""
         return ShardedReader(client, path, patience=patience, timeout=timeout)
 
     def __init__(self, client: Client, writer: Writer, claim: Claim, timeout: float | None) -> None:
-        """`create` and `open` call it. The claim is theirs until all is open."""
+        """Called by `create` and `open`, which own the claim until all shards are open."""
         self._client, self._writer, self._claim, self._timeout = client, writer, claim, timeout
         self._manifest, self._process = writer.manifest, os.getpid()
         self._snapshots: set[ShardedSnapshot] = set()
         self._futures: dict[int, Future] = {}
         self._actors: dict[int, Any] = {}
         self._log: Sequencer | None = None
-        # The claim keeps out other processes of this machine, and Dask's lock other clients. This
-        # one has its owner's client, so that it can be taken from one that is gone.
+        # The claim keeps out other processes of this machine, and Dask's lock other clients. The name of its owner
+        # contains the client, so that the lock can be taken from a client that is gone.
         self._lock, self._owner = places_name(writer.folder), f"{client.id} {claim.epoch}"
-        # What changes the store is done by one thread, step by step.
+        # One thread makes all changes of the store, step by step.
         self._steps, self._stepper = ThreadPoolExecutor(1, "ucstore.sharded"), 0
         self._ahead = threading.BoundedSemaphore(_AHEAD)
         with undoing(self._steps.shutdown):
@@ -178,7 +176,7 @@ class ShardedStore(Reads, AbstractContextManager):
         threading.Thread(target=_watch, args=(weakref.ref(self),), daemon=True).start()
 
     def _begin(self) -> None:
-        """Opens all. Upon an error nothing is left of that."""
+        """Opens all shards. On an error, closes those that were opened."""
         self._stepper = threading.get_ident()
         with undoing(self._let_go):
             self._find_workers()
@@ -186,11 +184,11 @@ class ShardedStore(Reads, AbstractContextManager):
             self._ask("report", dict.fromkeys(range(self._manifest.shards), ()))
 
     def _step(self, function: Callable[..., Any], *arguments: Any, deadline: Deadline = Deadline(None)) -> Any:
-        """What a function comes to that is a step of its own. Raises `NoStore` behind the store's end."""
+        """Runs a function as a step, and returns its result. Raises `NoStore` after the store was closed."""
         return _outcome(self._later(function, *arguments), deadline)
 
     def _later(self, function: Callable[..., Any], *arguments: Any) -> Written[Any]:
-        """A function that is a step of its own, behind those that there are."""
+        """Submits a function as a step, to run after the steps submitted earlier."""
         # A forked child has the store, but not its thread.
         if self._process != os.getpid():
             raise NoStore()
@@ -200,7 +198,7 @@ class ShardedStore(Reads, AbstractContextManager):
             raise NoStore() from None
 
     def close(self) -> None:
-        """Closes the store behind the writes that it was given, and ends its snapshots. A second call does nothing."""
+        """Closes the store after the writes submitted so far, and ends its snapshots. A second call does nothing."""
         try:
             with suppress(NoStore):
                 self._step(self._let_go)
@@ -209,13 +207,13 @@ class ShardedStore(Reads, AbstractContextManager):
             self._claim.release()
 
     def _let_go(self) -> None:
-        """Lets go of all but the claim. The store is closed first, whatever the rest comes to."""
+        """Releases everything except the claim. The store is closed first, even if the rest fails."""
         log, self._log = self._log, None
         self._snapshots.clear()
         if log is not None:
             log.close()
         self._forget(range(self._manifest.shards))
-        # A newer writer has told where the shards are since.
+        # A newer writer has since published the locations of the shards.
         with suppress(UcstoreError, ValueError, OSError, TimedOut):
             self._writer.check()
             if self._client.status == "running":
@@ -234,7 +232,7 @@ class ShardedStore(Reads, AbstractContextManager):
         self.close()
 
     def _acknowledged(self) -> Sequencer:
-        """How far the shards are. Raises `NoStore` if the store is closed."""
+        """Returns the last sequence number of each shard. Raises `NoStore` if the store is closed."""
         log = self._log
         if log is None:
             raise NoStore()
@@ -242,24 +240,25 @@ class ShardedStore(Reads, AbstractContextManager):
 
     @property
     def last(self) -> int:
-        """The last sequence: 0 if nothing was written."""
+        """The last sequence number: 0 if nothing was written."""
         return self._acknowledged().last
 
     def write(self, operations: Iterable[Operation], *, timeout: float | None = None) -> int:
-        """Writes a batch, and returns its last sequence once all shards have it in their logs.
+        """Writes a batch, and returns its last sequence number once all shards have logged it.
 
-        Raises what `Store.write` does, `NoWorkers`, `AnotherWriter`, `ShardTimeout`, and `ShardedError` for a
-        file's error: then the batch isn't there. An `OSError` is one of the sequencer's log: then that
-        isn't known. The store is closed, and opening it tells.
+        Raises what `Store.write` does, `NoWorkers`, `AnotherWriter`, `ShardTimeout`, and `ShardedError` for an I/O
+        error; the batch is then not written. `OSError` is an error of the sequencer's log: the batch may or may not
+        be written. The store is closed, and reopening it shows which.
         """
         deadline = Deadline(timeout)
         return _outcome(self._submit(operations, deadline), deadline)
 
     def submit(self, operations: Iterable[Operation], *, timeout: float | None = None) -> Written[int]:
-        """Begins to write a batch behind those that were submitted, and returns a future of what `write` does.
+        """Starts writing a batch after those submitted earlier, and returns a future of the result of `write`.
 
-        It waits while two are under way, so that one is placed while the shards take the other. If one fails, those behind
-        it are written all the same. Raises `NoStore`, `ShardTimeout`, and `TypeError` for what is no operation.
+        Waits while two batches are in progress, so that one is divided while the shards write the other. If one fails,
+        later ones are written all the same. Raises `NoStore`, `ShardTimeout`, and `TypeError` for an object that is not
+        an operation.
         """
         return self._submit(operations, Deadline(timeout))
 
@@ -275,12 +274,12 @@ class ShardedStore(Reads, AbstractContextManager):
         return written
 
     def _write(self, parts: Mapping[int, bytes], count: int, deadline: Deadline) -> int:
-        """Writes a batch that was placed, and returns its last sequence."""
+        """Writes a batch that was divided into parts, and returns its last sequence number."""
         log = self._acknowledged()
         deadline.check("the batch before")
         first, last = log.last + 1, log.last + count
         calls = {number: (log.reached[number], first, part) for number, part in parts.items()}
-        # A shard that has a part which isn't acknowledged is opened again, as it was.
+        # A shard with a part that is not acknowledged is reopened as it was.
         with undoing(self._forget, parts):
             reached = self._ask("apply", calls, deadline)
             with undoing(self._end):
@@ -288,17 +287,17 @@ class ShardedStore(Reads, AbstractContextManager):
         return last
 
     def _read(self, method: str, calls: Mapping[int, tuple], timeout: float | None) -> Mapping[int, bytes]:
-        """What shards answer to a call at the last sequence."""
+        """Returns the answers of shards to a call at the last sequence number."""
         deadline = Deadline(timeout)
         while True:
             reached = self._acknowledged().reached
-            # A shard that was written to for long since then has it no more.
+            # A shard that was written to for too long since then no longer has that state.
             with suppress(NotProtected):
                 return self._ask(method, {number: (*call, reached[number]) for number, call in calls.items()}, deadline)
             deadline.check("the store")
 
     def snapshot(self, *, timeout: float | None = None) -> ShardedSnapshot:
-        """A snapshot at the last sequence, which `with` releases at its end.
+        """Takes a snapshot at the last sequence number; `with` releases it.
 
         Raises `OutOfMemory`, `NoWorkers` and `ShardTimeout`.
         """
@@ -318,14 +317,14 @@ class ShardedStore(Reads, AbstractContextManager):
         if snapshot in self._snapshots:
             calls = {number: (place,) for number, place in enumerate(snapshot.reached)}
             try:
-                # A shard that is opened again meanwhile takes it again before.
+                # A shard that is reopened concurrently takes the snapshot again first.
                 with undoing(self._forget, calls):
                     self._ask("release", calls, deadline)
             finally:
                 self._snapshots.discard(snapshot)
 
     def report(self, *, timeout: float | None = None) -> list[ShardReport]:
-        """What each shard holds, in numbers."""
+        """Returns statistics of each shard."""
         self._acknowledged()
         found = self._ask("report", dict.fromkeys(range(self._manifest.shards), ()), Deadline(timeout))
         return list(found.values())
@@ -333,7 +332,7 @@ class ShardedStore(Reads, AbstractContextManager):
     def _ask(
         self, method: str, calls: Mapping[int, tuple], deadline: Deadline = Deadline(None)
     ) -> dict[int, Any]:
-        """What shards answer to a call, all at the same time. Lost ones are opened again."""
+        """Returns the answers of shards to a call, made on all at the same time. Reopens lost shards."""
         answers: dict[int, Any] = {}
         for _ in range(_TRIES):
             asked, begun = [number for number in calls if number not in answers], {}
@@ -348,7 +347,7 @@ class ShardedStore(Reads, AbstractContextManager):
         raise ShardedError(f"the workers of shards were lost {_TRIES} times")
 
     def _get_open(self, numbers: Sequence[int], deadline: Deadline) -> None:
-        """Opens the shards that aren't open. A write that is under way ends before: what it comes to isn't known."""
+        """Opens the shards that are not open. A write in progress ends first; its result is unknown."""
         if not all(map(self._is_open, numbers)):
             if threading.get_ident() == self._stepper:
                 self._open(numbers, deadline)
@@ -356,14 +355,14 @@ class ShardedStore(Reads, AbstractContextManager):
                 self._step(self._open, numbers, deadline, deadline=deadline)
 
     def _open(self, numbers: Iterable[int], deadline: Deadline) -> None:
-        """Opens the shards that aren't open, as they were acknowledged, but for lost ones."""
+        """Opens the shards that are not open, in their acknowledged state, except lost ones."""
         closed = [number for number in numbers if not self._is_open(number)]
         if closed:
             self._acknowledged()
             workers, begun = self._find_workers(), {}
             for number in closed:
                 opening = self._futures.get(number)
-                # One whose time was over may still be under way, or have ended since.
+                # An opening that timed out may still be in progress, or have ended since.
                 if opening is None or number in self._actors or opening.status not in ("pending", "finished"):
                     self._forget([number])
                     opening = self._futures[number] = self._start(number, workers)
@@ -374,24 +373,24 @@ class ShardedStore(Reads, AbstractContextManager):
             self._tell_places()
 
     def _start(self, number: int, workers: list[str]) -> Future:
-        """Begins to open a shard, as it was acknowledged."""
+        """Starts opening a shard in its acknowledged state."""
         log, keeps = self._acknowledged(), [snapshot.reached[number] for snapshot in self._snapshots]
         reached = (log.reached[number], log.last, keeps)
-        # The scheduler takes the worker that has the fewest actors, if it is told some.
+        # Given several workers, the scheduler takes the one with the fewest actors.
         how = {"workers": workers, "allow_other_workers": True, "actor": True, "pure": False}
         return self._client.submit(Shard.start, self._writer, number, *reached, **how)
 
     def _open_lost(self) -> None:
-        """Opens lost shards again, for readers of other processes, if there is a worker for them."""
+        """Reopens lost shards for readers of other processes, if there is a worker for them."""
         lost = [number for number in range(self._manifest.shards) if not self._is_open(number)]
         if lost and self._client.status == "running" and self._client.scheduler_info().get("workers"):
             deadline = Deadline(_WATCH)
-            # Calls of this process are told what is wrong.
+            # Calls of this process raise the error.
             with suppress(UcstoreError, OSError, TimedOut, CancelledError):
                 self._step(self._open, lost, deadline, deadline=deadline)
 
     def _tell_places(self) -> None:
-        """Tells readers where the shards are. They wait, if that can't be told now."""
+        """Publishes the locations of the shards to readers. Readers wait if that fails now."""
         with suppress(OSError, TimedOut):
             places = {number: (actor.key, actor._address) for number, actor in list(self._actors.items())}
             tell_places(self._client, self._writer.folder, places)
@@ -403,7 +402,7 @@ class ShardedStore(Reads, AbstractContextManager):
     def _ended(
         self, begun: Mapping[int, _Begun], workers: Iterable[str], deadline: Deadline
     ) -> Iterator[tuple[int, Any]]:
-        """What calls come to, but for lost shards. All have ended when one's error is raised."""
+        """Returns the results of calls, except those of lost shards. Raises an error after all have ended."""
         errors: list[Exception] = []
         for number, (opening, future) in begun.items():
             try:
@@ -412,7 +411,7 @@ class ShardedStore(Reads, AbstractContextManager):
                 errors.append(error)
             except Exception as error:
                 if _is_lost(future, error):
-                    # Another thread may have opened it again.
+                    # Another thread may have reopened it.
                     if self._futures.get(number) is opening:
                         self._forget([number])
                 else:
@@ -428,12 +427,12 @@ class ShardedStore(Reads, AbstractContextManager):
     def _wait(
         self, number: int, opening: Future, future: Any, workers: Iterable[str], deadline: Deadline
     ) -> Any:
-        """What a call, or an opening on workers, comes to. Raises what it raises, and `ShardTimeout`."""
+        """Returns the result of a call, or of an opening on workers. Raises its error, and `ShardTimeout`."""
         is_call, usual = opening is not future, Deadline(self._timeout)
         while True:
             left = deadline.left()
             try:
-                # An actor belongs to the client that is the current one.
+                # An actor belongs to the current client.
                 with self._client.as_current():
                     return future.result(timeout=_POLL if left is None else min(_POLL, left))
             except TimedOut:
@@ -449,23 +448,23 @@ class ShardedStore(Reads, AbstractContextManager):
                     usual.check(f"shard {number}")
 
     def _forget(self, numbers: Iterable[int]) -> None:
-        """Lets go of shards. Their workers close them, once no call is under way."""
+        """Releases shards. Their workers close them when no call is in progress."""
         for number in numbers:
             self._actors.pop(number, None)
             future = self._futures.pop(number, None)
-            # An actor's own future, which Python frees at some time, would keep it alive.
+            # The actor's own future, which Python frees at some later time, would keep it alive.
             if future is not None and self._client.status == "running":
                 with suppress(OSError, TimedOut):
                     future.cancel()
 
     def _find_workers(self) -> list[str]:
-        """The workers that are there. It takes the lock, if a new scheduler has forgotten that.
+        """Returns the available workers. Takes the lock again if a new scheduler does not know it.
 
-        Raises `AnotherWriter` and `NoWorkers` if it waits in vain.
+        Raises `AnotherWriter` and `NoWorkers` when the time is over.
         """
         name, owner = self._lock, self._owner
 
-        # A nested function is sent as its code: the scheduler needs no ucstore.
+        # A nested function is sent as its code, so the scheduler does not need ucstore.
         def find(dask_scheduler: Any = None) -> tuple[bool, list[str]]:
             owners = dask_scheduler.extensions["locks"].ids
             if owners.get(name, owner).split()[0] not in dask_scheduler.clients:
@@ -485,25 +484,25 @@ class ShardedStore(Reads, AbstractContextManager):
 
 
 class ShardedSnapshot(Scans, AbstractContextManager):
-    """A snapshot of all shards: it reads what was written before it was taken.
+    """A snapshot of all shards. It reads what was written before it was taken.
 
-    It may be sent to another process or to a task, as a `SharedSnapshot`, which stays until this is released.
+    It may be sent to another process or to a task, as a `SharedSnapshot`, which lasts until this one is released.
     """
 
     def __init__(self, store: ShardedStore, sequence: int, reached: Sequence[int]) -> None:
-        """`ShardedStore.snapshot` calls it."""
+        """Called by `ShardedStore.snapshot`."""
         self._store, self._manifest = store, store._manifest
         self.sequence = sequence
-        """The sequence that it is at."""
+        """Its sequence number."""
         self.reached = reached
-        """The last sequence of each shard then."""
+        """The last sequence number of each shard at that time."""
 
     def __reduce__(self) -> tuple:
         reader = ShardedReader(self._store._client, self._store._writer.folder, timeout=self._store._timeout)
         return SharedSnapshot, (reader, self.sequence, self.reached)
 
     def release(self, *, timeout: float | None = None) -> None:
-        """Releases the snapshot. A second call does nothing, nor one behind the store's end."""
+        """Releases the snapshot. A second call does nothing, nor does a call after the store was closed."""
         deadline = Deadline(timeout)
         with suppress(NoStore):
             self._store._step(self._store._release, self, deadline, deadline=deadline)
