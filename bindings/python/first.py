@@ -1,4 +1,4 @@
-"""Counts visits, and reads how many there were before."""
+"""Counts visits, and prints the number before and after."""
 
 from ucstore import Operator, Store
 

@@ -1,9 +1,9 @@
-"""Eight threads that count until they are ended, by signal 9 too, and say each number once it is acknowledged:
+"""Counts in eight threads until it is killed, and prints each number once it is acknowledged:
 
     count.py FOLDER          counts
-    count.py FOLDER read     prints what each thread has counted
+    count.py FOLDER read     prints the last number of each thread
 
-Each counts under two keys at once, which have the same number at each moment.
+Each thread writes the same number under two keys at once, so both always have the same number.
 """
 
 import os
@@ -17,7 +17,7 @@ ONE = (1).to_bytes(8, "little")
 
 
 def counted(db, thread):
-    """What a thread has counted under both of its keys."""
+    """Returns the number that a thread has written under both of its keys."""
     first, second = db.get_many([b"a%d" % thread, b"b%d" % thread])
     if first != second:
         os.write(2, b"thread %d has half of a batch\n" % thread)

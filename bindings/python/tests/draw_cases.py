@@ -1,8 +1,8 @@
-"""Draws a file of cases (bindings/cases has its form), with what the model answers:
+"""Prints a file of random cases in the form of bindings/cases, with the answers of the model:
 
     draw_cases.py SEED CASES > FILE
 
-The model knows no memtable, no run and no log. The players of C and Python play the file over a database.
+The model has no memtables, runs or logs. The players of C and Python play the file over a database.
 """
 
 import random
@@ -18,7 +18,7 @@ OPTIONS = ["", " write_buffer_size=1", " write_buffer_size=64", " write_buffer_s
 
 
 class Drawn:
-    """The lines of a file."""
+    """Returns the lines of a file."""
 
     def __init__(self, seed):
         self.random = random.Random(seed)
@@ -37,7 +37,7 @@ class Drawn:
         return self.random.choice(KEYS)
 
     def write(self, indent=""):
-        """A write of one operation."""
+        """Adds a write of one operation."""
         kind = self.random.choice(["put", "put", "merge", "merge", "merge", "delete", "range"])
         second = {"delete": "", "range": f" {self.key()}"}.get(kind, f" {self.random.choice(self.texts())}")
         self.lines.append(f"{indent}{kind} {self.key()}{second}")
@@ -73,7 +73,7 @@ class Drawn:
         self.random.choices(steps, [8, 3, 5, 2, 1])[0]()
 
     def case(self):
-        """A case, which goes on with the store of the one before, or begins with a new one."""
+        """Adds a case, which continues with the store of the previous case, or begins with a new one."""
         if not self.lines or self.random.random() < 0.2:
             self.create()
         for _ in range(self.random.randrange(5, 25)):

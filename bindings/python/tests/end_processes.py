@@ -1,9 +1,9 @@
-"""Ends a program by signal 9 again and again while it counts, and checks that a folder has what it said:
+"""Kills a program repeatedly by signal 9 while it counts, and checks that a directory has the acknowledged numbers:
 
     end_processes.py TIMES FOLDER PROGRAM..
 
-`PROGRAM FOLDER` counts by several threads, and says `counted THREAD NUMBER` once a number is acknowledged.
-`PROGRAM FOLDER read` says what the folder has. A thread has one write under way at most when it is ended.
+`PROGRAM FOLDER` counts in several threads, and prints `counted THREAD NUMBER` once a number is acknowledged.
+`PROGRAM FOLDER read` prints the contents of the directory. When it is killed, each thread has at most one write in progress.
 """
 
 import random
@@ -13,7 +13,7 @@ import time
 
 
 def numbers_of(output):
-    """The last number of each thread. The last line may be cut off."""
+    """Returns the last number of each thread. The last line may be cut off."""
     found = {}
     for line in output[:output.rfind(b"\n") + 1].splitlines():
         word, thread, number = line.split()
@@ -23,7 +23,7 @@ def numbers_of(output):
 
 
 def end_once(program, folder, seconds, is_counting):
-    """What the program said before it was ended: so long behind its first number, or behind its start."""
+    """Returns the output of the program, killed a while after its first number, or after its start."""
     process = subprocess.Popen([*program, folder], stdout=subprocess.PIPE)
     first = process.stdout.readline() if is_counting else b""
     time.sleep(seconds)
@@ -36,7 +36,7 @@ def end_once(program, folder, seconds, is_counting):
 
 
 def check(said, had, before):
-    """Whether a folder has what was said, and at most one number more for each thread."""
+    """Checks that a directory has the printed numbers, and at most one more for each thread."""
     for thread, number in had.items():
         least = said.get(thread, before.get(thread, 0))
         if not least <= number <= least + 1:

@@ -1,8 +1,8 @@
-"""Plays the files of bindings/cases, whose README says what stands in them, over the library and over their model.
+"""Plays the files of bindings/cases, whose README describes them, over the library and over their model.
 
     test_cases.py --rewrite FILE..
 
-puts into files what the model answers. That needs no library.
+writes the answers of the model to files. That needs no library.
 """
 
 import re
@@ -17,15 +17,15 @@ sys.path.insert(0, str(FOLDER))
 
 import model  # noqa: E402
 
-# What is put behind each command.
+# Words added to each command.
 WAYS = NOTHING, FLUSH, COMPACTIONS, REOPENING = "nothing", "a flush", "all compactions", "a reopening"
 
-# The operations, the commands that take texts, and those that take words as they stand.
+# The operations, the commands that take byte strings, and the commands that take words unchanged.
 KINDS = {"put": "Put", "merge": "Merge", "delete": "Delete", "range": "DeleteRange"}
 BY_TEXTS = ("commit", "raw", "get", "scan", "count", "prefix", "flush", "compact", "last", "snapshots", "report")
 BY_WORDS = ("create", "reopen", "close", "give", "snapshot", "release")
 
-# What stands behind the texts of a command, each before a word.
+# Words that may follow the byte strings of a command, each before a value.
 NAMES = ("at", "limit", "sequence")
 
 PIECE = re.compile(r'(?:(\d+)\*)?(?:u64:(\d+)|"((?:[^"\\]|\\x[0-9a-f]{2})*)"|([\w/.,-]+))(?:\+|$)', re.ASCII)
@@ -34,7 +34,7 @@ LONG_RUN = re.compile(rb"(.)\1{15,}", re.DOTALL)
 
 
 def text_of(word: str) -> bytes:
-    """The text that a word spells: pieces with `+` between them."""
+    """Returns the byte string that a word encodes: pieces with `+` between them."""
     text, place = b"", 0
     while place < len(word):
         piece = PIECE.match(word, place)
@@ -53,7 +53,7 @@ def text_of(word: str) -> bytes:
 
 
 def piece_of(text: bytes) -> str:
-    """A piece that spells a text: a word, or a quoted one."""
+    """Returns the byte string of a piece: a plain or a quoted word."""
     if WORD.fullmatch(text):
         return text.decode()
     shown = (chr(byte) if 0x20 < byte < 0x7F and byte not in b'"\\' else f"\\x{byte:02x}" for byte in text)
@@ -61,7 +61,7 @@ def piece_of(text: bytes) -> str:
 
 
 def word_of(text: bytes) -> str:
-    """The word that spells a text. A byte that comes 16 times or more is a piece with its number."""
+    """Encodes a byte string as a word. A byte that is repeated 16 times or more is a piece with a count."""
     pieces, place = [], 0
     for run in LONG_RUN.finditer(text):
         if run.start() > place:
@@ -74,7 +74,7 @@ def word_of(text: bytes) -> str:
 
 
 def arguments_of(words: Iterable[str]) -> Tuple[List[bytes], Dict[str, str]]:
-    """The texts of a command, and the words behind `at`, `limit` and `sequence`."""
+    """Returns the byte strings of a command, and the words that follow `at`, `limit` and `sequence`."""
     words = list(words)
     texts = list(takewhile(lambda word: word not in NAMES, words))
     named = words[len(texts):]
@@ -82,7 +82,7 @@ def arguments_of(words: Iterable[str]) -> Tuple[List[bytes], Dict[str, str]]:
 
 
 class Case(NamedTuple):
-    """The number of a case's first line, the line `----`, and the lines before it and behind it."""
+    """Returns the number of a case's first line, the index of its line `----`, and the lines before and after that."""
 
     line: int
     separator: int
@@ -91,7 +91,7 @@ class Case(NamedTuple):
 
 
 def cases_of(lines: List[str]) -> Iterator[Case]:
-    """The cases of a file."""
+    """Yields the cases of a file."""
     place = 0
     while place < len(lines):
         if lines[place] == "" or lines[place].startswith("#"):
@@ -105,7 +105,7 @@ def cases_of(lines: List[str]) -> Iterator[Case]:
 
 
 def expanded(line: str) -> Iterator[str]:
-    """The lines that a line stands for: as many as `times` says, with their numbers in the place of `#`."""
+    """Yields the lines that a line stands for: `times` says their number, and `#` is replaced by the index."""
     repeated = re.fullmatch(r"( *)times (\d+) (.*)", line)
     if repeated is None:
         yield line
@@ -115,7 +115,7 @@ def expanded(line: str) -> Iterator[str]:
 
 
 def calls_of(lines: Iterable[str]) -> List[Tuple[List[str], List[List[str]]]]:
-    """The words of each command, and those of the indented lines behind it."""
+    """Yields the words of each command, with those of the indented lines that follow it."""
     calls: List[Tuple[List[str], List[List[str]]]] = []
     for line in (one for line in lines for one in expanded(line)):
         if line.startswith(" "):
@@ -126,7 +126,7 @@ def calls_of(lines: Iterable[str]) -> List[Tuple[List[str], List[List[str]]]]:
 
 
 class Player:
-    """Plays the cases of a file, one behind the other, over a module: `ucstore`, or its model."""
+    """Plays the cases of a file in order, over a module: `ucstore`, or its model."""
 
     def __init__(self, module: Any, way: str) -> None:
         self.module, self.way, self.store = module, way, None
@@ -134,12 +134,12 @@ class Player:
         self.log = b""
         self.said: List[str] = []
         self.record: Optional[bytes] = None
-        """What a batch that is prepared adds to the log."""
+        """The bytes that the prepared batch adds to the log."""
         self.sequences: Dict[str, int] = {}
-        """The sequences of snapshots by their names."""
+        """Sequence numbers of snapshots by name."""
 
     def play(self, case: Case) -> List[str]:
-        """What a case prints."""
+        """Returns the output of a case."""
         self.said = []
         for words, operations in calls_of(case.input):
             try:
@@ -168,7 +168,7 @@ class Player:
             raise ValueError(f"{command} isn't a command")
 
     def put_behind(self) -> None:
-        """What the way puts behind a command, unless that would give up what is prepared."""
+        """Does the extra commands of the way after a command, unless that would discard the prepared batch."""
         if not self.is_open or self.record is not None:
             return
         if self.way in (FLUSH, COMPACTIONS):
@@ -243,11 +243,11 @@ class Player:
         self.store.release(self.sequence(name))
 
     def sequence(self, name: str) -> int:
-        """The sequence of a snapshot's name. A number is one itself."""
+        """Returns the sequence number of a snapshot's name, or of a number."""
         return int(name) if name.isdigit() else self.sequences[name]
 
     def word(self, value: bytes) -> str:
-        """The word that spells a value. One that may be a counter's is a number."""
+        """Encodes a value as a word. A value that may be a counter's is a number."""
         if self.operator.name == "COUNTER" and len(value) == 8:
             return f"u64:{int.from_bytes(value, 'little')}"
         return word_of(value)
@@ -296,19 +296,19 @@ class Player:
 
 
 def difference(wanted: List[str], came: List[str]) -> List[str]:
-    """What was wanted and what came, from the first line on that differs."""
+    """Returns the wanted and the actual output, from the first different line on."""
     same = sum(1 for _ in takewhile(lambda pair: pair[0] == pair[1], zip(wanted, came)))
     marked = (("  ", wanted[:same]), ("- ", wanted[same:]), ("+ ", came[same:]))
     return [mark + line for mark, lines in marked for line in lines]
 
 
 def is_by_hand(case: Case) -> bool:
-    """Whether what a case prints is worked out by hand: the model has no report."""
+    """True if the output of a case is computed by hand: the model has no report."""
     return case.input == ["report"]
 
 
 def play(file: Path, module: Any, way: str) -> Tuple[int, List[str]]:
-    """How many cases were played, and how those differ that print something else."""
+    """Returns the number of cases played, and the differences of those with other output."""
     player, count, failures = Player(module, way), 0, []
     for case in cases_of(file.read_text().splitlines()):
         if module is not model or not is_by_hand(case):
@@ -321,7 +321,7 @@ def play(file: Path, module: Any, way: str) -> Tuple[int, List[str]]:
 
 
 def rewritten(lines: List[str]) -> List[str]:
-    """A file's lines with what the model prints."""
+    """Returns the lines of a file with the output of the model."""
     player, done, found = Player(model, NOTHING), 0, []
     for case in cases_of(lines):
         found += lines[done:case.separator + 1]
@@ -332,7 +332,7 @@ def rewritten(lines: List[str]) -> List[str]:
 
 class Cases(unittest.TestCase):
     def play_all(self, module: Any, ways: Iterable[str]) -> int:
-        """Plays all files, and returns how many cases there were. How many runs there are depends on the way."""
+        """Plays all files, and returns the number of cases. The number of runs depends on the way."""
         whole = 0
         for file in sorted(FOLDER.glob("*.txt")):
             has_report = "report" in file.read_text().splitlines()
@@ -346,7 +346,7 @@ class Cases(unittest.TestCase):
         return whole
 
     def test_the_library_prints_what_is_expected(self):
-        # A file is rewritten without the library.
+        # Rewriting a file does not need the library.
         import ucstore
 
         print(f"{self.play_all(ucstore, WAYS)} cases played")

@@ -1,4 +1,4 @@
-"""Tries `ucstore.Db`: what its calls answer and refuse, threads, forks, what it tells, and how fast it scans."""
+"""Tests of `ucstore.Db`: results and errors of its calls, threads, forks, callbacks, and the speed of scans."""
 
 import collections
 import ctypes
@@ -25,11 +25,11 @@ ONE = (1).to_bytes(8, "little")
 
 
 def number(value):
-    """A counter's number."""
+    """Returns a counter's number."""
     return int.from_bytes(value or b"", "little")
 
 
-# Puts a value and reads it, with as many more bytes of address space as are said.
+# Puts a value and reads it, with a limited number of additional bytes of address space.
 WITHOUT_MEMORY = """
 import os, resource, sys, time
 from ucstore import Db, DbOptions, OutOfMemory
@@ -61,7 +61,7 @@ with Db(folder, options=DbOptions(compactors=0)) as db:
 
 
 class InFolder(unittest.TestCase):
-    """A test with a folder of its own."""
+    """A test with its own directory."""
 
     def setUp(self):
         temporary = tempfile.TemporaryDirectory()
@@ -194,7 +194,7 @@ class Calls(InFolder):
             Db("a\0b")
 
     def test_texts_may_be_too_long(self):
-        """Of 2^32 bytes or more: this takes the memory of one. A caller with less doesn't get so far."""
+        """Uses a value of 2^32 bytes, which takes as much memory. With less memory a caller fails earlier."""
         if os.environ.get("LONG"):
             with Db.in_memory() as db:
                 with self.assertRaises(TooLong):
@@ -202,7 +202,7 @@ class Calls(InFolder):
                 self.assertEqual(list(db), [])
 
     def test_an_allocation_that_fails_is_an_error(self):
-        """A child whose address space is limited gets an exception, and the database goes on."""
+        """In a child with a limited address space a call raises an exception, and the database stays usable."""
         for size in 1, 20, 60:
             for allowed in range(0, 260 * size // 40, max(1, size // 4)):
                 child = subprocess.run(
@@ -248,7 +248,7 @@ class Calls(InFolder):
 
 
 def init_options():
-    """The library's function that fills in options."""
+    """Returns the library's function that sets the default options."""
     name = os.environ.get("UCSTORE_DB_LIBRARY") or "libucstore_db.so.2"
     return ctypes.CDLL(name).ucstore_db_options_init
 
@@ -344,7 +344,7 @@ class Refusals(InFolder):
         Db(self.folder).close()
 
     def is_forked(self, db, memory, snapshot, rows):
-        """Whether each call is refused, and a database of the child's own is not."""
+        """True if each call fails in the child, and calls of its own database do not."""
         calls = (
             lambda: db.put(b"k", b"v"), lambda: db[b"k"], lambda: memory.stats(), lambda: snapshot[b"k"], lambda: list(rows),
             db.close, db.write_batch().__len__,
@@ -363,12 +363,12 @@ class Refusals(InFolder):
 
 
 def batch_at(first, *operations):
-    """Operations as RocksDB spells them, from a sequence on."""
+    """Encodes operations in RocksDB's format, starting at a sequence number."""
     return batch_bytes(operations, first)
 
 
 class Recovered(InFolder):
-    """A database that is a part of something greater: another log says what was acknowledged."""
+    """Tests of a database that is a part of a larger store, whose own log says what was acknowledged."""
 
     def files(self):
         return {path.name: path.read_bytes() for path in self.folder.iterdir()}
@@ -478,13 +478,13 @@ class Told(InFolder):
                 with self.assertRaisesRegex(FileFault, "000001.log: File too large"):
                     db[b"l"] = bytes(3000)
             self.assertEqual([type(event.error) for event in told], [FileFault])
-            # A smaller one has space.
+            # A smaller value fits.
             db[b"k"] = b"w"
         finally:
             resource.setrlimit(resource.RLIMIT_FSIZE, limits)
         db[b"l"] = bytes(3000)
         self.assertEqual((db[b"k"], len(db[b"l"])), (b"w", 3000))
-        # A checkpoint can't be made where nothing can be made, and writes go on.
+        # A checkpoint fails where no file can be created, and writes continue.
         os.rename(self.folder, self.folder.with_name("gone"))
         with self.assertRaisesRegex(FileFault, "000002.log: No such file"):
             db.checkpoint()
@@ -588,7 +588,7 @@ class Ends(InFolder):
 
 class Speed(InFolder):
     def test_a_row_of_a_scan(self):
-        """It is measured in processor time. Beside other work a row takes up to three times as long."""
+        """Measures processor time. While other work runs, a row takes up to three times as long."""
         count, options = 200_000, DbOptions(sync=Sync.NEVER)
         with Db(self.folder, options=options) as db:
             with db.write_batch() as batch:
@@ -602,7 +602,7 @@ class Speed(InFolder):
         self.assertLess(nanoseconds, 300 if os.environ.get("QUIET") else 900)
 
     def seconds(self, db):
-        """What passing over all rows takes."""
+        """Returns the time of reading all rows."""
         begun = time.thread_time()
         collections.deque(db.items(), maxlen=0)
         return time.thread_time() - begun

@@ -1,8 +1,8 @@
-"""Plays files of bindings/cases over `ucstore.Db`, each store in a folder of its own:
+"""Plays files of bindings/cases over `ucstore.Db`, each store in its own directory:
 
     test_db_cases.py FILE..
 
-It plays what a database has too: no sequences of batches, and no reports.
+It plays the commands that a database has: no sequence numbers of batches, and no reports.
 """
 
 import sys
@@ -15,7 +15,7 @@ from ucstore import Db, DbOptions, Sync
 
 
 class Store:
-    """What the player knows as a store, over a database in a folder."""
+    """A store for the player, over a database in a directory."""
 
     ended = "clean"
 
@@ -29,7 +29,7 @@ class Store:
 
     @classmethod
     def open(cls, operator, log, options):
-        """Opens the folder that the log names. One without a batch has no log: it is empty, as a new one is."""
+        """Opens the directory that the log names. A log without a batch is empty, as is a new database."""
         return cls(operator, options, (log.decode().splitlines() or [None])[-1])
 
     def close(self):
@@ -46,11 +46,11 @@ class Store:
                 getattr(batch, NAMES[type(operation)])(*operation)
 
     def __getattr__(self, name):
-        """What a database calls the same."""
+        """Returns the options of a database with the same values."""
         return getattr(self.db, name)
 
     def prepare(self, length, operations, sequence=0):
-        """What is added to the log is the folder's name."""
+        """The bytes added to the log are the name of the directory."""
         assert sequence == 0, "a database gives sequences itself"
         self.prepared = operations
         return f"{self.folder}\n".encode()
@@ -76,7 +76,7 @@ class Store:
         self.held.pop(place)[1].close()
 
     def place(self, sequence):
-        """The place of a snapshot at a sequence."""
+        """Returns the index of a snapshot at a sequence number."""
         for place, (at, _) in enumerate(self.held):
             if at == sequence:
                 return place
@@ -107,7 +107,7 @@ NAMES = {ucstore.Put: "put", ucstore.Merge: "merge", ucstore.Delete: "delete", u
 
 
 class Module:
-    """What the player knows as a module."""
+    """The names that the player uses of a module."""
 
     Store, Operator, Options, UcstoreError = Store, ucstore.Operator, ucstore.Options, ucstore.UcstoreError
     Put, Merge, Delete, DeleteRange = ucstore.Put, ucstore.Merge, ucstore.Delete, ucstore.DeleteRange

@@ -1,4 +1,4 @@
-"""What each call answers and refuses, and drawn operations beside a plain dictionary."""
+"""Tests of the results and errors of each call, and of random operations compared with a plain dictionary."""
 
 import doctest
 import random
@@ -336,7 +336,7 @@ class Calls(unittest.TestCase):
                 pass
             self.assertEqual(store.report().runs, 8)
             job = store.take_job()
-            # Of each run a key of a byte with a value of a byte, and 8 for the sequence.
+            # Each run has a key of one byte with a value of one byte, and 8 bytes of sequence number.
             self.assertEqual(job.input_bytes, 8 * 10)
             worker = threading.Thread(target=job.run)
             worker.start()
@@ -431,7 +431,7 @@ class Logs(unittest.TestCase):
 
 
 def merged(operator, old, operand):
-    """The value of a key with an older value, or None, and an operand."""
+    """Returns the value of a key after an operand, given its older value or None."""
     def number(text):
         return int.from_bytes(text, "little") if text is not None and len(text) == 8 else 0
 
@@ -445,7 +445,7 @@ def merged(operator, old, operand):
 
 
 class Soak:
-    """A store beside the dictionaries that it should hold, now and at each keep, and the log of it."""
+    """A store with the dictionaries that it should equal, now and at each snapshot, and its log."""
 
     def __init__(self, operator, seed):
         self.operator = operator
@@ -517,7 +517,7 @@ class Soak:
         self.random.choices(steps, (40, 8, 8, 35, 6, 3))[0]()
 
     def reopen(self):
-        """Opens the log, whole, and reads a torn one."""
+        """Opens the complete log, and reads a truncated one."""
         with Store.open(self.operator, bytes(self.log)) as store, store.snapshot() as snapshot:
             assert (store.ended.end, store.last) == (End.CLEAN, len(self.written))
             assert dict(snapshot.scan()) == self.held

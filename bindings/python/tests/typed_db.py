@@ -1,4 +1,4 @@
-"""Uses each call of `ucstore.Db` as a typed program does. mypy reads it, and nothing runs it."""
+"""Uses each call of `ucstore.Db` as a typed program does. mypy checks it, and nothing runs it."""
 
 from pathlib import Path
 from typing import Dict, Iterator, List, Optional, Tuple

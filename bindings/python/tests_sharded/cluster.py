@@ -1,4 +1,4 @@
-"""A scheduler and workers of Dask as processes on the loopback address, which are killed and started again."""
+"""A Dask scheduler and workers as processes on the loopback address, which tests kill and restart."""
 
 import json
 import random
@@ -27,7 +27,7 @@ class Cluster:
         self.log = open(folder / "dask.log", "wb")
 
     def start(self) -> None:
-        """Starts the scheduler, where it was before, and the workers."""
+        """Starts the scheduler at its earlier address, and the workers."""
         port, said = self.address.rpartition(":")[2] or "0", self.folder / "scheduler.json"
         said.unlink(missing_ok=True)
         self.scheduler = self._run("dask_scheduler", "--host", "127.0.0.1", "--port", port, "--scheduler-file", str(said))
@@ -39,7 +39,7 @@ class Cluster:
         self.fill()
 
     def fill(self) -> None:
-        """Starts as many workers as are missing, without waiting for them."""
+        """Starts the missing workers, without waiting for them."""
         options = ("--host", "127.0.0.1", "--nthreads", "1", "--no-nanny", "--memory-limit", "0")
         local = str(self.folder / "local")
         while len(self.workers) < self.count:
@@ -52,22 +52,22 @@ class Cluster:
         return subprocess.Popen(command, stdin=subprocess.DEVNULL, stdout=self.log, stderr=self.log)
 
     def client(self, direct: bool = True) -> Client:
-        """A client, whose calls go to the workers directly or through the scheduler."""
+        """Returns a client, whose calls go to the workers directly or through the scheduler."""
         return Client(self.address, direct_to_workers=direct, set_as_default=False, timeout=30)
 
     def known(self, client: Client) -> Set[str]:
-        """The names of the workers that the scheduler knows."""
+        """Returns the names of the workers that the scheduler knows."""
         return {worker["name"] for worker in client.scheduler_info().get("workers", {}).values()}
 
     def wait(self, client: Client, count: Optional[int] = None) -> None:
-        """Waits until so many workers are there, or all."""
+        """Waits until a number of workers, or all of them, are there."""
         until = time.monotonic() + 60
         while len(self.known(client) & self.workers.keys()) < (count or self.count):
             assert time.monotonic() < until, "the workers don't come"
             time.sleep(0.05)
 
     def kill_worker(self, client: Client) -> None:
-        """Kills one of the workers that are there, and starts another."""
+        """Kills one of the running workers, and starts another."""
         with self.guard:
             names = sorted(self.known(client) & self.workers.keys())
             if names:
@@ -81,7 +81,7 @@ class Cluster:
 
     @contextmanager
     def stopped_workers(self, count: Optional[int] = None) -> Iterator[None]:
-        """Stops so many workers, or all, for a while: their processes are there, and do nothing."""
+        """Stops a number of workers, or all of them, for a while: their processes exist, and do nothing."""
         processes = self.random.sample(list(self.workers.values()), count or len(self.workers))
         for process in processes:
             process.send_signal(signal.SIGSTOP)

@@ -1,4 +1,4 @@
-"""Drawn operations, and a sharded store beside one store that is fed the same."""
+"""Random operations, and a sharded store compared with one store that gets the same operations."""
 
 import random
 from typing import Dict, Iterable, List, Tuple
@@ -26,13 +26,13 @@ def operation(draws: random.Random) -> Operation:
 
 
 def batch(draws: random.Random, most: int = 1000) -> List[Operation]:
-    """From one to `most` operations, of each magnitude as often."""
+    """Returns 1 to `most` operations, each order of magnitude equally often."""
     count = draws.randint(1, draws.choice([size for size in (1, 10, 100, 1000) if size <= most]))
     return [operation(draws) for _ in range(count)]
 
 
 def fed(batches: Iterable[List[Operation]]) -> Dict[bytes, bytes]:
-    """What one store holds that was fed the batches."""
+    """Returns the contents of one store that has got the batches."""
     with Store(Operator.APPEND, OPTIONS) as store:
         for operations in batches:
             feed(store, operations)
@@ -47,7 +47,7 @@ def feed(store: Store, operations: List[Operation]) -> None:
 
 
 class Beside:
-    """A sharded store beside one store. Both are empty at first."""
+    """A sharded store and one store to compare it with. Both are empty at first."""
 
     def __init__(self, sharded: ShardedStore, draws: random.Random) -> None:
         self.sharded, self.draws = sharded, draws
@@ -55,7 +55,7 @@ class Beside:
         self.snapshots: List[Tuple[ShardedSnapshot, int]] = []
 
     def write(self) -> int:
-        """Writes a batch to both, and returns how many writes it has."""
+        """Writes a batch to both, and returns its number of writes."""
         operations = batch(self.draws)
         last = self.sharded.write(operations)
         feed(self.single, operations)
@@ -63,7 +63,7 @@ class Beside:
         return len(operations)
 
     def step(self) -> None:
-        """Takes, releases or reads a snapshot, or nothing."""
+        """Takes, releases or reads a snapshot, or does nothing."""
         steps = (self.keep, self.release, self.read, lambda: None)
         self.draws.choices(steps, (20, 15, 40, 25))[0]()
 

@@ -1,8 +1,8 @@
-"""A reader in a process of its own: it reads until its input ends, and says the numbers that it read.
+"""A reader in its own process: it reads until its input ends, and prints the numbers that it read.
 
     reader.py ADDRESS FOLDER KEYS
 
-A batch sets so many keys to one number, and the next one to the next. So all keys have the same one, and it never falls.
+A batch sets KEYS keys to a number, and the next batch to the next one. So all keys have the same number, and it never falls.
 """
 
 import sys
@@ -24,7 +24,7 @@ def main(address, folder, count):
         try:
             rows = dict(reader.snapshot().scan())
         except NotProtected:
-            # The worker of one was lost.
+            # A worker was lost.
             continue
         numbers = {*found[:-1], *(value for _, value in found[-1])}
         assert len(numbers) == 1 and len(set(rows.values())) == 1 and len(rows) == len(found[-1]) == count, (numbers, rows)

@@ -1,6 +1,6 @@
-"""A sharded store beside one store, while its workers, its writer and its scheduler are killed.
+"""Tests of a sharded store, compared with one store, while its workers, its writer and its scheduler are killed.
 
-SEED is the seed of what is drawn, WRITES how many writes each of two stores gets, and KILLS how many workers are killed.
+SEED is the seed of random operations, WRITES the number of writes to each of two stores, and KILLS the number of workers killed.
 """
 
 import json
@@ -43,13 +43,13 @@ def setUpModule():
 
 
 def end(*_):
-    """Ends the processes, if this one is ended from outside."""
+    """Ends the processes if this one is ended from outside."""
     cluster.close()
     os._exit(1)
 
 
 def limit_files(size):
-    """Sets how many bytes a file of this process may have at most, and returns what was set."""
+    """Sets the maximum size of this process's files, and returns the previous limits."""
     limits = resource.getrlimit(resource.RLIMIT_FSIZE)
     resource.setrlimit(resource.RLIMIT_FSIZE, (size, limits[1]))
     return limits
@@ -57,7 +57,7 @@ def limit_files(size):
 
 @contextmanager
 def limited_files(size):
-    """Limits the files of this process, which only the sequencer's log comes to."""
+    """Limits the size of this process's files. Only the sequencer's log reaches the limit."""
     limits = limit_files(size)
     try:
         yield
@@ -66,7 +66,7 @@ def limited_files(size):
 
 
 class OnCluster(unittest.TestCase):
-    """Tests with all workers at first."""
+    """Tests that start with all workers."""
 
     direct = True
 
@@ -247,7 +247,7 @@ class Calls(OnCluster):
 
     @contextmanager
     def with_library(self, path):
-        """Has workers without the library."""
+        """Starts workers without the library."""
         with mock.patch.dict(os.environ, {"UCSTORE_LIBRARY": path}):
             cluster.fill()
         cluster.wait(self.client)
@@ -373,14 +373,14 @@ class Killed(OnCluster):
             with self.open() as store:
                 self.assertGreaterEqual(store.last, acknowledged)
                 written = list(takewhile(lambda found: found[1] <= store.last, writer.batches(seed)))
-                # At most the batch that was under way is there too.
+                # At most the batch in progress is there too.
                 self.assertLessEqual(len([last for _, last in written if last > acknowledged]), 1)
                 self.assertEqual(written[-1][1] if written else 0, store.last)
                 self.assertEqual(self.rows(store), drawn.fed(operations for operations, _ in written))
                 there = store.last
 
     def run_writer(self, seed, there):
-        """Kills a writer some time after its first batch. Returns the last sequence that it said was acknowledged."""
+        """Kills a writer some time after its first batch. Returns the last sequence number that it printed as acknowledged."""
         command = [sys.executable, writer.__file__, cluster.address, str(self.folder), str(seed)]
         with subprocess.Popen(command, stdout=subprocess.PIPE) as process:
             said = [process.stdout.readline()]
@@ -449,7 +449,7 @@ class Writers(OnCluster):
         old._claim.release()
         old.write([Put(b"a", b"1")])
         snapshot = old.snapshot()
-        # A scheduler that is started again knows nothing of the first writer, nor do its workers.
+        # A restarted scheduler knows nothing of the first writer, nor do its workers.
         cluster.kill_scheduler()
         cluster.kill_workers()
         cluster.start()

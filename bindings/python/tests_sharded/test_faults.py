@@ -1,4 +1,4 @@
-"""A sharded store whose workers are stopped, whose disk is full, whose folder may only be read, and whose files are damaged."""
+"""Tests of a sharded store with stopped workers, a full disk, a read-only directory, and damaged files."""
 
 import contextlib
 import json
@@ -24,12 +24,12 @@ def setUpModule():
 
 
 def puts(number, count=40, size=20):
-    """A batch that sets as many keys to a number."""
+    """Returns a batch that sets `count` keys to a number."""
     return [Put(b"k%03d" % key, b"%d" % number * size) for key in range(count)]
 
 
 class WithBases(OnCluster):
-    """Stores whose logs are cut often."""
+    """Tests of stores whose logs are cut often."""
 
     def create(self, **options):
         store = ShardedStore.create(
@@ -46,7 +46,7 @@ class WithBases(OnCluster):
         return {str(path.relative_to(self.folder)): path.read_bytes() for path in self.folder.rglob("*") if path.is_file()}
 
     def shards(self):
-        """The files of the shards."""
+        """Returns the files of the shards."""
         return {name: text for name, text in self.files().items() if name.startswith("shard-")}
 
 
@@ -66,7 +66,7 @@ class Cut(WithBases):
         beside.write()
         beside.write()
         beside.sharded.close()
-        # A batch has some 17 bytes a write.
+        # A batch has some 17 bytes per write.
         self.assertGreater(17 * beside.single.last, 2 * sum(map(len, self.shards().values())))
         self.assertTrue([name for name in self.files() if name.endswith(".base")])
         self.assertEqual(self.rows(self.open()), dict(beside.single.scan_at(b"", None, beside.single.take_snapshot())))
@@ -106,7 +106,7 @@ class Cut(WithBases):
 
 
 def peak():
-    """How many bytes of memory a worker had at most."""
+    """Returns the peak memory of a worker in bytes."""
     return resource.getrusage(resource.RUSAGE_SELF).ru_maxrss * 1024
 
 
@@ -153,7 +153,7 @@ def keys():
 
 @contextlib.contextmanager
 def small_disk(folder):
-    """A file system of two MiB of its own."""
+    """Mounts a file system of two MiB."""
     folder.mkdir()
     mounted = subprocess.run(["mount", "-t", "tmpfs", "-o", "size=2m", "tmpfs", str(folder)], capture_output=True)
     if mounted.returncode != 0:
@@ -213,7 +213,7 @@ class ReadOnly(WithBases):
 
 @contextlib.contextmanager
 def only_read(folder):
-    """Lets this process only read a folder. What the superuser may isn't bounded by modes: another user is taken then."""
+    """Makes a directory read-only for this process. Modes do not limit the superuser, so another user is taken then."""
     is_root = os.geteuid() == 0
     for path in [folder, *folder.rglob("*")]:
         path.chmod(0o555 if path.is_dir() else 0o444)
@@ -236,13 +236,13 @@ class Damaged(WithBases):
         store = self.create()
         for number in range(60):
             store.write(puts(number, 60, 30))
-        # All bases that are begun are written then.
+        # Wait until all checkpoints in progress are written.
         time.sleep(0.5)
         store.close()
         files, wanted = self.files(), {put.key: put.value for put in puts(59, 60, 30)}
         self.assertGreater(sum(name.endswith(".base") for name in files), 3)
         for name, text in sorted(files.items()):
-            # Nothing is read of these, and logs that were cut are empty.
+            # These are not read, and logs that were cut are empty.
             places = self.draws.sample(range(len(text)), min(3, len(text))) if name not in ("lock", "epoch") else []
             for place in places:
                 (self.folder / name).write_bytes(text[:place] + bytes([text[place] ^ 0x10]) + text[place + 1:])

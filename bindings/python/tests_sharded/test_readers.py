@@ -1,4 +1,4 @@
-"""Readers in other processes and in tasks, snapshots that are sent, and writes as futures."""
+"""Tests of readers in other processes and in tasks, of snapshots that are sent, and of writes as futures."""
 
 import pickle
 import subprocess
@@ -25,7 +25,7 @@ def puts(number):
 
 
 def value_of(snapshot, key):
-    """What a task reads, on the one thread of its worker."""
+    """Reads in a task, on the only thread of its worker."""
     return snapshot.get(key), dict(snapshot.scan())
 
 
@@ -69,7 +69,7 @@ class Readers(OnCluster):
         with self.connect().as_current():
             sent = pickle.loads(pickle.dumps(snapshot))
             self.assertEqual(sent.sequence, KEYS)
-            # The writer opens what is lost again, though it isn't called.
+            # The writer reopens lost shards even when it is not called.
             test_cluster.cluster.kill_workers()
             test_cluster.cluster.fill()
             test_cluster.cluster.wait(self.client)
@@ -199,7 +199,7 @@ class Submitted(OnCluster):
         self.assertTrue(begun.wait(10))
         second = store.submit(puts(3))
         self.assertFalse(first.done())
-        # Reads go on meanwhile.
+        # Reads continue.
         self.assertEqual(store.get(b"k001"), b"1")
         with self.assertRaisesRegex(ShardTimeout, "the batch before hasn't answered"):
             store.submit(puts(4), timeout=0.2)

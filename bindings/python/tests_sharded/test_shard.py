@@ -1,4 +1,4 @@
-"""A shard, the sequencer's log and the manifest, without Dask."""
+"""Tests of a shard, the sequencer's log and the manifest, without Dask."""
 
 import errno
 import importlib.metadata
@@ -30,7 +30,7 @@ from ucstore.sharded import AnotherWriter, BadManifest, LogDamaged, OlderFormat,
 
 
 def part(*operations):
-    """Operations as they are sent."""
+    """Returns operations as they are sent."""
     return dumps([packed(list(operations))])
 
 
@@ -42,13 +42,13 @@ def new_epoch(folder):
 
 
 def make(manifest, folder):
-    """Makes the files of an empty store, which no writer has then."""
+    """Creates the files of an empty store, without a writer."""
     with manifest.created(folder) as claim:
         claim.release()
 
 
 def flips(text):
-    """The text with each of its bits flipped in turn, and the place of the bit's byte."""
+    """Yields the bytes with each of their bits flipped in turn, and the offset of the bit's byte."""
     for place in range(len(text)):
         for bit in range(8):
             yield place, text[:place] + bytes([text[place] ^ 1 << bit]) + text[place + 1:]
@@ -56,7 +56,7 @@ def flips(text):
 
 @contextmanager
 def files_of_at_most(size):
-    """Lets no file of this process grow above so many bytes, as if its device were full."""
+    """Limits the size of this process's files, as if its device were full."""
     soft, hard = resource.getrlimit(resource.RLIMIT_FSIZE)
     handler = signal.signal(signal.SIGXFSZ, signal.SIG_IGN)
     resource.setrlimit(resource.RLIMIT_FSIZE, (size, hard))
@@ -68,14 +68,14 @@ def files_of_at_most(size):
 
 
 def can_build():
-    """Whether there is a setuptools that reads pyproject.toml."""
+    """True if there is a setuptools that reads pyproject.toml."""
     with suppress(importlib.metadata.PackageNotFoundError):
         return int(importlib.metadata.version("setuptools").partition(".")[0]) >= 61
     return False
 
 
 class Folder(unittest.TestCase):
-    """Tests in an empty folder."""
+    """Tests in an empty directory."""
 
     def setUp(self):
         self.folder = Path(tempfile.mkdtemp())
@@ -184,7 +184,7 @@ class Manifests(Folder):
         manifest, outer = Manifest(2, None, Operator.APPEND, Options()), self.folder / "outer"
         with self.assertRaises(KeyboardInterrupt), manifest.created(outer / "inner"):
             self.assertEqual(Manifest.read(outer / "inner"), manifest)
-            # What a worker makes of a shard goes too.
+            # Files that a worker creates for a shard are removed too.
             Db(outer / "inner" / "shard-1").close()
             raise KeyboardInterrupt
         self.assertFalse(outer.exists())
@@ -194,7 +194,7 @@ class Manifests(Folder):
         with self.assertRaises(OSError), mock.patch("fcntl.flock", side_effect=OSError(errno.ENOLCK, "no locks")):
             make(manifest, outer)
         self.assertFalse(outer.exists())
-        # A folder that was there stays, and so do files that others made.
+        # A directory that existed stays, and so do files that others created.
         with self.assertRaises(KeyError), manifest.created(self.folder):
             raise KeyError
         self.assertEqual(list(self.folder.iterdir()), [])
@@ -212,7 +212,7 @@ class Manifests(Folder):
 
     def test_a_key_has_its_place(self):
         by_hash = Manifest(4, None, Operator.APPEND, Options())
-        # The check value of CRC-32 is that of these digits, 0xCBF43926.
+        # The check value of CRC-32 is the CRC of these digits, 0xCBF43926.
         self.assertEqual(by_hash.owner(b"123456789"), 0xCBF43926 % 4)
         self.assertEqual(list(by_hash.touched(b"a", None)), [0, 1, 2, 3])
         by_splits = Manifest(4, (b"c", b"f", b"k"), Operator.APPEND, Options())
@@ -258,11 +258,11 @@ class Sequencers(Folder):
     def test_a_record_without_some_of_its_sectors_is_torn(self):
         records = [_record([number, *range(1, 101)]) for number in (7, 8)]
         text = b"".join(records)
-        # The second record has bytes of three sectors: a crash may leave zeros for any of them.
+        # The second record spans three sectors: a crash may leave zeros for any of them.
         for first, end in ((812, 1024), (1024, 1536), (1536, 1624)):
             self.path.write_bytes(text[:first] + bytes(end - first) + text[end:])
             self.assertEqual(last_numbers(self.path, 101)[0], 7)
-        # Other bytes than zeros are damage, and so is a sector of a record that isn't the last one.
+        # Other bytes than zeros are damage, and so is a zero sector of a record that is not the last one.
         for damaged in (text[:1100] + b"\xff" + text[1101:], bytes(512) + text[512:]):
             self.path.write_bytes(damaged)
             with self.assertRaisesRegex(LogDamaged, "sequencer.log is damaged at byte"):
@@ -279,7 +279,7 @@ class Sequencers(Folder):
             self.path.write_bytes(text[:len(text) - cut])
             found = self.opened()
             self.assertEqual((found.last, found.reached), (5, [0, 70]) if cut else (9, [40, 70]))
-        # A file may have got its length, but not what is in it.
+        # A crash may leave the length of a file without its contents.
         self.path.write_bytes(text[:-size] + bytes(size))
         self.assertEqual(self.opened().last, 5)
         for place, damaged in flips(text):
@@ -303,7 +303,7 @@ class Sequencers(Folder):
                 with files_of_at_most(size + room), self.assertRaises(OSError):
                     sequencer.append(9, {0: 40})
                 self.assertEqual((sequencer.last, sequencer.reached), (5, [0, 70]))
-                # There is room again, but nothing is written at the end.
+                # There is space again, but nothing is written at the end.
                 sequencer.close()
                 self.assertEqual(self.path.stat().st_size, size + room)
                 sequencer = self.opened()
@@ -328,7 +328,7 @@ class Sequencers(Folder):
                 self.assertEqual(list(last_numbers(self.path, 3)), [last, *sequencer.reached])
             self.epoch = new_epoch(self.folder)
             new = self.opened()
-            # A writer that was thought dead begins no file over the newer one's.
+            # A writer that was thought dead must not replace the newer one's file.
             for last in range(100, 120):
                 with self.assertRaises((AnotherWriter, ValueError)):
                     sequencer.append(last, {})
@@ -378,7 +378,7 @@ class Sequencers(Folder):
 
 
 class Claims(Folder):
-    """A program that is another writer says that it has the folder, and waits to be killed."""
+    """Another writer's program prints that it has the directory, and waits to be killed."""
 
     other = """
 import sys, time
@@ -432,7 +432,7 @@ time.sleep(100)
         os.waitpid(child, 0)
 
     def test_the_lock_of_a_file_that_was_removed_is_none(self):
-        """The store's creator fails, and removes its files, while another waits for the lock."""
+        """The store's creator fails, and removes its files, while another process waits for the lock."""
         lock = self.store / "lock"
 
         def replaced(*_):
@@ -467,7 +467,7 @@ class Shards(Folder):
         return Shard.start(Writer(self.folder, manifest, self.epoch, True, 0.1, least), 3, place, last, keeps)
 
     def rows(self, shard, at):
-        """What a shard held at a place."""
+        """Returns the state of a shard at a place."""
         return list(shard._view_at(at).items())
 
     def value(self, shard, key):
@@ -529,7 +529,7 @@ class Shards(Folder):
             shard.apply(last, 2, part(Put(b"a", b"2")))
         shard = self.opened(last)
         self.assertEqual(self.value(shard, b"a"), b"1")
-        # What it had written of the batch was cut off.
+        # The part of the batch that it had written was cut off.
         self.assertEqual(self.log.stat().st_size, size)
         self.assertEqual(shard.apply(last, 2, part(Put(b"a", b"3"))), 2)
         del shard
@@ -548,7 +548,7 @@ class Shards(Folder):
             with self.subTest(place=place), self.assertRaisesRegex(LogDamaged, lost):
                 self.opened(place, last=last)
             self.assertEqual(self.log.read_bytes(), log)
-        # One batch may be under way when a writer ends.
+        # One batch may be in progress when a writer ends.
         self.assertEqual(self.value(self.opened(second, last=8), b"a"), b"3")
         self.log.write_bytes(log[:-1])
         self.assertEqual(self.value(self.opened(first, last=4), b"a"), b"1")
@@ -583,7 +583,7 @@ class Shards(Folder):
                 raise answer.error.with_traceback(None)
             answer = shard.call(*call)
         self.assertEqual(self.value(shard, b"a"), b"1")
-        # The error is kept, but neither the shard nor its database's lock.
+        # The error is kept, but neither the shard nor the lock of its database.
         del shard
         self.assertIsNone(answer.error.__traceback__)
         self.opened(at)
@@ -654,7 +654,7 @@ class Shards(Folder):
 
 
 class Cuts(Folder):
-    """A shard's logs that are cut: its bases."""
+    """Tests of cutting a shard's logs by checkpoints."""
 
     def setUp(self):
         super().setUp()
@@ -667,7 +667,7 @@ class Cuts(Folder):
         return Shard.start(writer, 0, self.place, self.first - 1, keeps)
 
     def put(self, shard, count, size=90):
-        """Writes so many batches over ten keys, and waits until no base is being written."""
+        """Writes a number of batches over ten keys, and waits until no checkpoint is being written."""
         for _ in range(count):
             key, value = b"k%d" % (self.first % 10), b"%d" % self.first * (size // 4)
             self.place = shard.apply(self.place, self.first, part(Put(key, value)))
@@ -684,7 +684,7 @@ class Cuts(Folder):
         return {path.name: path.read_bytes() for path in self.path.iterdir() if path.name != "LOCK"}
 
     def base(self):
-        """The last sequence of the newest base: 0 if there is none."""
+        """Returns the last sequence number of the newest checkpoint: 0 if there is none."""
         return max((int(name[7:-5]) for name in self.files() if name.endswith(".base")), default=0)
 
     def restore(self, files):
@@ -712,7 +712,7 @@ class Cuts(Folder):
         del shard
         self.assertEqual(self.rows(self.opened()), self.wanted)
 
-    # How much data counts depends on compactions, and so on how fast they come.
+    # The measured size of the data depends on compactions, and so on their speed.
     @mock.patch("ucstore._shard_part.RATIO", 0)
     def test_a_base_has_the_rows_of_the_oldest_snapshot(self):
         shard = self.opened()
@@ -765,7 +765,7 @@ class Cuts(Folder):
                 self.restore({**files, name: text[:size]})
                 with self.subTest(name=name, size=size), self.assertRaisesRegex(LogDamaged, f"shard 0: {self.path}/{name} "):
                     self.opened()
-            # One without the operator's name gets it: it has no data.
+            # A directory without an operator file gets one: it has no data.
             if name != "OPERATOR":
                 self.restore({other: files[other] for other in files if other != name})
                 with self.subTest(name=name), self.assertRaises(ShardedError):
@@ -774,7 +774,7 @@ class Cuts(Folder):
     def test_a_full_device_writes_no_base_and_loses_nothing(self):
         shard = self.opened()
 
-        # A new error each time: one that is kept keeps the shard.
+        # A new error each time: a kept error keeps the shard.
         def refuse(*_):
             raise FileFault("no space")
 

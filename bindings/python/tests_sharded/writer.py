@@ -1,4 +1,4 @@
-"""A writer that is killed at some time: it goes on with drawn batches, and says of each when it was acknowledged.
+"""A writer that is killed at some time: it writes random batches, and prints each once it is acknowledged.
 
     writer.py ADDRESS FOLDER SEED
 """
@@ -13,7 +13,7 @@ from ucstore.sharded import ShardedStore
 
 
 def batches(seed):
-    """The batches, and the last sequence of each."""
+    """Yields the batches, with the last sequence number of each."""
     draws, last = random.Random(seed), 0
     while True:
         operations = drawn.batch(draws)
