@@ -1,9 +1,9 @@
-/* Eight threads that count until they are ended, by signal 9 too, and say each number once it is acknowledged:
+/* Counts in eight threads until it is killed, and prints each number once it is acknowledged:
  *
  *     db_count FOLDER          counts
- *     db_count FOLDER read     prints what each thread has counted
+ *     db_count FOLDER read     prints the last number of each thread
  *
- * Each counts under two keys at once, which have the same number at each moment. */
+ * Each thread writes the same number under two keys at once, so both always have the same number. */
 #include <pthread.h>
 #include <stdio.h>
 #include <stdlib.h>
@@ -21,7 +21,7 @@ static void check(int32_t status) {
     }
 }
 
-/* What a thread has counted under both of its keys. */
+/* Returns the number that a thread has written under both of its keys. */
 static uint64_t counted(unsigned thread) {
     const uint64_t lengths[2] = {2, 2};
     uint64_t found[2], values[2] = {0, 0};

@@ -1,4 +1,4 @@
-/* Counts visits in a folder, and reads how many there were before. */
+/* Counts visits in a directory, and prints the number before and after. */
 #include <stdio.h>
 #include <ucstore_db.h>
 

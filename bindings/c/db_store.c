@@ -1,8 +1,8 @@
-/* The functions of `ucstore.h` that play.c calls, over a database in a folder: so it plays the cases over that. Each store is a
- * folder of its own below the one that the variable FOLDER names. It is linked in the place of the library.
+/* The functions of `ucstore.h` that play.c calls, implemented by a database in a directory, so that play.c plays its cases over a
+ * database. Each store has its own directory below the one in the environment variable FOLDER. Linked in place of the library.
  *
- * A batch that is given as bytes is taken apart, and one that is prepared waits here. Sequences are the database's own, so
- * that a file with `sequence` in a batch can't be played, and neither can reports. */
+ * A batch given as bytes is decoded, and a prepared batch is kept here. Sequence numbers are the database's own, so files with
+ * `sequence` in a batch cannot be played, and neither can reports. */
 #include <stdio.h>
 #include <stdlib.h>
 #include <string.h>
@@ -11,17 +11,17 @@
 
 enum { NAMES = 16, FOLDER = 4096, HEADER = 12 };
 
-/* The kinds of writes are the tags of RocksDB's batches (`dbformat.h`). */
+/* Kinds of writes: the tags of RocksDB's batches (`dbformat.h`). */
 enum kind { DELETE = 0, PUT = 1, MERGE = 2, DELETE_RANGE = 15 };
 
-/* The database, and the batch that is prepared. */
+/* The database, and the prepared batch. */
 static struct ucstore_db *db;
 static struct ucstore_db_batch *prepared;
 static struct ucstore_db_options kept;
 static char folder[FOLDER];
 static unsigned stores;
 
-/* The snapshots, in the order in which they were taken. */
+/* Snapshots, in the order in which they were taken. */
 static struct {
     struct ucstore_db_snapshot *snapshot;
     uint64_t sequence;
@@ -35,7 +35,7 @@ static void expect(int32_t status) {
     }
 }
 
-/* Statuses below 64 are the store's. */
+/* Statuses below 64 are those of the store. */
 static int32_t answered(int32_t status) {
     if (status >= UCSTORE_DB_FILE) {
         expect(status);
@@ -56,7 +56,7 @@ int32_t ucstore_options_init(struct ucstore_options *options) {
     return UCSTORE_OK;
 }
 
-/* Options of the same names. A store that compacts itself has threads for that. */
+/* Converts options to those of the same names. A store that compacts automatically gets threads for it. */
 static void keep_options(uint32_t merge_operator, const struct ucstore_options *options) {
     kept.merge_operator = merge_operator;
     kept.sync = UCSTORE_DB_SYNC_NEVER;
@@ -83,7 +83,7 @@ int32_t ucstore_create(struct ucstore *store, uint32_t merge_operator, const str
     return open_folder(store);
 }
 
-/* What the log has is in the folder. */
+/* The directory has the contents of the log. */
 int32_t ucstore_open(struct ucstore *store, uint32_t merge_operator, const struct ucstore_options *options, const uint8_t *log,
                      size_t log_length, struct ucstore_ended *ended) {
     (void)log, (void)log_length;
@@ -112,7 +112,7 @@ int32_t ucstore_close(struct ucstore *store) {
 
 /* Writes. */
 
-/* The text at a place, behind its length: seven bits to a byte, the low ones first. */
+/* Returns the byte string at an offset, after its length as a varint: seven bits per byte, the low ones first. */
 static const uint8_t *read_text(const uint8_t *at, const uint8_t **text, size_t *length) {
     size_t read = *at & 0x7f;
     for (int bits = 7; *at++ & 0x80; bits += 7) {
@@ -123,7 +123,7 @@ static const uint8_t *read_text(const uint8_t *at, const uint8_t **text, size_t 
     return at + read;
 }
 
-/* Adds the operation that stands at a place to a batch, and returns the place behind it. */
+/* Adds the operation at an offset to a batch, and returns the offset after it. */
 static const uint8_t *add_operation(struct ucstore_db_batch *batch, const uint8_t *at) {
     const uint8_t *first, *second = NULL;
     size_t first_length, second_length = 0;
@@ -213,7 +213,7 @@ int32_t ucstore_snapshot(struct ucstore *store, uint64_t *seq) {
     return UCSTORE_OK;
 }
 
-/* The place of a snapshot at a sequence, or after the last one. */
+/* Returns the index of the snapshot at a sequence number, or the number of snapshots. */
 static size_t place_of(uint64_t seq) {
     size_t place = 0;
     while (place < snapshot_count && snapshots[place].sequence != seq) {
@@ -233,7 +233,7 @@ int32_t ucstore_release(struct ucstore *store, uint64_t seq) {
     return UCSTORE_OK;
 }
 
-/* Those of one sequence stand side by side, since sequences rise. */
+/* Snapshots of one sequence number are adjacent, since sequence numbers only increase. */
 int32_t ucstore_snapshots(struct ucstore *store, uint64_t *room, size_t room_length, size_t *count) {
     (void)store;
     *count = 0;
@@ -266,7 +266,7 @@ int32_t ucstore_get_at(struct ucstore *store, const uint8_t *key, size_t key_len
                : answered(ucstore_db_snapshot_get(snapshots[place].snapshot, key, key_length, room, room_length, size));
 }
 
-/* Copies a text behind its length, and returns the place behind it. */
+/* Copies a byte string after its length, and returns the offset after it. */
 static uint8_t *put_text(uint8_t *at, const char *text, size_t length) {
     for (int place = 0; place < 8; place++) {
         *at++ = (uint8_t)((uint64_t)length >> (8 * place));
@@ -275,7 +275,7 @@ static uint8_t *put_text(uint8_t *at, const char *text, size_t length) {
     return at + length;
 }
 
-/* Copies rows of a cursor as `ucstore_scan` lays them out, and closes it. */
+/* Copies the rows of a cursor in the format of `ucstore_scan`, and closes the cursor. */
 static int32_t put_rows(struct ucstore_db_cursor *cursor, uint64_t limit, uint8_t *room, size_t room_length, size_t *size,
                         uint64_t *rows) {
     uint8_t *at = room;

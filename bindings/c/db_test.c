@@ -1,8 +1,8 @@
-/* Tries the database of `ucstore_db.h`: what each function answers, and what it refuses.
+/* Tests the results and the errors of each function of `ucstore_db.h`.
  *
  *     db_test FOLDER
  *
- * FOLDER is there, and empty. It prints a line if all is as it has to be. */
+ * FOLDER must be an empty directory. Prints a line if all tests pass. */
 #define _XOPEN_SOURCE 700
 
 #include <pthread.h>
@@ -29,7 +29,7 @@ enum { PATH = 4096, KINDS = 5 };
 static const char *top;
 static const uint8_t one[8] = {1};
 
-/* The path of a file or folder below the top. */
+/* Returns the path of a file or directory below FOLDER. */
 static const char *below(const char *name) {
     static char path[PATH];
     snprintf(path, sizeof path, "%s/%s", top, name);
@@ -59,12 +59,12 @@ static void put(struct ucstore_db *db, const char *key, const char *value) {
     OK(ucstore_db_put(db, key, strlen(key), value, strlen(value)));
 }
 
-/* Whether a call was refused with a status, and said a text. */
+/* Returns true if a call failed with a status, and its message contains a string. */
 static bool is_refused(int32_t status, int32_t wanted, const char *text) {
     return status == wanted && strstr(ucstore_db_error_text(), text) != NULL;
 }
 
-/* Whether a key has a value. */
+/* Returns true if a key has this value. */
 static bool has(struct ucstore_db *db, const char *key, const char *value) {
     char room[64];
     size_t size = 0;
@@ -80,7 +80,7 @@ static void try_versions(void) {
     CHECK(options.write_buffer_size == 4 << 20 && options.checkpoint_least == 64 << 20 && options.event == NULL);
 }
 
-/* A program of another header has a smaller or a larger struct of options. */
+/* A program compiled with another header has a smaller or a larger struct of options. */
 static void try_sizes_of_options(void) {
     struct {
         struct ucstore_db_options options;
@@ -92,7 +92,7 @@ static void try_sizes_of_options(void) {
     OK(ucstore_db_options_init(&program.options, first));
     CHECK(program.options.size == first && program.options.compactors == 2);
     CHECK(program.options.recover_to == 0x6d6d6d6d6d6d6d6d && program.options.marks_count == 0x6d6d6d6d6d6d6d6d);
-    /* What is beyond its size isn't read. */
+    /* Bytes past its size are not read. */
     OK(ucstore_db_in_memory(&program.options, &db));
     put(db, "a", "1");
     OK(ucstore_db_close(db));
@@ -100,7 +100,7 @@ static void try_sizes_of_options(void) {
     CHECK(program.options.size == larger && program.later[0] == 0 && program.later[1] == 0x6d6d6d6d6d6d6d6d);
     OK(ucstore_db_in_memory(&program.options, &db));
     OK(ucstore_db_close(db));
-    /* The library doesn't know the option that is set. */
+    /* The library does not know the option that is set. */
     program.later[0] = 1;
     CHECK(is_refused(ucstore_db_in_memory(&program.options, &db), UCSTORE_DB_BAD_SIZE, "size"));
     CHECK(is_refused(ucstore_db_options_init(&program.options, first - 1), UCSTORE_DB_BAD_SIZE, "size"));
@@ -189,12 +189,12 @@ static void try_lookups(struct ucstore_db *db) {
     CHECK(size == 0);
 }
 
-/* Whether an estimate is near to 640: each look-up that was asked counts for 64. */
+/* Returns true if an estimate is near 640: each sampled lookup counts for 64. */
 static bool is_near(uint64_t estimate) {
     return estimate >= 640 - 3 * 64 && estimate <= 640 + 3 * 64;
 }
 
-/* Looks up keys in a run, in the memtable and nowhere. */
+/* Looks up keys that are in a run, in the memtable and nowhere. */
 static void try_sources(void) {
     struct ucstore_db *db = open_texts("sources");
     struct ucstore_db_stats stats;
@@ -235,7 +235,7 @@ static void try_batches(struct ucstore_db *db) {
     OK(ucstore_db_sync(db));
 }
 
-/* Whether a cursor stands at a row. */
+/* Returns true if a cursor is positioned at this row. */
 static bool is_at(const struct ucstore_db_cursor *cursor, const char *key, const char *value) {
     size_t key_length = 0, value_length = 0;
     const char *found = ucstore_db_cursor_key(cursor, &key_length), *under = ucstore_db_cursor_value(cursor, &value_length);
@@ -312,7 +312,7 @@ static void try_snapshots(struct ucstore_db *db) {
     OK(ucstore_db_cursor_close(cursor));
     OK(ucstore_db_snapshot_prefix(again, "c", 1, &cursor));
     OK(ucstore_db_snapshot_close(again));
-    /* What is read outlives the database. */
+    /* Snapshots and cursors outlive the database. */
     OK(ucstore_db_close(db));
     CHECK(is_at(cursor, "c", "4"));
     OK(ucstore_db_cursor_seek(cursor, "c", 1));
@@ -320,7 +320,7 @@ static void try_snapshots(struct ucstore_db *db) {
     OK(ucstore_db_cursor_close(cursor));
 }
 
-/* How often each kind of event was told, and whether a text said this. */
+/* The events and the progress that callbacks have reported, and the last text. */
 struct told {
     pthread_mutex_t lock;
     struct ucstore_db *db;
@@ -330,7 +330,7 @@ struct told {
     char text[256];
 };
 
-/* The batch that puts a key of a byte to a value of a byte, at a sequence below 256. */
+/* Returns a batch that puts a key of one byte to a value of one byte, at a sequence number below 256. */
 static const uint8_t *batch_at(uint8_t sequence, char key, char value) {
     static uint8_t batch[17] = {0, 0, 0, 0, 0, 0, 0, 0, 1, 0, 0, 0, 1, 1, 0, 1, 0};
     batch[0] = sequence;
@@ -339,7 +339,7 @@ static const uint8_t *batch_at(uint8_t sequence, char key, char value) {
     return batch;
 }
 
-/* A database is recovered to a sequence, with snapshots at marks after a base of one of them. */
+/* Recovers a database to a sequence number, with snapshots at marks, after a checkpoint at one of them. */
 static void try_recovery(void) {
     static const uint64_t marks[] = {20, 7};
     struct ucstore_db_options options;
@@ -397,7 +397,7 @@ static void hear_event(void *context, const struct ucstore_db_event *event) {
     told->status = event->status;
     snprintf(told->text, sizeof told->text, "%s", event->text);
     CHECK(pthread_mutex_unlock(&told->lock) == 0);
-    /* A function that is told may call the database. */
+    /* A callback may call the database. */
     CHECK(told->db == NULL || ucstore_db_stats(told->db, &stats) == UCSTORE_DB_OK);
 }
 
@@ -409,7 +409,7 @@ static void hear_progress(void *context, const struct ucstore_db_progress *progr
     told->whole = progress->whole;
 }
 
-/* The database's own threads call functions that call it until it is closed. */
+/* Background threads make callbacks that call the database until it is closed. */
 static void try_events_of_a_close(struct told *told, const struct ucstore_db_options *usual) {
     struct ucstore_db_options options = *usual;
     char key[16];
@@ -469,7 +469,7 @@ static void try_events(void) {
     CHECK(pthread_mutex_destroy(&told.lock) == 0);
 }
 
-/* Turns a byte of a file around. */
+/* Inverts a byte of a file. */
 static void damage(const char *name, long place) {
     FILE *file = fopen(below(name), "r+b");
     int byte;
@@ -485,7 +485,7 @@ static void try_damage(void) {
     put(db, "b", "2");
     put(db, "c", "3");
     OK(ucstore_db_close(db));
-    /* Each record has a header of 7 bytes, a batch's of 12, a mark of 4, and a put of 5: this is in the second one. */
+    /* A record has a header of 7 bytes, a batch header of 12, a mark of 4 and a put of 5: this offset is in the second record. */
     damage("damage/000001.log", 34);
     db = NULL;
     OK(ucstore_db_options_init(&options, sizeof options));
@@ -499,7 +499,7 @@ static void try_damage(void) {
     OK(ucstore_db_close(db));
 }
 
-/* A write that finds no space is refused, and what was acknowledged stays. One that finds some is taken. */
+/* A write that does not fit fails, and acknowledged writes stay. A write that fits succeeds. */
 static void try_full_device(void) {
     static char value[3000];
     static struct told told;
@@ -533,7 +533,7 @@ static void try_full_device(void) {
     OK(ucstore_db_close(db));
 }
 
-/* What was ended refuses writes, and is read as before. Its folder may be opened again. */
+/* A database that was shut down rejects writes, and can still be read. Its directory can be opened again. */
 static void try_end(void) {
     struct ucstore_db *db = open_texts("ended"), *again;
     put(db, "a", "1");
@@ -561,7 +561,7 @@ static void try_memory(void) {
     OK(ucstore_db_close(db));
 }
 
-/* What a forked child is told. */
+/* Checks the statuses in a forked child. */
 static bool is_forked(struct ucstore_db *db, struct ucstore_db_cursor *cursor) {
     size_t size = 0;
     return is_refused(ucstore_db_put(db, "k", 1, "v", 1), UCSTORE_DB_FORKED, "forked") &&
@@ -581,7 +581,7 @@ static void try_fork(void) {
     child = fork();
     if (child == 0) {
         byte = is_forked(db, cursor) ? 'y' : 'n';
-        /* It stays until the parent has opened the folder again. */
+        /* The child stays until the parent has opened the directory again. */
         close(question[1]);
         _exit(write(answer[1], &byte, 1) == 1 && read(question[0], &byte, 1) == 0 ? 0 : 1);
     }

@@ -1,8 +1,8 @@
-/* Eight threads that share a database. Each batch counts a key and the whole, so that the whole is the sum at each moment:
+/* Eight threads share a database. Each batch counts a key and a total, so that the total is always the sum:
  *
  *     db_threads FOLDER
  *
- * They read, flush, compact and make checkpoints meanwhile. It prints a line if nothing else was ever seen. */
+ * The threads also read, flush, compact and make checkpoints. Prints a line if every read was consistent. */
 #include <pthread.h>
 #include <stdio.h>
 #include <stdlib.h>
@@ -23,7 +23,7 @@ enum { THREADS = 8, ROUNDS = 400, KEYS = 16 };
 static struct ucstore_db *db;
 static const uint8_t one[8] = {1};
 
-/* How many events came, of which threads tell. */
+/* Number of events, which several threads report. */
 static pthread_mutex_t lock = PTHREAD_MUTEX_INITIALIZER;
 static unsigned events;
 
@@ -40,7 +40,7 @@ static bool has_heard(void) {
     return has;
 }
 
-/* The database of a folder, with small memtables and checkpoints. */
+/* Opens the database in a directory, with small memtables and checkpoints. */
 static struct ucstore_db *opened(const char *folder) {
     struct ucstore_db_options options;
     struct ucstore_db *found = NULL;
@@ -56,7 +56,7 @@ static struct ucstore_db *opened(const char *folder) {
     return found;
 }
 
-/* The sum of the keys' counts in a snapshot, which is the whole's. */
+/* Returns the sum of the keys' counts in a snapshot, which must be the total. */
 static uint64_t sum_of(struct ucstore_db_snapshot *snapshot) {
     struct ucstore_db_cursor *cursor = NULL;
     uint64_t sum = 0, whole = 0, count = 0;
@@ -79,7 +79,7 @@ static uint64_t sum_of(struct ucstore_db_snapshot *snapshot) {
     return whole;
 }
 
-/* A snapshot that is there from the begin on, which all threads read. */
+/* A snapshot taken at the start, which all threads read. */
 static struct ucstore_db_snapshot *first;
 
 static void read_first(void) {
@@ -100,7 +100,7 @@ static void read_db(void) {
     CHECK(ucstore_db_get(db, "whole", 5, &found, sizeof found, &size) == UCSTORE_DB_NOT_FOUND || found >= sum);
 }
 
-/* What is said is each thread's own. */
+/* Each thread has its own error message. */
 static void check_said(unsigned number) {
     size_t size = 0;
     if (number % 2 == 0) {

@@ -1,9 +1,9 @@
-/* Counts the words of files into a folder, each file by a thread, and prints how often each came:
+/* Counts the words of files in a directory, each file in its own thread, and prints the count of each word:
  *
  *     example FOLDER FILE..
  *
- * A line's words are on the device before the next line is read, and the place behind it with them. So the program may be
- * ended at any moment, and goes on where it was: each word is counted once. */
+ * The words of a line are durable before the next line is read, together with the offset after the line. So the program may be killed
+ * at any time, and continues where it was: each word is counted once. */
 #include <pthread.h>
 #include <stdio.h>
 #include <stdlib.h>
@@ -23,7 +23,7 @@ static void ok(int32_t status) {
     check(status == UCSTORE_DB_OK, ucstore_db_error_text());
 }
 
-/* Counts the words of a file. The key of its name, after a tab that no word has, tells the place from which on. */
+/* Counts the words of a file. The key of its name after a tab, which no word contains, holds the offset to start at. */
 static void *count(void *name) {
     static const uint8_t one[8] = {1};
     char key[4096], line[4096], *rest;

@@ -1,4 +1,4 @@
-/* Counts visits, and reads how many there were before. */
+/* Counts visits, and prints the number before and after. */
 #include <stdio.h>
 #include <ucstore.h>
 
@@ -18,6 +18,6 @@ int main(void) {
     ucstore_get(&store, key, sizeof key, now, sizeof now, &size);
     ucstore_get_at(&store, key, sizeof key, before, then, sizeof then, &size);
     printf("%d visits, %d before\n", now[0], then[0]);
-    /* A handle without a store says so to each call, and to this one too. */
+    /* If the store is not open, each call fails, this one too. */
     return ucstore_close(&store) == UCSTORE_OK ? 0 : 1;
 }

@@ -1,12 +1,12 @@
-/* Gives each store of a process a number that no other one has, by which it knows its jobs. `./install` compiles it into the
- * library. Nothing proves it: the prover's language has no variable that lasts between calls. */
+/* Gives each store of a process a unique number, by which it recognizes its jobs. `./install` compiles this into the library. It is
+ * not proved: the prover's language has no static variables. */
 #include "ucstore.h"
 
 int32_t numbered_ucstore_create(struct ucstore *store, uint32_t merge_operator, const struct ucstore_options *options, uint64_t number);
 int32_t numbered_ucstore_open(struct ucstore *store, uint32_t merge_operator, const struct ucstore_options *options, const uint8_t *log,
                               size_t log_length, struct ucstore_ended *ended, uint64_t number);
 
-/* From 1 on, whichever threads ask. 2^64 stores are more than a process opens. */
+/* Starts at 1, for any number of threads. A process cannot open 2^64 stores. */
 static uint64_t next_number(void) {
     static uint64_t given;
     return __atomic_add_fetch(&given, 1, __ATOMIC_RELAXED);

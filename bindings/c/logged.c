@@ -1,8 +1,8 @@
-/* Counts words, and goes on where it was stopped:
+/* Counts words, and continues where it was stopped:
  *
  *     logged LOG < TEXT
  *
- * Each line is a batch of merges. The log's file has it before the store does. */
+ * Each line is a batch of merges. It is in the log's file before it is in the store. */
 #define _POSIX_C_SOURCE 200112L
 
 #include <stdio.h>
@@ -12,7 +12,7 @@
 #include <ucstore.h>
 #include <unistd.h>
 
-/* A line is shorter, and so is a word. */
+/* Lines and words are shorter than LINE bytes. */
 enum { LINE = 128, ROOM = 1 << 16 };
 
 static struct ucstore store;
@@ -35,7 +35,7 @@ static uint64_t number(const uint8_t *text) {
     return value;
 }
 
-/* All bytes of the log's file, which the caller frees. A file that can't be read to its end is no log. */
+/* Returns all bytes of the log's file, which the caller frees. A file that cannot be read to its end is rejected. */
 static uint8_t *read_log(size_t *log_length) {
     struct stat found;
     size_t have = 0;
@@ -54,7 +54,7 @@ static uint8_t *read_log(size_t *log_length) {
     return log;
 }
 
-/* Where the log goes on: behind its last whole batch. */
+/* Returns the offset after the last complete batch of the log. */
 static uint64_t end_of(const uint8_t *log, size_t log_length) {
     static uint8_t room[ROOM];
     struct ucstore_log_place place = {0, 0, 0};
@@ -69,7 +69,7 @@ static uint64_t end_of(const uint8_t *log, size_t log_length) {
     return place.offset;
 }
 
-/* Opens the store from the log, and cuts off what was being written when it was stopped. */
+/* Opens the store from the log, and cuts off an incomplete batch at its end. */
 static void open_store(const char *name) {
     struct ucstore_options options;
     struct ucstore_ended ended = {0, 0, 0};
@@ -86,8 +86,8 @@ static void open_store(const char *name) {
     free(log);
 }
 
-/* Writes the batch to the log's file, waits for its device, and takes it into the store. A program that goes on after a failed write has to
- * cut the record off first, since a second one gets the same sequence, and a log is read up to there. */
+/* Appends the batch to the log's file, syncs it, and commits it to the store. A program that continues after a failed write must first
+ * cut off the record: a second record would get the same sequence number, and reading the log would stop there. */
 static void write_batch(void) {
     static uint8_t record[ROOM];
     size_t size = 0;
@@ -108,7 +108,7 @@ static void count_words(char *line) {
     write_batch();
 }
 
-/* Prints the words with their counts, a page of rows at a time. */
+/* Prints the words with their counts, one page of rows at a time. */
 static void print_counts(void) {
     static uint8_t room[ROOM];
     uint8_t low[LINE + 1] = {0};
@@ -121,7 +121,7 @@ static void print_counts(void) {
         for (uint64_t place = 0; place < rows; place++) {
             size_t word_length = (size_t)number(row);
             printf("%.*s %llu\n", (int)word_length, (const char *)row + 8, (unsigned long long)number(row + 16 + word_length));
-            /* No key is between a word and the word with a zero byte behind it. */
+            /* No key is between a word and the same word with a zero byte appended. */
             memcpy(low, row + 8, word_length);
             low[word_length] = 0;
             low_length = word_length + 1;

@@ -1,4 +1,4 @@
-/* Puts a million values in a row, with no other call, and counts them. It prints how long the puts take. */
+/* Puts a million values without another call in between, and counts them. Prints the duration of the puts. */
 #include <stdio.h>
 #include <string.h>
 #include <time.h>
@@ -9,7 +9,7 @@
 
 enum { NUMBER = 8, ROW = 4 * NUMBER };
 
-/* The bytes of a number, the high one first: so keys are in the order of their numbers. */
+/* Encodes a number as big-endian bytes, so that keys sort by number. */
 static void lay_out(uint64_t number, uint8_t *text) {
     for (int place = NUMBER; place-- > 0; number >>= 8) {
         text[place] = (uint8_t)number;
@@ -28,7 +28,7 @@ static bool put_all(struct ucstore *store) {
     return true;
 }
 
-/* Whether the last key has its last value. */
+/* Returns true if the last key has its last value. */
 static bool has_last(struct ucstore *store) {
     uint8_t key[NUMBER], wanted[NUMBER], value[NUMBER] = {0};
     size_t size = 0;
@@ -38,7 +38,7 @@ static bool has_last(struct ucstore *store) {
            memcmp(value, wanted, NUMBER) == 0;
 }
 
-/* Whether there is a row for each key: a scan into no room tells how many bytes they have. */
+/* Returns true if each key has a row: a scan into an empty buffer returns their total size. */
 static bool has_all(struct ucstore *store) {
     size_t size = 0;
     uint64_t rows = 0;

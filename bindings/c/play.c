@@ -1,9 +1,9 @@
-/* Plays files of cases, whose README (bindings/cases) says what stands in them:
+/* Plays files of cases, which the README of bindings/cases describes:
  *
  *     play FILE..
  *
- * Each is played as it stands, and with a flush, with all compactions, and with a reopening behind each command. A
- * case that prints something else is printed with its place. */
+ * Each file is played unchanged, and with a flush, all compactions, or a reopening after each command. A case with other output is
+ * printed with its place. */
 #include <ctype.h>
 #include <stdarg.h>
 #include <stdio.h>
@@ -15,10 +15,10 @@
 
 enum { LINE = 256, WORDS = 12, NAMES = 16, LONG_RUN = 16, MOST_BYTES = 1 << 22 };
 
-/* The kinds of writes are the tags of RocksDB's batches (`dbformat.h`). */
+/* Kinds of writes: the tags of RocksDB's batches (`dbformat.h`). */
 enum kind { DELETE = 0, PUT = 1, MERGE = 2, DELETE_RANGE = 15 };
 
-/* What is put behind each command. */
+/* Commands added after each command. */
 enum way { NOTHING, FLUSH, COMPACTIONS, REOPENING, WAYS };
 
 struct bytes {
@@ -32,28 +32,28 @@ static uint32_t merge_operator;
 static enum way way;
 static bool is_durable, is_prepared;
 
-/* The log, a batch, and what it adds to the log if it is prepared. */
+/* The log, a batch, and the bytes that the prepared batch adds to the log. */
 static struct bytes history, batch, record;
 
-/* The words of a command, two texts that they spell, what a read finds, and what a case prints. */
+/* The words of a command, the two byte strings they encode, the result of a read, and the output of a case. */
 static char *words[WORDS];
 static int word_count;
 static struct bytes first, second, room, said;
 
-/* The snapshots by their names. */
+/* Snapshots by name. */
 static struct {
     char name[LINE];
     uint64_t sequence;
 } snapshots[NAMES];
 static size_t snapshot_count;
 
-/* What is done behind the last line of a batch. */
+/* Action at the last line of a batch. */
 static void (*end_batch)(void);
 
-/* The file that is played, and the line at which it is. */
+/* The file being played, and the current line. */
 static const char *file_name, *file_text, *line;
 
-/* The number of a line, from 1. */
+/* Returns the number of a line, from 1. */
 static unsigned number_of(const char *at) {
     unsigned number = 1;
     for (const char *place = file_text; place < at; place++) {
@@ -62,7 +62,7 @@ static unsigned number_of(const char *at) {
     return number;
 }
 
-/* Ends with a file that has no cases. */
+/* Exits with an error in a file of cases. */
 static void fault(const char *what) {
     fprintf(stderr, "%s:%u: %s\n", file_name, number_of(line), what);
     exit(2);
@@ -104,13 +104,13 @@ static void say(const char *format, ...) {
     push(&said, text, strlen(text));
 }
 
-/* Texts that are read. */
+/* Decoding of words. */
 
 static bool is_plain(unsigned byte) {
     return byte > 0 && byte < 0x80 && (isalnum((int)byte) || strchr("_/.,-", (int)byte) != NULL);
 }
 
-/* Reads what stands between quotes, and returns what is behind it. */
+/* Decodes a quoted string, and returns the rest of the word. */
 static const char *read_quoted(const char *at, struct bytes *text) {
     for (; *at != '"'; at += *at == '\\' ? 4 : 1) {
         unsigned byte = (unsigned char)*at;
@@ -122,7 +122,7 @@ static const char *read_quoted(const char *at, struct bytes *text) {
     return at + 1;
 }
 
-/* Reads a piece without its number, and returns what is behind it. */
+/* Decodes a piece without its count, and returns the rest of the word. */
 static const char *read_one(const char *at, struct bytes *text) {
     char *behind;
     if (strncmp(at, "u64:", 4) == 0) {
@@ -138,7 +138,7 @@ static const char *read_one(const char *at, struct bytes *text) {
     return at;
 }
 
-/* Reads the text that a word spells: pieces with `+` between them. */
+/* Decodes a word: pieces with `+` between them. */
 static void read_text(const char *at, struct bytes *text) {
     text->size = 0;
     do {
@@ -155,7 +155,7 @@ static void read_text(const char *at, struct bytes *text) {
     }
 }
 
-/* Texts that are printed. */
+/* Encoding of words. */
 
 static void say_piece(const uint8_t *text, size_t length) {
     size_t plain = 0;
@@ -174,7 +174,7 @@ static void say_piece(const uint8_t *text, size_t length) {
     push_byte(&said, '"');
 }
 
-/* How often the first byte of a text comes. */
+/* Returns the number of repetitions of the first byte. */
 static size_t run_of(const uint8_t *text, size_t length) {
     size_t count = 0;
     while (count < length && text[count] == text[0]) {
@@ -183,7 +183,7 @@ static size_t run_of(const uint8_t *text, size_t length) {
     return count;
 }
 
-/* Says a text as the word that spells it. A byte that comes often is a piece with its number. */
+/* Prints a byte string as a word. A byte that is repeated often is a piece with a count. */
 static void say_text(const uint8_t *text, size_t length) {
     size_t size = run_of(text, length);
     if (size >= LONG_RUN) {
@@ -201,7 +201,7 @@ static void say_text(const uint8_t *text, size_t length) {
     }
 }
 
-/* Says a value. One that may be a counter's is a number. */
+/* Prints a value. A value that may be a counter's is a number. */
 static void say_value(const uint8_t *value, size_t length) {
     if (merge_operator == UCSTORE_COUNTER && length == 8) {
         say("u64:%llu", (unsigned long long)number_at(value));
@@ -211,9 +211,9 @@ static void say_value(const uint8_t *value, size_t length) {
     push_byte(&said, '\n');
 }
 
-/* What a command says. */
+/* Output of a command. */
 
-/* Whether a call did what it was asked. Else it says the status' name. */
+/* Returns true if a call succeeded, and prints the name of its status otherwise. */
 static bool is_done(int32_t status) {
     static const char *const names[] = {
         "ok", "out of memory", "no store", "has store", "not found", "not protected", "unknown operator",
@@ -226,7 +226,7 @@ static bool is_done(int32_t status) {
     return status == UCSTORE_OK;
 }
 
-/* The place of a word, or behind the last one. */
+/* Returns the index of a word, or the number of words. */
 static int place_of(const char *word) {
     int place = 1;
     while (place < word_count && strcmp(words[place], word) != 0) {
@@ -235,13 +235,13 @@ static int place_of(const char *word) {
     return place;
 }
 
-/* The number behind a word, or another one if the word isn't there. */
+/* Returns the number that follows a word, or a default if the word is missing. */
 static uint64_t number_behind(const char *word, uint64_t otherwise) {
     int place = place_of(word) + 1;
     return place < word_count ? strtoull(words[place], NULL, 10) : otherwise;
 }
 
-/* The sequence of a snapshot's name. A number is one itself. */
+/* Returns the sequence number of a snapshot's name, or of a number. */
 static uint64_t sequence_of(const char *name) {
     for (size_t place = 0; place < snapshot_count; place++) {
         if (strcmp(snapshots[place].name, name) == 0) {
@@ -254,7 +254,7 @@ static uint64_t sequence_of(const char *name) {
     return strtoull(name, NULL, 10);
 }
 
-/* Whether a read is at a snapshot, and at which sequence. */
+/* Returns true if a read is at a snapshot, and stores its sequence number. */
 static bool is_at(uint64_t *sequence) {
     int place = place_of("at") + 1;
     if (place < word_count) {
@@ -346,7 +346,7 @@ static void give_up(void) {
     is_done(ucstore_give_up(&store));
 }
 
-/* Writes the batch. That of a durable store stands in its log. */
+/* Writes the batch. If the store is durable, it is also in the log. */
 static void write_batch(void) {
     is_prepared = false;
     if (!is_durable) {
@@ -359,7 +359,7 @@ static void write_batch(void) {
     }
 }
 
-/* Writes bytes that are no batch. */
+/* Writes bytes that are not a batch. */
 static void write_raw(void) {
     is_prepared = false;
     read_text(words[1], &first);
@@ -372,7 +372,7 @@ static void begin_batch(uint64_t sequence) {
     push_number(&batch, 0, 4);
 }
 
-/* A text behind its length: seven bits to a byte, the low ones first. */
+/* Appends a byte string after its length as a varint: seven bits per byte, the low ones first. */
 static void push_text(const struct bytes *text) {
     size_t length = text->size;
     for (; length >= 0x80; length >>= 7) {
@@ -394,7 +394,7 @@ static void push_write(enum kind kind) {
     }
 }
 
-/* Whether the command is a write. Then it reads its texts. */
+/* Returns true if the command is a write, and decodes its arguments. */
 static bool read_write(enum kind *kind) {
     static const struct {
         const char *name;
@@ -468,7 +468,7 @@ static bool fetch(bool bounded, uint64_t limit, uint64_t *rows) {
     return is_done(status);
 }
 
-/* Goes over the rows of a page, which it says unless they are counted. The next one begins behind the last key. */
+/* Prints the rows of a page, or counts them. The next page begins after the last key. */
 static void take_rows(uint64_t rows, bool is_counted) {
     const uint8_t *row = room.at;
     for (; rows > 0; rows--) {
@@ -509,7 +509,7 @@ static void scan(void) {
     read_rows(texts > 2, strcmp(words[0], "count") == 0);
 }
 
-/* Reads rows from a prefix to the least key above all that begin with it, if there is one. */
+/* Reads the rows of a prefix, up to the least key above all keys that begin with it, if there is one. */
 static void scan_prefix(void) {
     read_text(words[1], &first);
     read_text(words[1], &second);
@@ -522,7 +522,7 @@ static void scan_prefix(void) {
     read_rows(second.size > 0, false);
 }
 
-/* Snapshots and numbers. */
+/* Snapshots and statistics. */
 
 static void take_snapshot(void) {
     uint64_t sequence = 0;
@@ -593,7 +593,7 @@ static void run_command(void) {
     fault("a command has an unknown name");
 }
 
-/* Puts behind a command what the way says, unless that would give up what is prepared. */
+/* Does the extra commands of the way after a command, unless that would discard the prepared batch. */
 static void put_behind(void) {
     size_t count = 0;
     if (store.at == NULL || is_prepared) {
@@ -610,7 +610,7 @@ static void put_behind(void) {
     }
 }
 
-/* Ends a batch behind its last line. */
+/* Ends a batch after its last line. */
 static void finish(void) {
     if (end_batch != NULL) {
         end_batch();
@@ -619,7 +619,7 @@ static void finish(void) {
     }
 }
 
-/* Cuts a line into its words. One that is missing spells no text. */
+/* Splits a line into words. A missing word encodes an empty byte string. */
 static void split(char *text) {
     static char missing[] = "?";
     word_count = 0;
@@ -634,7 +634,7 @@ static void split(char *text) {
     }
 }
 
-/* Does what a line says. */
+/* Does the command of a line. */
 static void run_line(char *text) {
     bool is_indented = *text == ' ';
     enum kind kind;
@@ -657,7 +657,7 @@ static void run_line(char *text) {
     put_behind();
 }
 
-/* Copies a part of the line, up to its end, with a number in the place of `#` if there is one. */
+/* Copies the line up to its end or the part's, and replaces `#` by a number, if there is one. */
 static void fill(char *text, const char *part, const char *number) {
     size_t length = strlen(text);
     for (; *part != '\n'; part++) {
@@ -669,7 +669,7 @@ static void fill(char *text, const char *part, const char *number) {
     }
 }
 
-/* Does what the line says: as often as `times` tells, with the number in the place of `#`. */
+/* Does the command of a line: the number of times that `times` says, with the index in place of `#`. */
 static void run_times(void) {
     size_t indent = strspn(line, " ");
     unsigned times = 1;
@@ -688,7 +688,7 @@ static void next_line(void) {
     line = strchr(line, '\n') + 1;
 }
 
-/* Plays the case that begins at the line, up to what it is to print. */
+/* Plays the case that begins at the line, up to its expected output. */
 static void play_case(void) {
     said.size = 0;
     for (; strncmp(line, "----\n", 5) != 0; next_line()) {
@@ -713,7 +713,7 @@ static void print_lines(const char *mark, const char *text, size_t size) {
     }
 }
 
-/* Prints what was wanted and what came, from the first line on that differs. */
+/* Prints the expected and the actual output, from the first different line on. */
 static void print_difference(const char *wanted, size_t size) {
     const char *came = (const char *)said.at;
     size_t same = 0;
@@ -725,7 +725,7 @@ static void print_difference(const char *wanted, size_t size) {
     print_lines("+ ", came + same, said.size - same);
 }
 
-/* Whether the case that begins at the line prints what it is to print. */
+/* Returns true if the case that begins at the line has the expected output. */
 static bool is_right(void) {
     static const char *const behind[] = {"nothing", "a flush", "all compactions", "a reopening"};
     unsigned number = number_of(line);
@@ -745,7 +745,7 @@ static bool is_right(void) {
     return is_same;
 }
 
-/* Plays the cases of the file. Returns how many there are, and adds how many print something else. */
+/* Plays the cases of the file. Returns their number, and adds the number of failures. */
 static unsigned play_file(unsigned *failures) {
     unsigned cases = 0;
     for (line = file_text; *line != 0;) {
@@ -780,7 +780,7 @@ int main(int argc, char **argv) {
     for (int place = 1; place < argc; place++) {
         int ways;
         read_file(argv[place]);
-        /* How many runs there are depends on what is put behind a command. */
+        /* The number of runs depends on the commands added after each command. */
         ways = strstr(file_text, "\nreport\n") != NULL ? 1 : WAYS;
         for (int next = 0; next < ways; next++) {
             way = (enum way)next;

@@ -1,7 +1,7 @@
-/* What ucstore.h promises and no contract says: which memory a call takes and frees, how much a piece of a checkpoint has, and that
- * a job ends on no store but its own.
+/* Tests promises of ucstore.h that no contract states: the memory that calls allocate and free, the size of a checkpoint's pieces, and
+ * that a job ends on its own store only.
  *
- * It is linked with `-Wl,--wrap=malloc,--wrap=realloc,--wrap=free`. */
+ * Linked with `-Wl,--wrap=malloc,--wrap=realloc,--wrap=free`. */
 #include <stdio.h>
 #include <stdlib.h>
 #include <string.h>
@@ -28,11 +28,11 @@ void __wrap_free(void *block);
 }
 #endif
 
-/* How many allocations are granted before one is refused, if one is. */
+/* Number of allocations that succeed before one fails, if one does. */
 static bool refuses;
 static size_t granted;
 
-/* How many bytes were asked for, and how many blocks were freed, since `count_anew`. */
+/* Number of bytes requested, and number of blocks freed, since `count_anew`. */
 static size_t asked, freed;
 
 static bool is_refused(void) {
@@ -61,13 +61,13 @@ static void count_anew(void) {
     asked = freed = 0;
 }
 
-/* A call that frees neither a run nor a memtable frees a list or two of the version before it. */
+/* A call that frees no run and no memtable frees one or two lists of the previous version. */
 enum { MANY = 20000, FEW_BLOCKS = 8, FEW_BYTES = 1 << 16, ROWS = 70000, MOST_ROWS = 65536, LOG = 1 << 22 };
 
 static struct ucstore store;
 static uint8_t logged[LOG];
 
-/* A store that compacts by hand, whose memtables have this size. */
+/* Creates a store without automatic compaction, whose memtables have this size. */
 static void open_store(struct ucstore *opened, uint32_t buffers, uint64_t size) {
     struct ucstore_options options;
     CHECK(ucstore_options_init(&options) == UCSTORE_OK);
@@ -97,7 +97,7 @@ static struct ucstore_report reported(struct ucstore *of) {
     return report;
 }
 
-/* Puts until the store gives a flush out, and runs that. */
+/* Puts until the store has a flush job, and runs that. */
 static void run_flush(struct ucstore_job *job) {
     bool taken = false;
     for (uint32_t number = 0; !taken; number++) {
@@ -114,9 +114,9 @@ static bool end(struct ucstore_job *job) {
     return installed;
 }
 
-/* Jobs end on their own store alone. */
+/* Jobs end on their own store only. */
 
-/* A store whose keys have this value, in runs, or in a memtable that is full. */
+/* Creates a store whose keys have this value, in runs, or in a full memtable. */
 static void fill(struct ucstore *filled, const char *value, bool in_runs) {
     struct ucstore_options options;
     CHECK(ucstore_options_init(&options) == UCSTORE_OK);
@@ -141,7 +141,7 @@ static void check_values(struct ucstore *filled, const char *value) {
     }
 }
 
-/* The job is refused by the store, and neither changes. */
+/* Checks that the store rejects the job, and neither changes. */
 static void refuse(struct ucstore *other, struct ucstore_job *job, const char *value) {
     bool installed = true;
     uint64_t runs = reported(other).runs, gathered = reported(other).gathered;
@@ -151,8 +151,8 @@ static void refuse(struct ucstore *other, struct ucstore_job *job, const char *v
     check_values(other, value);
 }
 
-/* Two stores that were filled alike have a job out, or one of them: each is refused by the other, whether it was run or not, and
- * then ends on its own. */
+/* Two equal stores have a job out, or one of them has. The other store rejects each job, whether it was run or not; then it ends on its
+ * own store. */
 static void end_crosswise(bool in_runs, bool both) {
     struct ucstore first = {0}, second = {0};
     struct ucstore_job of_first = {0}, of_second = {0};
@@ -179,7 +179,7 @@ static void end_crosswise(bool in_runs, bool both) {
     CHECK(ucstore_close(&first) == UCSTORE_OK && ucstore_close(&second) == UCSTORE_OK);
 }
 
-/* A job that outlives its store is refused by the store that is opened behind the same handle, and filled alike. */
+/* A job that outlives its store is rejected by an equal store that is opened in the same handle. */
 static void outlive(bool in_runs) {
     struct ucstore behind = {0};
     struct ucstore_job job = {0}, own = {0};
@@ -202,7 +202,7 @@ static void jobs_end_on_their_own_store(void) {
     }
 }
 
-/* Ends of jobs free no run. */
+/* Ending a job frees no run. */
 
 static void late_flush_is_kept(void) {
     struct ucstore_job job = {0};
@@ -231,7 +231,7 @@ static void flush_without_a_slot_is_kept(void) {
     CHECK(ucstore_close(&store) == UCSTORE_OK);
 }
 
-/* Each allocation of the end is refused in turn, until none is left to refuse. */
+/* Each allocation of the call fails in turn, until none is left. */
 static void flush_without_memory_is_kept(void) {
     struct ucstore_job job = {0};
     bool installed = false;
@@ -248,7 +248,7 @@ static void flush_without_memory_is_kept(void) {
     CHECK(reported(&store).runs == 1 && ucstore_close(&store) == UCSTORE_OK);
 }
 
-/* Between a batch's preparation and its commit. */
+/* Between the preparation of a batch and its commit. */
 static void flush_ends_beside_a_prepared_batch(void) {
     const uint8_t text[] = {'b'};
     struct ucstore_batch batch = {0};
@@ -266,7 +266,7 @@ static void flush_ends_beside_a_prepared_batch(void) {
     CHECK(ucstore_close(&store) == UCSTORE_OK);
 }
 
-/* Memtables are full at what the header says. */
+/* Memtables are full at the size that the header says. */
 
 static void range_deletions_fill_a_memtable(void) {
     const uint8_t behind[] = {255};
@@ -281,7 +281,7 @@ static void range_deletions_fill_a_memtable(void) {
     CHECK(ucstore_close(&store) == UCSTORE_OK);
 }
 
-/* A batch of one put is written in one of the ways that there are. */
+/* Writes a batch of one put in one of the possible ways. */
 static void write_by(int way, struct ucstore_batch *batch) {
     uint8_t bytes[64];
     size_t size = 0;
@@ -324,7 +324,7 @@ static void batches_fill_memtables(void) {
 
 /* Views and checkpoints. */
 
-/* How many bytes a scan of one row asks for. */
+/* Returns the number of bytes that a scan of one row allocates. */
 static size_t scan(struct ucstore_view *view) {
     uint8_t room[64];
     size_t size = 0;
@@ -347,7 +347,7 @@ static void views_sort_once(void) {
     CHECK(ucstore_view_close(&again) == UCSTORE_OK && ucstore_close(&store) == UCSTORE_OK);
 }
 
-/* Of many views between writes each asks for as little as an early one, so a lookup in what is gathered looks at few memtables. */
+/* After many views between writes, taking one allocates as little as an early one did, so a lookup searches few memtables. */
 static void frozen_memtables_are_joined(void) {
     struct ucstore_view view = {0};
     size_t most = 0;
@@ -379,7 +379,7 @@ static void pieces_have_their_rows(void) {
     open_store(&read, 1, 1 << 26);
     CHECK(ucstore_replay(&read, logged, size, &place, false, &ended) == UCSTORE_OK);
     CHECK(place.last == MOST_ROWS && place.offset == size);
-    /* What the view has was sorted before its first piece, and isn't sorted again. */
+    /* The memtables of the view were sorted before the first piece, and are not sorted again. */
     count_anew();
     CHECK(ucstore_checkpoint_next(&checkpoint, size, 1, logged, sizeof logged, &size, &done) == UCSTORE_OK && !done);
     CHECK(asked <= FEW_BYTES);
@@ -403,7 +403,7 @@ static const struct {
     {"pieces_have_their_rows", pieces_have_their_rows},
 };
 
-/* All promises, or those that the words name. */
+/* Tests all promises, or those named by the arguments. */
 int main(int argc, char **argv) {
     size_t held = 0;
     for (size_t one = 0; one < sizeof promises / sizeof *promises; one++) {

@@ -1,7 +1,7 @@
-/* Refuses each allocation of each call in turn: once alone, and once with all behind it. A call that is refused answers
- * so, and changes nothing. In the end all memory is given back. The words are how many calls there are, and the seed.
+/* Fails each allocation of each call in turn: once alone, and once with all later ones. A call whose allocation fails must return
+ * UCSTORE_OUT_OF_MEMORY and change nothing. At the end all memory must be freed. The arguments are the number of calls, and the seed.
  *
- * It is linked with `-Wl,--wrap=malloc,--wrap=realloc,--wrap=free`. */
+ * Linked with `-Wl,--wrap=malloc,--wrap=realloc,--wrap=free`. */
 #include <stdio.h>
 #include <stdlib.h>
 #include <string.h>
@@ -30,11 +30,11 @@ void __wrap_free(void *block);
 
 enum { TEXT = 40, ROOM = 1 << 18, KEYS = 84, MOST_KEEPS = 4, BATCH = 12 + 20 * (3 + 2 * TEXT), MOST_LOG = 1 << 21 };
 
-/* How many allocations are granted before one is refused, if any is, and whether those behind it are too. */
+/* Number of allocations that succeed before one fails, if any does, and whether all later ones fail too. */
 static bool refuses, lasts, refused;
 static size_t granted;
 
-/* How many blocks are in use, and how many allocations were refused. */
+/* Number of blocks in use, and number of failed allocations. */
 static long live;
 static size_t refusals;
 
@@ -68,7 +68,7 @@ void __wrap_free(void *block) {
 
 static uint64_t state;
 
-/* A number below a limit (Knuth's constants). */
+/* Returns a pseudorandom number below a limit (Knuth's constants). */
 static uint64_t draw(uint64_t limit) {
     state = state * UINT64_C(6364136223846793005) + UINT64_C(1442695040888963407);
     return (state >> 33) % limit;
@@ -77,11 +77,11 @@ static uint64_t draw(uint64_t limit) {
 static struct ucstore store;
 static struct ucstore_batch gathered;
 
-/* A view, another handle of it, and a job. */
+/* A view, another handle to it, and a job. */
 static struct ucstore_view shown, again;
 static struct ucstore_job out;
 
-/* A checkpoint of the view, the values that this had, and the pieces so far. */
+/* A checkpoint of the view, the values of the view at its start, and the pieces so far. */
 static struct ucstore_checkpoint begun;
 static uint64_t begun_lengths[KEYS];
 static uint8_t begun_values[ROOM], pieces[ROOM];
@@ -91,16 +91,16 @@ static bool is_laid_out;
 static uint8_t history[MOST_LOG];
 static size_t history_length;
 
-/* The size of the record of what is prepared. */
+/* Size of the prepared batch's log record. */
 static size_t prepared;
 
-/* All keys of one to three letters, one behind the other. */
+/* All keys of one to three letters, one after the other. */
 static uint8_t keys[3 * KEYS];
 static uint64_t key_lengths[KEYS];
 static size_t keys_length;
 
-/* What reads see of a store: its last sequence, and the rows there and at each snapshot. And what is gathered, which views and
- * jobs there are, and the values that views show: no scan, which would sort before the one that is tried. */
+/* The visible state of a store: the last sequence number, and the rows there and at each snapshot; the number of writes in memtables, the
+ * views and jobs, and the values of the views. It makes no scan of a view, which would sort before the tested scan. */
 struct held {
     uint64_t last;
     uint64_t keeps[MOST_KEEPS], value_lengths[KEYS];
@@ -166,7 +166,7 @@ static bool is_same(const struct held *one, const struct held *other) {
         && memcmp(one->batch, other->batch, one->batch_length) == 0 && are_same_views(one, other);
 }
 
-/* A call with what was drawn for it, so that it can be tried again. */
+/* A call with its random arguments, so that it can be repeated. */
 struct call {
     int kind;
     uint8_t key[TEXT], value[TEXT], batch[BATCH];
@@ -189,7 +189,7 @@ static size_t draw_text(uint8_t *text, size_t most) {
     return length;
 }
 
-/* One of 84 keys. */
+/* Returns one of 84 keys. */
 static size_t draw_key(uint8_t *text) {
     return draw_text(text, 3);
 }
@@ -204,7 +204,7 @@ static void push_text(struct call *call, const uint8_t *text, size_t length) {
     call->batch_length += length;
 }
 
-/* A batch whose sequence, which is 0, stands for the next one. */
+/* Returns a batch with the sequence number 0, which means the next one. */
 static void draw_batch(struct call *call) {
     static const uint8_t TAGS[] = {1, 1, 0, 2, 2, 15};
     uint64_t count = draw(20);
@@ -244,7 +244,7 @@ static struct call draw_call(const struct held *held) {
     return call;
 }
 
-/* Opens the log behind another handle, and closes it. */
+/* Opens the log through another handle, and closes it. */
 static int32_t open_log(void) {
     struct ucstore opened = {0};
     struct ucstore_options options;
@@ -258,8 +258,8 @@ static int32_t open_log(void) {
     return status;
 }
 
-/* Writes the log's batches to a store behind another handle, and closes it. A batch that is refused isn't written. Single
- * writes aren't in the log. */
+/* Replays the log's batches to a store in another handle, and closes it. A batch that fails is not written. Single writes are not in
+ * the log. */
 static int32_t replay_log(void) {
     struct ucstore again = {0};
     struct ucstore_options options;
@@ -386,7 +386,7 @@ static int32_t try_call(const struct call *call) {
     }
 }
 
-/* Tries a call with a refusal behind so many allocations. Whether there was one. */
+/* Tries a call with a failure after a number of allocations. Returns true if one failed. */
 static bool try_refused(const struct call *call, size_t before, int32_t *status) {
     granted = before;
     refused = false;
@@ -396,7 +396,7 @@ static bool try_refused(const struct call *call, size_t before, int32_t *status)
     return refused;
 }
 
-/* Tries a call with each of its allocations refused, and then, if it wasn't done yet, with none. */
+/* Tries a call with each of its allocations failing, and then without a failure, unless it has succeeded already. */
 static int32_t with_refusals(const struct call *call, struct held *held) {
     static struct held found;
     int32_t status = UCSTORE_OUT_OF_MEMORY;
@@ -411,7 +411,7 @@ static int32_t with_refusals(const struct call *call, struct held *held) {
     return status;
 }
 
-/* Notes what the view has of which a checkpoint has just begun. */
+/* Records the contents of the view of a checkpoint that has just been started. */
 static void begin_pieces(const struct held *held) {
     memcpy(begun_lengths, held->value_lengths, sizeof begun_lengths);
     memcpy(begun_values, held->values, held->values_length);
@@ -419,7 +419,7 @@ static void begin_pieces(const struct held *held) {
     pieces_length = 0;
 }
 
-/* Opens the pieces, which have the values that the view had. */
+/* Opens the pieces, which must have the values of the view. */
 static void check_pieces(void) {
     static uint64_t lengths[KEYS];
     static uint8_t values[ROOM];
@@ -434,7 +434,7 @@ static void check_pieces(void) {
     CHECK(ucstore_close(&opened) == UCSTORE_OK);
 }
 
-/* Takes the piece that was laid out, or ends the checkpoint if no row was left. */
+/* Appends the piece, or ends the checkpoint if no row was left. */
 static void take_piece(void) {
     pieces_length += piece;
     if (is_laid_out) {
@@ -443,7 +443,7 @@ static void take_piece(void) {
     }
 }
 
-/* Takes what is prepared, while each allocation is refused. */
+/* Commits the prepared batch while each allocation fails. */
 static void commit(void) {
     granted = 0;
     refused = false;
@@ -461,7 +461,7 @@ static void step(struct held *held) {
           || status == UCSTORE_NO_VIEW || status == UCSTORE_HAS_VIEW || status == UCSTORE_NO_JOB || status == UCSTORE_HAS_JOB
           || status == UCSTORE_NO_CHECKPOINT || status == UCSTORE_HAS_CHECKPOINT);
     if (call.kind == PREPARE || call.kind == PREPARE_BYTES) {
-        /* No read sees it before it is taken. */
+        /* No read sees the batch before it is committed. */
         look(&before);
         CHECK(is_same(&before, held));
         commit();
@@ -478,7 +478,7 @@ static void step(struct held *held) {
     look(held);
 }
 
-/* Creates a store, with each allocation refused before. */
+/* Creates a store, after each of its allocations has failed. */
 static void create(void) {
     struct ucstore_options options;
     int32_t status = UCSTORE_OUT_OF_MEMORY;
@@ -502,7 +502,7 @@ static uint64_t runs(void) {
     return report.runs;
 }
 
-/* Ends the job, if one is out. Then so much is written that all runs are compacted to one: none is claimed for good. */
+/* Ends the job, if one is out. Then writes until all runs are compacted to one: none stays claimed. */
 static void compact_all(void) {
     static const uint8_t value[1 << 14] = {0};
     bool is_out = out.at != NULL, told = false;
@@ -516,7 +516,7 @@ static void compact_all(void) {
     CHECK(runs() == 1);
 }
 
-/* A store that is written, read and compacted meanwhile, and closed. */
+/* Writes, reads and compacts a store, and closes it. */
 static void soak(size_t calls) {
     static struct held held;
     create();

@@ -1,6 +1,6 @@
-/* 50,000 drawn operations for each operator, beside a plain dictionary whose copies are the snapshots and the views:
- * writes, batches by handle and as bytes, snapshots, views, checkpoints, jobs, reads, scans and compactions. Then the log of all batches
- * is opened and walked, whole and torn. The words are how many operations there are, and the seed. */
+/* 50,000 random operations for each operator, compared with a plain dictionary, whose copies are the snapshots and the views: writes,
+ * batches by handle and as bytes, snapshots, views, checkpoints, jobs, reads, scans and compactions. Then the log of all batches is opened
+ * and walked, whole and torn. The arguments are the number of operations, and the seed. */
 #include <stdio.h>
 #include <stdlib.h>
 #include <string.h>
@@ -16,10 +16,10 @@
 
 enum { TEXT = 12, VALUE = 1 << 12, KEYS = 100, MOST_KEEPS = 12, MOST_VIEWS = 4, MOST_JOBS = 3, BATCH = 12 + 9 * (3 + 2 * TEXT), MOST_LOG = 1 << 24 };
 
-/* The kinds of writes are the tags of RocksDB's batches (`dbformat.h`). */
+/* Kinds of writes: the tags of RocksDB's batches (`dbformat.h`). */
 enum kind { DELETE = 0, PUT = 1, MERGE = 2, DELETE_RANGE = 15 };
 
-/* A write: `value` is a put's value, a merge's operand or the end of a range. */
+/* A write. `value` is the value of a put, the operand of a merge or the end of a range. */
 struct write {
     enum kind kind;
     uint8_t key[TEXT], value[TEXT];
@@ -32,18 +32,18 @@ struct value {
     uint8_t bytes[VALUE];
 };
 
-/* A value for each key: the number of key `k7` is 7. */
+/* A value for each key: index 7 is key `k7`. */
 struct dictionary {
     struct value at[KEYS];
 };
 
-/* A snapshot, how often it was taken, and what was held there. */
+/* A snapshot, the number of times it was taken, and its expected contents. */
 struct snapshot {
     uint64_t at, taken;
     struct dictionary held;
 };
 
-/* What is read: the store, or a view of it. */
+/* The store, or a view of it, to read. */
 struct moment {
     struct ucstore_view view;
     uint64_t last;
@@ -55,31 +55,31 @@ struct moment {
 static uint32_t merge_operator;
 static struct ucstore store;
 
-/* Where batches are gathered, one after the other. */
+/* The batch that is reused for writes. */
 static struct ucstore_batch gathered;
 
-/* What the store should hold, and what each view should. */
+/* The expected contents of the store and of each view. */
 static struct moment live, views[MOST_VIEWS];
 
-/* Flushes and compactions that are done away from the store, and whether they were run, and ended. */
+/* Jobs that were taken out of the store, and whether they were run and ended. */
 static struct ucstore_job jobs[MOST_JOBS];
 static bool ran[MOST_JOBS], finished[MOST_JOBS];
 
-/* Whether full memtables are left to jobs. Then the store may have flushed what a job has before that ends. */
+/* True if full memtables are left to jobs. Then the store may flush the memtables of a job before that ends. */
 static bool leaves_flushes;
 
-/* All writes, in order, and a log with a batch for each call. */
+/* All writes in order, and a log with a batch for each call. */
 static struct write *writes;
 static size_t count, most_writes;
 static uint8_t *history;
 static size_t history_length;
 
-/* The numbers of the keys in the order of their texts. */
+/* Indexes of the keys in byte order. */
 static int in_order[KEYS];
 
 static uint64_t state;
 
-/* A number below a limit (Knuth's constants). */
+/* Returns a pseudorandom number below a limit (Knuth's constants). */
 static uint64_t draw(uint64_t limit) {
     state = state * UINT64_C(6364136223846793005) + UINT64_C(1442695040888963407);
     return (state >> 33) % limit;
@@ -120,7 +120,7 @@ static void push_text(uint8_t *bytes, size_t *size, const uint8_t *text, size_t 
     *size += length;
 }
 
-/* What the dictionary should hold. */
+/* The expected contents. */
 
 static void set(struct value *value, const uint8_t *text, size_t length) {
     memcpy(value->bytes, text, length);
@@ -220,7 +220,7 @@ static void copy_moment(struct moment *to, const struct moment *from) {
 
 /* Views. */
 
-/* Takes a view, closes one, or puts one behind another handle too. */
+/* Takes a view, closes one, or creates another handle to one. */
 static void view(void) {
     uint64_t one = draw(MOST_VIEWS), behind = 1 + draw(MOST_VIEWS - 1);
     struct moment *drawn = &views[one], *other = &views[(one + behind) % MOST_VIEWS];
@@ -261,7 +261,7 @@ static struct write draw_write(void) {
     return w;
 }
 
-/* Compacts until nothing is picked. */
+/* Compacts until no compaction is due. */
 static void compact(void) {
     bool compacted = true;
     while (compacted) {
@@ -282,7 +282,7 @@ static int32_t write_alone(const struct write *w) {
     }
 }
 
-/* Adds a record to a batch (RocksDB, `write_batch.cc`): its tag, and each text behind its length. */
+/* Adds a record to a batch (RocksDB, `write_batch.cc`): its tag, and each byte string after its length. */
 static void push_record(uint8_t *batch, size_t *size, const struct write *w) {
     batch[(*size)++] = (uint8_t)w->kind;
     batch[(*size)++] = (uint8_t)w->key_length;
@@ -296,7 +296,7 @@ static void push_record(uint8_t *batch, size_t *size, const struct write *w) {
     batch[8]++;
 }
 
-/* Gives the next batch the sequence 0, which stands for the next one, or that one. One that isn't behind the last is refused. */
+/* Gives the next batch its own sequence number, or 0, which means the next one. A number that is not above the last one fails. */
 static void number_batch(uint8_t *batch, size_t size) {
     size_t place = 0, record = 99;
     uint64_t back = draw(count + 1);
@@ -322,7 +322,7 @@ static int32_t gather(const struct write *w) {
     }
 }
 
-/* Whether what is gathered is a batch of so many operations, with these bytes. */
+/* Returns true if the batch has this number of operations and these bytes. */
 static bool is_gathered(uint64_t operations, const uint8_t *batch, size_t size) {
     uint8_t room[BATCH + 1];
     size_t told = 99, fits = (size_t)draw(size + 1);
@@ -333,7 +333,7 @@ static bool is_gathered(uint64_t operations, const uint8_t *batch, size_t size) 
     return found == operations && told == size && memcmp(room, batch, fits) == 0 && room[fits] == 77;
 }
 
-/* Gathers writes, which are the batch of these bytes: in the memory of the batch before, or anew. */
+/* Adds writes to a batch, whose bytes must be these: to the memory of the previous batch, or to a new one. */
 static void gather_all(const struct write *drawn, size_t length, const uint8_t *batch, size_t size) {
     if (draw(4) == 0) {
         CHECK(ucstore_batch_close(&gathered) == UCSTORE_OK && gathered.at == NULL);
@@ -345,7 +345,7 @@ static void gather_all(const struct write *drawn, size_t length, const uint8_t *
     CHECK(is_gathered(length, batch, size));
 }
 
-/* A record was added to the log. */
+/* Counts a record that was added to the log. */
 static void recorded(int32_t status, size_t record) {
     CHECK(status == UCSTORE_OK && record <= MOST_LOG - history_length);
     history_length += record;
@@ -359,7 +359,7 @@ static void log_batch(const uint8_t *batch, size_t size) {
     recorded(status, record);
 }
 
-/* The same with what is gathered. */
+/* The same with the batch handle. */
 static void log_gathered(void) {
     size_t record = 99;
     int32_t status = ucstore_prepare(&store, &gathered, history_length, history + history_length,
@@ -374,7 +374,7 @@ static void wrote(const struct write *w) {
     live.last = count;
 }
 
-/* A write that stands in the log as a batch of its own. What is prepared for that is given up by the write. */
+/* A single write, which is in the log as its own batch. It discards the batch that was prepared for that. */
 static void write_one(void) {
     uint8_t batch[BATCH] = {0};
     size_t size = 12;
@@ -387,7 +387,7 @@ static void write_one(void) {
     wrote(&w);
 }
 
-/* A batch, by its handle or as bytes: in two steps, or in one. No read sees what is prepared. */
+/* A batch, by its handle or as bytes, in two steps or in one. No read sees it while it is prepared. */
 static void write_batch(void) {
     struct write drawn[8];
     uint8_t batch[BATCH] = {0};
@@ -431,7 +431,7 @@ static struct snapshot *snapshot_at(struct moment *of, uint64_t at) {
     return NULL;
 }
 
-/* A sequence: mostly that of a snapshot. */
+/* Returns a sequence number: mostly that of a snapshot. */
 static uint64_t draw_sequence(struct moment *of) {
     return of->snapshot_count > 0 && draw(8) != 0 ? of->snapshots[draw(of->snapshot_count)].at : draw(of->last + 2);
 }
@@ -469,7 +469,7 @@ static void check_snapshots(void) {
     }
 }
 
-/* The store, or a view that is there. */
+/* Returns the store, or an open view. */
 static struct moment *draw_moment(void) {
     struct moment *drawn = &views[draw(MOST_VIEWS)];
     return draw(2) == 0 || drawn->view.at == NULL ? &live : drawn;
@@ -491,7 +491,7 @@ static void check_report(struct moment *of) {
     CHECK((of == &live ? ucstore_last(&store, &last) : ucstore_view_last(&of->view, &last)) == UCSTORE_OK && last == of->last);
 }
 
-/* Asks where a key is looked up. No place is told that has nothing. */
+/* Checks the source of a key. A source that has nothing of the key must not be returned. */
 static void check_source(struct moment *of) {
     uint8_t text[TEXT];
     int key = (int)draw(KEYS);
@@ -510,7 +510,7 @@ static void check_source(struct moment *of) {
 
 /* Jobs. */
 
-/* Ends a job, which is kept: its run is installed if there is one, and it wasn't flushed before. */
+/* Ends a job, and keeps it. Its run is installed if there is one, and if it was not flushed before. */
 static void end_job(size_t one) {
     bool installed = !ran[one], before, taken;
     struct ucstore_job none = {0};
@@ -567,7 +567,7 @@ static void close_jobs(bool with_store) {
 
 /* Reads. */
 
-/* Whether a room has the first bytes of a text, and is as it was behind them. */
+/* Returns true if a buffer has the first bytes of a value, and is unchanged after them. */
 static bool has(const uint8_t *room, size_t room_length, size_t whole, const uint8_t *text, size_t length) {
     size_t fits = length < room_length ? length : room_length;
     for (size_t place = fits; place < whole; place++) {
@@ -609,7 +609,7 @@ static void get(struct moment *of) {
     check_value(status, &of->now.at[key], room, room_length, size);
 }
 
-/* Looks up a few keys at once, some of them twice. */
+/* Looks up a few keys at once, some of them repeated. */
 static void get_many(struct moment *of) {
     enum { MANY = 9 };
     static uint8_t room[MANY * VALUE], wanted[MANY * VALUE];
@@ -640,7 +640,7 @@ static void get_many(struct moment *of) {
     CHECK(size == wanted_length && has(room, room_length, sizeof room, wanted, wanted_length));
 }
 
-/* The rows of a scan, one behind the other, as many as fit a room. */
+/* Writes the expected rows of a scan that fit a buffer, one after the other. */
 struct rows {
     uint8_t bytes[KEYS * VALUE];
     size_t size, fits;
@@ -706,7 +706,7 @@ static void scan(struct moment *of) {
 
 /* Logs. */
 
-/* The layout of a write in what ucstore_log_next tells. */
+/* Format of a write in the output of ucstore_log_next. */
 static void push_write(uint8_t *bytes, size_t *size, uint64_t sequence, const struct write *w) {
     push_number(bytes, size, sequence);
     bytes[(*size)++] = (uint8_t)w->kind;
@@ -714,7 +714,7 @@ static void push_write(uint8_t *bytes, size_t *size, uint64_t sequence, const st
     push_text(bytes, size, w->value, w->kind == DELETE ? 0 : w->value_length);
 }
 
-/* Walks a part of the log, and returns where it ends. `place` has how far it came. */
+/* Walks a part of the log, and returns where it ends. `place` gets the last position. */
 static struct ucstore_ended walk(size_t length, struct ucstore_log_place *place) {
     static uint8_t room[8 * (33 + 2 * TEXT)], wanted[sizeof room];
     struct ucstore_ended ended = {7, 7, 7};
@@ -741,7 +741,7 @@ static struct ucstore_ended walk(size_t length, struct ucstore_log_place *place)
     return ended;
 }
 
-/* Whether a store has the first writes, and no others. */
+/* Returns true if a store has the first writes, and no others. */
 static void check_store(struct ucstore *opened, uint64_t last) {
     static struct rows wanted;
     static struct dictionary held;
@@ -760,7 +760,7 @@ static void check_store(struct ucstore *opened, uint64_t last) {
     CHECK(size == wanted.size && found == wanted.count && memcmp(room, wanted.bytes, size) == 0);
 }
 
-/* Writes the batches of the log's first bytes to a store, which end as a walk says. */
+/* Replays the first bytes of the log to a store. They end as a walk says. */
 static void replay(size_t length, const struct ucstore_log_place *end, const struct ucstore_ended *walked) {
     struct ucstore again = {0};
     struct ucstore_options options;
@@ -768,7 +768,7 @@ static void replay(size_t length, const struct ucstore_log_place *end, const str
     struct ucstore_ended ended = {7, 7, 7};
     int32_t status = UCSTORE_OK;
     CHECK(ucstore_options_init(&options) == UCSTORE_OK);
-    /* More memtables than there may be runs. */
+    /* More memtables than the maximum number of runs. */
     options.write_buffer_size = 500;
     CHECK(ucstore_create(&again, merge_operator, &options) == UCSTORE_OK);
     while (status == UCSTORE_OK) {
@@ -782,7 +782,7 @@ static void replay(size_t length, const struct ucstore_log_place *end, const str
     CHECK(ucstore_close(&again) == UCSTORE_OK);
 }
 
-/* The batch of a log that begins later than right behind the last sequence is written if it may skip some. */
+/* A batch of the log that does not follow the last sequence number is written if gaps are allowed. */
 static void skip(void) {
     const uint8_t later[] = {9, 0, 0, 0, 0, 0, 0, 0, 1, 0, 0, 0, 1, 1, 'a', 1, 'b'};
     struct ucstore made = {0}, again = {0};
@@ -823,7 +823,7 @@ static struct ucstore_ended reopen(size_t length) {
 
 /* Checkpoints. */
 
-/* Lays a view out as a log, piece by piece, in rooms of which some are too small. Returns how long the log is. */
+/* Writes a view as a log, piece by piece, with some buffers that are too small. Returns the length of the log. */
 static size_t lay_out(struct ucstore_view *view, uint8_t *log, size_t log_room) {
     struct ucstore_checkpoint checkpoint = {0};
     uint64_t most = draw(40);
@@ -847,7 +847,7 @@ static size_t lay_out(struct ucstore_view *view, uint8_t *log, size_t log_room) 
     return length;
 }
 
-/* Whether a store that is opened from a moment's checkpoint has its rows, numbered from 1, and no others. */
+/* Returns true if a store that is opened from a checkpoint has its rows, numbered from 1, and no others. */
 static void check_checkpoint(struct moment *of) {
     static struct rows wanted;
     static uint8_t log[2 * KEYS * VALUE], room[KEYS * VALUE];
@@ -871,7 +871,7 @@ static void check_checkpoint(struct moment *of) {
     CHECK(ucstore_close(&opened) == UCSTORE_OK);
 }
 
-/* Opens the log whole, torn, before zeros as a crash may leave them, and with a bit of its last byte changed. */
+/* Opens the log whole, torn, followed by zeros as a crash may leave them, and with a bit of its last byte changed. */
 static void check_log(void) {
     uint8_t bit = (uint8_t)(1 << draw(8));
     CHECK(reopen(history_length).kind == UCSTORE_CLEAN);
@@ -917,7 +917,7 @@ static void step(void) {
     }
 }
 
-/* Closes the views. They still show what they did. */
+/* Closes the views. They still show their contents. */
 static void close_views(void) {
     for (size_t place = 0; place < MOST_VIEWS; place++) {
         struct moment *of = &views[place];
@@ -956,7 +956,7 @@ static void soak(uint32_t drawn_operator, size_t operations) {
     printf("operator %u: %zu operations, %zu writes\n", (unsigned)merge_operator, operations, count);
 }
 
-/* Writes a batch durably, as the header says, with a room that grows. */
+/* Writes a batch durably, as the header says, with a buffer that grows. */
 static void write_durably(const uint8_t *batch, size_t size) {
     size_t record = 0, room = 0;
     while (ucstore_prepare_bytes(&store, batch, size, history_length, history + history_length, room, &record) == UCSTORE_ROOM) {
@@ -967,8 +967,8 @@ static void write_durably(const uint8_t *batch, size_t size) {
     CHECK(ucstore_commit(&store) == UCSTORE_OK);
 }
 
-/* More runs than there are slots, with the greatest triggers and no compaction before them. The log has all batches, and opens with memtables
- * of a byte. */
+/* More runs than there are slots, with the greatest triggers and no earlier compaction. The log has all batches, and opens with memtables
+ * of one byte. */
 static void durable(void) {
     static const uint8_t one[] = {0, 0, 0, 0, 0, 0, 0, 0, 1, 0, 0, 0, 2, 1, 'k', 8, 1, 0, 0, 0, 0, 0, 0, 0};
     struct ucstore_options options;
@@ -996,7 +996,7 @@ static void durable(void) {
     CHECK(ucstore_close(&store) == UCSTORE_OK);
 }
 
-/* Lengths of 0 with null addresses. */
+/* Lengths of 0 with null pointers. */
 static void nothing_is_read(void) {
     struct ucstore_batch batch = {0};
     struct ucstore_view shown = {0};
@@ -1039,7 +1039,7 @@ static void nothing_is_read(void) {
     CHECK(ucstore_close(&store) == UCSTORE_OK);
 }
 
-/* What a handle without a store answers. */
+/* Statuses of a handle without a store. */
 static void without_store(void) {
     struct ucstore_batch batch = {0};
     struct ucstore_report report;
@@ -1077,7 +1077,7 @@ static void without_store(void) {
     CHECK(ucstore_close(&store) == UCSTORE_NO_STORE);
 }
 
-/* What a handle without a view answers. */
+/* Statuses of a handle without a view. */
 static void without_view(void) {
     struct ucstore_view none = {0}, other = {0};
     struct ucstore_report report;
@@ -1101,7 +1101,7 @@ static void without_view(void) {
     CHECK(ucstore_view_close(&none) == UCSTORE_NO_VIEW && seq == 7 && size == 0);
 }
 
-/* What a handle without a checkpoint answers. */
+/* Statuses of a handle without a checkpoint. */
 static void without_checkpoint(void) {
     struct ucstore_view shown = {0};
     struct ucstore_checkpoint none = {0};
@@ -1115,7 +1115,7 @@ static void without_checkpoint(void) {
     CHECK(strcmp(ucstore_status_text(UCSTORE_SEQUENCE_GAP + 1), ucstore_status_text(-1)) == 0);
 }
 
-/* A store of 255 runs, which are all compacted next. */
+/* A store of 255 runs, whose next compaction has all of them. */
 static void open_full(struct ucstore *full) {
     struct ucstore_options options;
     const uint8_t text[] = {'a'};
@@ -1130,14 +1130,14 @@ static void open_full(struct ucstore *full) {
     }
 }
 
-/* Ends a flush job, and frees it. Tells whether its run was installed. */
+/* Ends a flush job, and frees it. Returns true if its run was installed. */
 static bool end_flush(struct ucstore_job *job) {
     bool installed = false;
     CHECK(ucstore_job_end(&store, job, &installed) == UCSTORE_OK && ucstore_job_close(job) == UCSTORE_OK);
     return installed;
 }
 
-/* How many runs the store has. */
+/* Returns the number of runs. */
 static uint64_t runs(void) {
     struct ucstore_report report;
     report.size = sizeof report;
@@ -1160,11 +1160,11 @@ static void flush_jobs(void) {
         CHECK(ucstore_job(&store, &out, &told) == UCSTORE_OK && runs() == 0);
         CHECK(ucstore_put(&store, text, 1, text, 1) == UCSTORE_OK);
     }
-    /* One flush is out at a time, and what is written since is behind it. */
+    /* One flush is out at a time, and later writes are not in it. */
     CHECK(told && ucstore_job(&store, &other, &told) == UCSTORE_OK && !told);
     CHECK(ucstore_job_run(&out) == UCSTORE_OK && end_flush(&out) && runs() == 1);
     CHECK(ucstore_flush(&store) == UCSTORE_OK && runs() == 2);
-    /* A write flushes all once two memtables are full: the job comes too late. */
+    /* A write flushes all memtables once two are full: the job comes too late. */
     for (told = false; !told;) {
         CHECK(ucstore_put(&store, text, 1, text, 1) == UCSTORE_OK && ucstore_job(&store, &out, &told) == UCSTORE_OK);
     }
@@ -1172,7 +1172,7 @@ static void flush_jobs(void) {
         CHECK(ucstore_put(&store, text, 1, text, 1) == UCSTORE_OK);
     }
     CHECK(ucstore_job_run(&out) == UCSTORE_OK && !end_flush(&out) && runs() == 3);
-    /* So it does behind a snapshot. A job that isn't run leaves its writes for another one. */
+    /* So does a snapshot. A job that is not run leaves its writes for another one. */
     for (told = false; !told;) {
         CHECK(ucstore_put(&store, text, 1, text, 1) == UCSTORE_OK && ucstore_job(&store, &out, &told) == UCSTORE_OK);
     }
@@ -1181,7 +1181,7 @@ static void flush_jobs(void) {
     CHECK(ucstore_close(&store) == UCSTORE_OK);
 }
 
-/* What jobs are refused, and what is refused because of one. */
+/* Errors of jobs, and errors that jobs cause. */
 static void refused_jobs(void) {
     struct ucstore other = {0};
     struct ucstore_job none = {0}, out = {0};
@@ -1208,7 +1208,7 @@ static void refused_jobs(void) {
     CHECK(ucstore_close(&store) == UCSTORE_OK);
 }
 
-/* What is refused. */
+/* Errors. */
 static void refusals(void) {
     struct ucstore_options options;
     struct ucstore_ended ended = {7, 7, 7};

@@ -1,5 +1,5 @@
-/* Threads that share a store for a second: one writes batches that count each key once more, four read views, in each of
- * which all keys have the same count, and two compact by jobs. It prints a line if nothing else was ever seen. */
+/* Threads share a store for a second: one writes batches that increment every key, four read views, in which all keys must have the
+ * same count, and two run compaction jobs. Prints a line if every view was consistent. */
 #define _POSIX_C_SOURCE 200112L
 
 #include <pthread.h>
@@ -19,7 +19,7 @@
 
 enum { KEYS = 50, READERS = 4, COMPACTORS = 2, NUMBER = 8 };
 
-/* The store, and whether it is written to. */
+/* The store, and a flag that is set while it is written to. */
 static pthread_mutex_t store_lock = PTHREAD_MUTEX_INITIALIZER;
 static struct ucstore store;
 static bool is_written = true;
@@ -52,7 +52,7 @@ static uint64_t number(const uint8_t *text) {
     return sum;
 }
 
-/* The count that all keys of a view have. */
+/* Returns the count of all keys of a view. */
 static uint64_t count_in(struct ucstore_view *view) {
     uint8_t keys[KEYS], values[KEYS * NUMBER];
     uint64_t key_lengths[KEYS], lengths[KEYS], last = 0;
@@ -70,7 +70,7 @@ static uint64_t count_in(struct ucstore_view *view) {
     return last / KEYS;
 }
 
-/* Whether a scan of a view finds each key once with its count. */
+/* Returns true if a scan of a view finds each key once with its count. */
 static bool has_all(struct ucstore_view *view, uint64_t count) {
     enum { ROW = NUMBER + 1 + NUMBER + NUMBER };
     uint8_t rows[KEYS * ROW];
@@ -86,7 +86,7 @@ static bool has_all(struct ucstore_view *view, uint64_t count) {
     return shown == KEYS && size == sizeof rows;
 }
 
-/* Counts each key once more, and shows that to the readers. */
+/* Increments each key, and publishes a view to the readers. */
 static void write_one(struct ucstore_batch *batch) {
     struct ucstore_view view = {0}, older;
     int32_t status;
@@ -158,7 +158,7 @@ static void *compact_all(void *unused) {
         if (taken) {
             CHECK(ucstore_job_run(&job) == UCSTORE_OK);
             lock(&store_lock);
-            /* A write may have flushed what the job has. */
+            /* A write may have flushed the memtables of the job. */
             CHECK(ucstore_job_end(&store, &job, &installed) == UCSTORE_OK);
             unlock(&store_lock);
             CHECK(ucstore_job_close(&job) == UCSTORE_OK);

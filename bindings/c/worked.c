@@ -1,4 +1,5 @@
-/* Each function of handles and logs once where it does what it is asked, and once where it is refused, with values worked out by hand. */
+/* Calls each function of handles and logs once with success and once with an error, and compares the results with values computed by
+ * hand. */
 #include <stdio.h>
 #include <stdlib.h>
 #include <string.h>
@@ -12,61 +13,61 @@
         }                                                            \
     } while (0)
 
-/* The sizes of structs, the bytes of four runs, of each a key of a byte with a value of a byte, and 8 for the sequence, and a
- * log's length from which no header fits the block. */
+/* Sizes of structs; bytes of four runs, each with a key of one byte, a value of one byte and 8 bytes of sequence number; and a length of
+ * a log at which no header fits the block. */
 enum { OPTIONS_SIZE = 48, REPORT_SIZE = 64, INPUT_BYTES = 40, BLOCK_END = 32762 };
 
-/* A batch with the sequence 1: a put of 1 under a, and a deletion of b. */
+/* A batch with the sequence number 1: a put of 1 under a, and a deletion of b. */
 static const uint8_t numbered[] = {1, 0, 0, 0, 0, 0, 0, 0, 2, 0, 0, 0, 1, 1, 'a', 1, '1', 0, 1, 'b'};
 
-/* A batch without a sequence: a deletion of b. */
+/* A batch without a sequence number: a deletion of b. */
 static const uint8_t unnumbered[] = {0, 0, 0, 0, 0, 0, 0, 0, 1, 0, 0, 0, 0, 1, 'b'};
 
-/* A batch with the last sequence: a deletion of b. */
+/* A batch with the last sequence number: a deletion of b. */
 static const uint8_t last_one[] = {255, 255, 255, 255, 255, 255, 255, 0, 1, 0, 0, 0, 0, 1, 'b'};
 
-/* The bytes of a batch without operations. */
+/* The bytes of an empty batch. */
 static const uint8_t no_operations[] = {0, 0, 0, 0, 0, 0, 0, 0, 0, 0, 0, 0};
 
 /* A put of 1 under a, and a deletion of b. */
 static const uint8_t two_operations[] = {0, 0, 0, 0, 0, 0, 0, 0, 2, 0, 0, 0, 1, 1, 'a', 1, '1', 0, 1, 'b'};
 
-/* A merge of 2 into a, and a deletion of c to d. */
+/* A merge of 2 into a, and a deletion of the range from c to d. */
 static const uint8_t other_operations[] = {0, 0, 0, 0, 0, 0, 0, 0, 2, 0, 0, 0, 2, 1, 'a', 1, '2', 15, 1, 'c', 1, 'd'};
 
 /* The log of the first batch: a masked CRC-32C, the length, FULL, and the batch. */
 static const uint8_t history[] = {98, 33, 102, 255, 20, 0, 1, 1, 0, 0, 0, 0, 0, 0, 0, 2, 0, 0, 0, 1, 1, 'a', 1, '1', 0, 1, 'b'};
 
-/* The log of a checkpoint: the puts of 1,2 under a and 3 under b, numbered from 1. */
+/* The log of a checkpoint: puts of 1,2 under a and 3 under b, numbered from 1. */
 static const uint8_t piece[] = {176, 2, 185, 166, 24, 0, 1, 1, 0, 0, 0, 0, 0, 0, 0, 2, 0, 0, 0, 1, 1, 'a', 3, '1', ',', '2', 1, 1,
                                 'b', 1, '3'};
 
-/* The writes of the log as a walk lays them out. */
+/* The writes of the log in the format of `ucstore_log_next`. */
 static const uint8_t laid[] = {1, 0, 0, 0, 0, 0, 0, 0, 1, 1, 0, 0, 0, 0, 0, 0, 0, 'a', 1, 0, 0, 0, 0, 0, 0, 0, '1',
                                2, 0, 0, 0, 0, 0, 0, 0, 0, 1, 0, 0, 0, 0, 0, 0, 0, 'b', 0, 0, 0, 0, 0, 0, 0, 0};
 
 /* A row: 1,2 under a. */
 static const uint8_t row[] = {1, 0, 0, 0, 0, 0, 0, 0, 'a', 3, 0, 0, 0, 0, 0, 0, 0, '1', ',', '2'};
 
-/* A row: 1 under a, and two bytes of a room that it leaves. */
+/* A row: 1 under a, and two unused bytes of the buffer. */
 static const uint8_t old_row[] = {1, 0, 0, 0, 0, 0, 0, 0, 'a', 1, 0, 0, 0, 0, 0, 0, 0, '1', 0, 0};
 
-/* The lengths of two keys of a byte, and of three and four. */
+/* The lengths of two, three and four keys of one byte. */
 static const uint64_t ones[] = {1, 1, 1, 1};
 
 static struct ucstore store;
 
-/* The bytes of a text. */
+/* Returns the bytes of a string. */
 static const uint8_t *bytes(const char *text) {
     return (const uint8_t *)text;
 }
 
-/* Whether a room begins with a text. */
+/* Returns true if a buffer begins with a string. */
 static bool begins(const uint8_t *room, const char *text) {
     return memcmp(room, text, strlen(text)) == 0;
 }
 
-/* Whether each byte of a room is this one. */
+/* Returns true if each byte of a buffer is this one. */
 static bool all(const uint8_t *room, size_t length, uint8_t byte) {
     for (size_t place = 0; place < length; place++) {
         if (room[place] != byte) {
@@ -76,7 +77,7 @@ static bool all(const uint8_t *room, size_t length, uint8_t byte) {
     return true;
 }
 
-/* The default options. */
+/* Returns the default options. */
 static struct ucstore_options usual(void) {
     struct ucstore_options options;
     memset(&options, 0, sizeof options);
@@ -84,64 +85,64 @@ static struct ucstore_options usual(void) {
     return options;
 }
 
-/* Creates a store with the default options, which joins texts. */
+/* Creates a store with the default options, which appends. */
 static int32_t create(void) {
     const struct ucstore_options options = usual();
     return ucstore_create(&store, UCSTORE_APPEND, &options);
 }
 
-/* Puts a byte under a key of a byte. */
+/* Puts one byte under a key of one byte. */
 static int32_t put(const char *key, const char *value) {
     return ucstore_put(&store, bytes(key), 1, bytes(value), 1);
 }
 
-/* Merges a byte into a key of a byte. */
+/* Merges one byte into a key of one byte. */
 static int32_t merge(const char *key, const char *operand) {
     return ucstore_merge(&store, bytes(key), 1, bytes(operand), 1);
 }
 
-/* Deletes a key of a byte. */
+/* Deletes a key of one byte. */
 static int32_t delete_one(const char *key) {
     return ucstore_delete(&store, bytes(key), 1);
 }
 
-/* Deletes the keys from one of a byte to below another one. */
+/* Deletes the keys from one byte to below another one. */
 static int32_t delete_range(const char *begin, const char *end) {
     return ucstore_delete_range(&store, bytes(begin), 1, bytes(end), 1);
 }
 
-/* Whether a snapshot is answered so, and tells the sequence. */
+/* Returns true if a snapshot has this status and sequence number. */
 static bool keep(int32_t status, uint64_t seq) {
     uint64_t told = 7;
     return ucstore_snapshot(&store, &told) == status && told == seq;
 }
 
-/* Whether the last sequence is answered so, and is this one. */
+/* Returns true if the last sequence number has this status and value. */
 static bool last(int32_t status, uint64_t seq) {
     uint64_t told = 7;
     return ucstore_last(&store, &told) == status && told == seq;
 }
 
-/* Whether the snapshots are answered so, and are so many. */
+/* Returns true if the snapshots have this status and number. */
 static bool keeps(uint64_t *room, size_t room_length, int32_t status, size_t count) {
     size_t told = 7;
     return ucstore_snapshots(&store, room, room_length, &told) == status && told == count;
 }
 
-/* Whether a look-up of a key of a byte is answered so, and tells the size. */
+/* Returns true if a lookup of a key of one byte has this status and size. */
 static bool get(const char *key, uint8_t *room, size_t room_length, int32_t status, size_t size) {
     size_t told = 7;
     return ucstore_get(&store, bytes(key), 1, room, room_length, &told) == status && told == size;
 }
 
-/* The same at a sequence. */
+/* The same at a sequence number. */
 static bool get_at(const char *key, uint64_t at, uint8_t *room, size_t room_length, int32_t status, size_t size) {
     size_t told = 7;
     return ucstore_get_at(&store, bytes(key), 1, at, room, room_length, &told) == status && told == size;
 }
 
-/* Whether a scan of nine rows at most below a key of a byte, or of all if there is none, is answered so, and tells the size of
- * all rows, and how many there was room for. */
+/* Returns true if a scan of at most nine rows below a key of one byte, or of all rows, has this status, total size and number of rows
+ * copied. */
 static bool scan(const char *high, uint8_t *room, size_t room_length, int32_t status, size_t size, uint64_t rows) {
     size_t told = 7;
     uint64_t found = 7;
@@ -150,7 +151,7 @@ static bool scan(const char *high, uint8_t *room, size_t room_length, int32_t st
     return answer == status && told == size && found == rows;
 }
 
-/* The same of all keys at a sequence. */
+/* The same for all keys at a sequence number. */
 static bool scan_at(uint64_t at, uint8_t *room, size_t room_length, int32_t status, size_t size, uint64_t rows) {
     size_t told = 7;
     uint64_t found = 7;
@@ -158,42 +159,42 @@ static bool scan_at(uint64_t at, uint8_t *room, size_t room_length, int32_t stat
     return answer == status && told == size && found == rows;
 }
 
-/* A report that was told by nobody, in a struct of this size. */
+/* Returns a report of this size that no call has filled in. */
 static struct ucstore_report unreported(size_t size) {
     const struct ucstore_report report = {size, 7, 7, 7, 7, 7, 7, 7};
     return report;
 }
 
-/* Whether two reports have the same in each field. */
+/* Returns true if two reports are equal in each field. */
 static bool same(const struct ucstore_report *one, const struct ucstore_report *other) {
     return one->size == other->size && one->runs == other->runs && one->snapshots == other->snapshots &&
            one->points == other->points && one->fragments == other->fragments && one->bytes == other->bytes &&
            one->gathered == other->gathered && one->last == other->last;
 }
 
-/* Whether a report is as it was when nobody had told it. */
+/* Returns true if no call has filled in a report. */
 static bool is_unreported(const struct ucstore_report *report, size_t size) {
     const struct ucstore_report untold = unreported(size);
     return same(report, &untold);
 }
 
-/* Whether a log ended so. */
+/* Returns true if a log ended so. */
 static bool ends(const struct ucstore_ended *ended, uint32_t kind, uint32_t fault, uint64_t place) {
     return ended->kind == kind && ended->fault == fault && ended->place == place;
 }
 
-/* Whether an end was told by nobody: each of its numbers was 7 before. */
+/* Returns true if no call has filled in an end: each of its numbers was 7 before. */
 static bool is_untold(const struct ucstore_ended *ended) {
     return ends(ended, 7, 7, 7);
 }
 
-/* Single operations: a has 1,2 then, and b to d nothing. */
+/* Single operations: then a has 1,2, and b to d have no value. */
 static void write_singly(void) {
     CHECK(put("a", "1") == UCSTORE_OK && merge("a", "2") == UCSTORE_OK && put("b", "3") == UCSTORE_OK);
     CHECK(delete_one("b") == UCSTORE_OK && put("c", "4") == UCSTORE_OK && delete_range("c", "d") == UCSTORE_OK);
 }
 
-/* Looks keys up, with room for all of a value, and for a byte of it. */
+/* Looks up keys, with a buffer for the whole value and for one byte of it. */
 static void look_up(void) {
     uint8_t room[] = {'.', '.', '.', '.'}, cell[] = {'.', '.'};
     CHECK(get("a", room, sizeof room, UCSTORE_OK, 3) && begins(room, "1,2."));
@@ -201,7 +202,7 @@ static void look_up(void) {
     CHECK(get("a", cell, 1, UCSTORE_OK, 3) && begins(cell, "1."));
 }
 
-/* Looks keys up at the snapshot, and where there is none. */
+/* Looks up keys at the snapshot, and at a sequence number without one. */
 static void look_back(void) {
     uint8_t room[] = {'.', '.', '.', '.'};
     CHECK(get_at("a", 6, room, sizeof room, UCSTORE_OK, 3) && begins(room, "1,2."));
@@ -209,21 +210,21 @@ static void look_back(void) {
     CHECK(get_at("b", 6, room, sizeof room, UCSTORE_NOT_FOUND, 7) && begins(room, "1,2."));
 }
 
-/* Scans all keys, with room for the row, and those below b, with too little. */
+/* Scans all keys with a buffer for the row, and those below b with a buffer that is too small. */
 static void scan_all(void) {
     uint8_t room[sizeof row] = {0}, cells[sizeof row] = {0};
     CHECK(scan(NULL, room, sizeof room, UCSTORE_OK, 20, 1) && memcmp(room, row, sizeof row) == 0);
     CHECK(scan("b", cells, 19, UCSTORE_OK, 20, 0) && all(cells, sizeof cells, 0));
 }
 
-/* Scans at the snapshot, and where there is none. */
+/* Scans at the snapshot, and at a sequence number without one. */
 static void scan_back(void) {
     uint8_t room[sizeof row] = {0};
     CHECK(scan_at(6, room, sizeof room, UCSTORE_OK, 20, 1) && memcmp(room, row, sizeof row) == 0);
     CHECK(scan_at(5, room, sizeof room, UCSTORE_NOT_PROTECTED, 7, 7) && memcmp(room, row, sizeof row) == 0);
 }
 
-/* Takes a snapshot at 6 twice, and releases it once. Tells the one that is left, with room for three and for none. */
+/* Takes a snapshot at 6 twice, and releases it once. Lists the remaining one, in a buffer for three and for none. */
 static void take_snapshots(void) {
     uint64_t seqs[] = {7, 7, 7};
     CHECK(last(UCSTORE_OK, 6));
@@ -235,7 +236,7 @@ static void take_snapshots(void) {
     CHECK(seqs[0] == 6 && seqs[1] == 7 && seqs[2] == 7);
 }
 
-/* Whether a report of a view, or of the store if there is none, tells all of this but the bytes. A wrong size is refused. */
+/* Returns true if a report of a view, or of the store if there is none, has these numbers. Its bytes are not compared. A wrong size fails. */
 static bool reports(struct ucstore_view *view, struct ucstore_report wanted) {
     struct ucstore_report refused = unreported(0), told = unreported(REPORT_SIZE);
     CHECK((view != NULL ? ucstore_view_report(view, &refused) : ucstore_report(&store, &refused)) == UCSTORE_BAD_SIZE);
@@ -244,7 +245,7 @@ static bool reports(struct ucstore_view *view, struct ucstore_report wanted) {
     return sizeof told == REPORT_SIZE && is_unreported(&refused, 0) && same(&told, &wanted);
 }
 
-/* Reports six writes in a run, and one that is gathered, flushes that, and compacts. Nothing is picked of two runs. */
+/* Reports six writes in a run and one in the memtable, flushes that, and compacts. No compaction of two runs is due. */
 static void compact(void) {
     const struct ucstore_report wanted = {REPORT_SIZE, 1, 1, 5, 1, 0, 1, 7};
     bool compacted = true;
@@ -255,7 +256,7 @@ static void compact(void) {
     CHECK(delete_one("c") == UCSTORE_OK);
 }
 
-/* Each step from the creation of a store to its close. No second one is created or closed. */
+/* Each step from creating a store to closing it. No second one is created or closed. */
 static void store_lives(void) {
     CHECK(create() == UCSTORE_OK);
     CHECK(create() == UCSTORE_HAS_STORE);
@@ -271,7 +272,7 @@ static void store_lives(void) {
     CHECK(ucstore_close(&store) == UCSTORE_NO_STORE);
 }
 
-/* A store that is opened from a part of the log, then one from all of it, which keeps the greater text and is written to. */
+/* Opens a store from a part of the log, then one from all of it, which keeps the greater byte string and is written to. */
 static void log_is_opened(void) {
     const struct ucstore_options options = usual();
     struct ucstore_ended torn = {7, 7, 7}, clean = {7, 7, 7};
@@ -282,20 +283,20 @@ static void log_is_opened(void) {
     CHECK(ucstore_open(&store, UCSTORE_MAXIMUM, &options, history, sizeof history, &clean) == UCSTORE_OK);
     CHECK(ends(&clean, UCSTORE_CLEAN, 0, 0));
     CHECK(get("a", cell, 1, UCSTORE_OK, 1) && begins(cell, "1."));
-    /* A batch without a sequence is written behind the sequence 2, and a part of one isn't. */
+    /* Writes a batch without a sequence number after the sequence number 2, and a part of one, which fails. */
     CHECK(ucstore_write_bytes(&store, unnumbered, sizeof unnumbered) == UCSTORE_OK && last(UCSTORE_OK, 3));
     CHECK(ucstore_write_bytes(&store, unnumbered, 13) == UCSTORE_NOT_A_BATCH && last(UCSTORE_OK, 3));
     CHECK(ucstore_close(&store) == UCSTORE_OK);
 }
 
-/* Whether a batch that is given as bytes is prepared so behind so many bytes of a log, and tells the size of what it adds. */
+/* Returns true if a batch given as bytes is prepared with this status for a log of this length, with this record size. */
 static bool prepare_bytes(const uint8_t *batch, size_t batch_length, uint64_t offset, uint8_t *room, size_t room_length,
                           int32_t status, size_t size) {
     size_t told = 7;
     return ucstore_prepare_bytes(&store, batch, batch_length, offset, room, room_length, &told) == status && told == size;
 }
 
-/* Nothing is written without a store. */
+/* Writes fail without a store. */
 static void refuse_writes(void) {
     bool compacted = false;
     CHECK(ucstore_write_bytes(&store, numbered, sizeof numbered) == UCSTORE_NO_STORE);
@@ -310,7 +311,7 @@ static void refuse_writes(void) {
     CHECK(ucstore_give_up(&store) == UCSTORE_NO_STORE);
 }
 
-/* Nothing is read without a store, and no snapshot is taken, told or released. */
+/* Reads and snapshots fail without a store. */
 static void refuse_reads(void) {
     CHECK(keep(UCSTORE_NO_STORE, 7));
     CHECK(last(UCSTORE_NO_STORE, 7));
@@ -322,7 +323,7 @@ static void refuse_reads(void) {
     CHECK(scan_at(0, NULL, 0, UCSTORE_NO_STORE, 7, 7));
 }
 
-/* No store is created with options out of their range, of a header that has a field less, and with an operator that there isn't. */
+/* Creation fails with options out of range, of an older header with one field less, and with an unknown operator. */
 static void refuse_options(void) {
     struct ucstore_options narrow = usual(), high = usual(), unbuffered = usual(), old = usual();
     const struct ucstore_options options = usual();
@@ -339,7 +340,7 @@ static void refuse_options(void) {
     CHECK(ucstore_open(&store, UCSTORE_APPEND, &high, history, sizeof history, &ended) == UCSTORE_BAD_OPTION && is_untold(&ended));
 }
 
-/* What a handle without a store answers, and openings that are refused. */
+/* Statuses of a handle without a store, and openings that fail. */
 static void no_store(void) {
     refuse_writes();
     refuse_reads();
@@ -347,7 +348,7 @@ static void no_store(void) {
     CHECK(ucstore_close(&store) == UCSTORE_NO_STORE && store.at == NULL);
 }
 
-/* Opens a store of four runs, of a put each, which it doesn't compact itself. */
+/* Opens a store of four runs with one put each, without automatic compaction. */
 static void open_four_runs(void) {
     struct ucstore_options options = usual();
     options.compacts_itself = 0;
@@ -358,32 +359,32 @@ static void open_four_runs(void) {
     }
 }
 
-/* How many runs the store has. */
+/* Returns the number of runs. */
 static uint64_t runs(void) {
     struct ucstore_report report = unreported(REPORT_SIZE);
     CHECK(ucstore_report(&store, &report) == UCSTORE_OK);
     return report.runs;
 }
 
-/* Whether a job is answered so, and tells whether it was taken. The other was told before, unless it is refused. */
+/* Returns true if taking a job has this status and result. The result is unchanged on failure. */
 static bool take(struct ucstore_job *job, int32_t status, bool taken) {
     bool told = status == UCSTORE_OK ? !taken : taken;
     return ucstore_job(&store, job, &told) == status && told == taken;
 }
 
-/* The same of a job's end, which tells whether a run was installed. */
+/* The same for the end of a job, whose result says whether a run was installed. */
 static bool end(struct ucstore_job *job, int32_t status, bool installed) {
     bool told = status == UCSTORE_OK ? !installed : installed;
     return ucstore_job_end(&store, job, &told) == status && told == installed;
 }
 
-/* Whether the bytes that a job reads are answered so, and are so many. */
+/* Returns true if the input size of a job has this status and value. */
 static bool input_bytes(struct ucstore_job *job, int32_t status, uint64_t size) {
     uint64_t told = 7;
     return ucstore_job_input_bytes(job, &told) == status && told == size;
 }
 
-/* Takes a job and ends it without a run. The store has its runs for the next one then. */
+/* Takes a job and ends it without a run. The store then has its runs for the next one. */
 static void give_back_job(void) {
     struct ucstore_job job = {0};
     CHECK(take(&job, UCSTORE_OK, true));
@@ -392,7 +393,7 @@ static void give_back_job(void) {
     CHECK(runs() == 4);
 }
 
-/* Takes a job, runs it, and ends it. It is behind its handle until it is closed. */
+/* Takes a job, runs it, and ends it. It stays in its handle until it is closed. */
 static void compact_by_job(void) {
     struct ucstore_job job = {0};
     CHECK(take(&job, UCSTORE_OK, true));
@@ -404,7 +405,7 @@ static void compact_by_job(void) {
     CHECK(runs() == 1);
 }
 
-/* Takes a job twice behind one handle, then a second one, for which nothing is left. The first is closed behind its store. */
+/* Takes a job twice into one handle, then a second one, for which nothing is left. The first is closed after its store. */
 static void refuse_second_job(void) {
     struct ucstore_job job = {0}, other = {0};
     CHECK(take(&job, UCSTORE_OK, true));
@@ -426,7 +427,7 @@ static void jobs_end(void) {
     refuse_second_job();
 }
 
-/* What handles without a job or a store answer. */
+/* Statuses of handles without a job or a store. */
 static void no_job(void) {
     struct ucstore_job job = {0};
     CHECK(end(&job, UCSTORE_NO_JOB, false));
@@ -435,19 +436,19 @@ static void no_job(void) {
     CHECK(ucstore_job_close(&job) == UCSTORE_NO_JOB);
 }
 
-/* Whether a look-up of a key of a byte in a view is answered so, and tells the size. */
+/* Returns true if a lookup of a key of one byte in a view has this status and size. */
 static bool view_get(struct ucstore_view *view, const char *key, uint8_t *room, size_t room_length, int32_t status, size_t size) {
     size_t told = 7;
     return ucstore_view_get(view, bytes(key), 1, room, room_length, &told) == status && told == size;
 }
 
-/* The same of a at a sequence. */
+/* The same for a at a sequence number. */
 static bool view_get_at(struct ucstore_view *view, uint64_t at, uint8_t *room, size_t room_length, int32_t status, size_t size) {
     size_t told = 7;
     return ucstore_view_get_at(view, bytes("a"), 1, at, room, room_length, &told) == status && told == size;
 }
 
-/* Whether a look-up of the keys b and a, of these lengths, is answered so, and tells the size of their values. */
+/* Returns true if a lookup of the keys b and a, with these lengths, has this status and size of values. */
 static bool view_get_many(struct ucstore_view *view, const uint64_t *key_lengths, uint64_t *lengths, uint8_t *room,
                           size_t room_length, int32_t status, size_t size) {
     size_t told = 7;
@@ -455,7 +456,7 @@ static bool view_get_many(struct ucstore_view *view, const uint64_t *key_lengths
     return answer == status && told == size;
 }
 
-/* Whether a scan of nine rows of a view at most is answered so, and tells the size of all, and how many there was room for. */
+/* Returns true if a scan of at most nine rows of a view has this status, total size and number of rows copied. */
 static bool view_scan(struct ucstore_view *view, uint8_t *room, size_t room_length, int32_t status, size_t size, uint64_t rows) {
     size_t told = 7;
     uint64_t found = 7;
@@ -463,7 +464,7 @@ static bool view_scan(struct ucstore_view *view, uint8_t *room, size_t room_leng
     return answer == status && told == size && found == rows;
 }
 
-/* The same at a sequence. */
+/* The same at a sequence number. */
 static bool view_scan_at(struct ucstore_view *view, uint64_t at, uint8_t *room, size_t room_length, int32_t status, size_t size,
                          uint64_t rows) {
     size_t told = 7;
@@ -472,13 +473,13 @@ static bool view_scan_at(struct ucstore_view *view, uint64_t at, uint8_t *room, 
     return answer == status && told == size && found == rows;
 }
 
-/* Whether the last sequence that a view shows is answered so, and is this one. */
+/* Returns true if the last sequence number of a view has this status and value. */
 static bool view_last(struct ucstore_view *view, int32_t status, uint64_t seq) {
     uint64_t told = 7;
     return ucstore_view_last(view, &told) == status && told == seq;
 }
 
-/* Looks keys up in a view: at the last sequence, at the snapshot that was there, and where there was none. */
+/* Looks up keys in a view: at the last sequence number, at the snapshot of that time, and at a sequence number without one. */
 static void view_look_up(struct ucstore_view *view) {
     uint8_t room[] = {'.', '.', '.', '.'}, then[] = {'.', '.', '.', '.'};
     CHECK(view_get(view, "a", room, sizeof room, UCSTORE_OK, 3) && begins(room, "1,2."));
@@ -487,7 +488,7 @@ static void view_look_up(struct ucstore_view *view) {
     CHECK(view_get_at(view, 2, then, sizeof then, UCSTORE_NOT_PROTECTED, 7) && begins(then, "1..."));
 }
 
-/* Looks two keys up at once in a view. As many with a wrong length aren't looked up. */
+/* Looks up two keys at once in a view. With a wrong length the call fails. */
 static void view_look_up_many(struct ucstore_view *view) {
     const uint64_t wrong[] = {1, 2};
     uint64_t lengths[] = {7, 7};
@@ -498,7 +499,7 @@ static void view_look_up_many(struct ucstore_view *view) {
     CHECK(lengths[0] == UINT64_MAX && lengths[1] == 3 && begins(room, "1,2."));
 }
 
-/* Scans a view: at the last sequence, at the snapshot that was there, and where there was none. */
+/* Scans a view: at the last sequence number, at the snapshot of that time, and at a sequence number without one. */
 static void view_scan_all(struct ucstore_view *view) {
     uint8_t room[sizeof row] = {0}, then[sizeof row] = {0};
     CHECK(view_scan(view, room, sizeof room, UCSTORE_OK, 20, 1) && memcmp(room, row, sizeof row) == 0);
@@ -506,7 +507,7 @@ static void view_scan_all(struct ucstore_view *view) {
     CHECK(view_scan_at(view, 2, then, sizeof then, UCSTORE_NOT_PROTECTED, 7, 7) && memcmp(then, old_row, sizeof old_row) == 0);
 }
 
-/* All reads of a view of the first two writes: one in a run, and one that is gathered. */
+/* All reads of a view of the first two writes: one in a run, and one in the memtable. */
 static void read_view(struct ucstore_view *view) {
     const struct ucstore_report wanted = {REPORT_SIZE, 1, 1, 1, 0, 0, 1, 2};
     view_look_up(view);
@@ -515,14 +516,14 @@ static void read_view(struct ucstore_view *view) {
     CHECK(reports(view, wanted) && view_last(view, UCSTORE_OK, 2));
 }
 
-/* What no view shows: a write, a flush, a deletion, the end of the snapshot, and a compaction. */
+/* Changes that no view shows: a write, a flush, a deletion, the release of the snapshot, and a compaction. */
 static void go_on(void) {
     bool compacted = true;
     CHECK(put("b", "3") == UCSTORE_OK && ucstore_flush(&store) == UCSTORE_OK && delete_range("a", "z") == UCSTORE_OK);
     CHECK(ucstore_release(&store, 1) == UCSTORE_OK && ucstore_compact(&store, &compacted) == UCSTORE_OK);
 }
 
-/* Views of a store that goes on, and is closed. The second one is there when the first is closed. */
+/* Views of a store that is used and closed. The second handle stays open when the first is closed. */
 static void views_stay(void) {
     struct ucstore_view view = {0}, again = {0};
     CHECK(create() == UCSTORE_OK && put("a", "1") == UCSTORE_OK && keep(UCSTORE_OK, 1));
@@ -535,7 +536,7 @@ static void views_stay(void) {
     CHECK(ucstore_view_close(&again) == UCSTORE_OK);
 }
 
-/* Nothing is read without a view. */
+/* Reads fail without a view. */
 static void refuse_view_reads(struct ucstore_view *view) {
     uint64_t lengths[] = {7, 7};
     struct ucstore_report report = unreported(REPORT_SIZE);
@@ -548,7 +549,7 @@ static void refuse_view_reads(struct ucstore_view *view) {
     CHECK(ucstore_view_report(view, &report) == UCSTORE_NO_VIEW && is_unreported(&report, REPORT_SIZE));
 }
 
-/* What a handle without a view answers, and one that has one. There is no view of no store. */
+/* Statuses of a handle without a view, and of a handle with one. A view needs a store. */
 static void no_view(void) {
     struct ucstore_view view = {0}, again = {0}, other = {0};
     CHECK(ucstore_view(&store, &view) == UCSTORE_NO_STORE);
@@ -562,12 +563,12 @@ static void no_view(void) {
     CHECK(ucstore_close(&store) == UCSTORE_OK);
 }
 
-/* Whether a place is behind so many bytes and batches, of which the last sequence is this. */
+/* Returns true if a place is after these numbers of bytes and batches, with this last sequence number. */
 static bool is_at(const struct ucstore_log_place *place, uint64_t offset, uint64_t seq, uint64_t batches) {
     return place->offset == offset && place->last == seq && place->batches == batches;
 }
 
-/* Whether a step of a walk over the log is answered so, tells the size of the writes, how many they are, and no end. */
+/* Returns true if a step of a walk over the log has this status, size and number of writes, and reports no end. */
 static bool step(struct ucstore_log_place *place, uint8_t *room, size_t room_length, int32_t status, size_t size, uint64_t count) {
     size_t told = 7;
     uint64_t found = 7;
@@ -576,7 +577,7 @@ static bool step(struct ucstore_log_place *place, uint8_t *room, size_t room_len
     return answer == status && told == size && found == count && is_untold(&ended);
 }
 
-/* A walk over the log of a batch: too little room, then enough, then the end. */
+/* A walk over the log of one batch: with a buffer that is too small, then one that is large enough, then the end. */
 static void log_is_walked(void) {
     struct ucstore_log_place place = {0, 0, 0};
     struct ucstore_ended ended = {7, 7, 7};
@@ -597,13 +598,13 @@ static void no_walk(void) {
     CHECK(step(&past, NULL, 0, UCSTORE_BAD_PLACE, 7, 7) && is_at(&past, 28, 0, 0));
 }
 
-/* Whether the next batch of the log is answered so, and whether an end is told. */
+/* Returns true if the next batch of the log has this status, and reports an end or none. */
 static bool replay(struct ucstore_log_place *place, bool may_skip, int32_t status, bool is_told) {
     struct ucstore_ended ended = {7, 7, 7};
     return ucstore_replay(&store, history, sizeof history, place, may_skip, &ended) == status && is_untold(&ended) != is_told;
 }
 
-/* The log is written to a store, up to its end, which is written to then: the place isn't the store's any more. */
+/* Replays the log to a store, up to its end. After another write to the store, the place is no longer the store's. */
 static void log_is_replayed(void) {
     struct ucstore_log_place place = {0, 0, 0};
     CHECK(replay(&place, false, UCSTORE_NO_STORE, false));
@@ -616,7 +617,7 @@ static void log_is_replayed(void) {
     CHECK(ucstore_close(&store) == UCSTORE_OK);
 }
 
-/* Begins a checkpoint of no view, then twice of one that shows 1,2 under a and 3 under b. Its view and store are closed. */
+/* Starts a checkpoint without a view, then twice of one that shows 1,2 under a and 3 under b. Its view and store are closed. */
 static void begin_checkpoint(struct ucstore_checkpoint *checkpoint) {
     struct ucstore_view view = {0};
     CHECK(ucstore_checkpoint(&view, checkpoint) == UCSTORE_NO_VIEW);
@@ -627,15 +628,15 @@ static void begin_checkpoint(struct ucstore_checkpoint *checkpoint) {
     CHECK(ucstore_view_close(&view) == UCSTORE_OK);
 }
 
-/* Whether the next nine rows at most are answered so behind so many bytes of a log, and tell their size. `done` is what is told
- * of whether nothing is left, and what was told before. */
+/* Returns true if the next piece of at most nine rows has this status and size, for a log of this length. `done` is the flag after and
+ * before the call. */
 static bool next_piece(struct ucstore_checkpoint *checkpoint, uint64_t offset, uint8_t *room, size_t room_length, bool *done,
                        int32_t status, size_t size) {
     size_t told = 9;
     return ucstore_checkpoint_next(checkpoint, offset, 9, room, room_length, &told, done) == status && told == size;
 }
 
-/* Both rows are laid out at once, where there is room for them, and then none. */
+/* Copies both rows at once, if they fit, and then none. */
 static void checkpoint_is_laid_out(void) {
     struct ucstore_checkpoint checkpoint = {0};
     uint8_t small[31], room[32];
@@ -652,7 +653,7 @@ static void checkpoint_is_laid_out(void) {
     CHECK(ucstore_checkpoint_close(&checkpoint) == UCSTORE_NO_CHECKPOINT);
 }
 
-/* No row is laid out without a checkpoint. */
+/* A piece needs a checkpoint. */
 static void no_checkpoint(void) {
     struct ucstore_checkpoint checkpoint = {0};
     uint8_t room[] = {7};
@@ -660,7 +661,7 @@ static void no_checkpoint(void) {
     CHECK(next_piece(&checkpoint, 0, room, sizeof room, &done, UCSTORE_NO_CHECKPOINT, 9) && !done && room[0] == 7);
 }
 
-/* Whether the source of a key of a byte is answered so, and is this one: in a view, or in the store if there is none. */
+/* Returns true if the source of a key of one byte has this status and value: in a view, or in the store if there is none. */
 static bool source(struct ucstore_view *view, const char *key, int32_t status, uint32_t place) {
     uint32_t told = 7;
     const int32_t answer = view != NULL ? ucstore_view_source(view, bytes(key), 1, &told)
@@ -668,15 +669,15 @@ static bool source(struct ucstore_view *view, const char *key, int32_t status, u
     return answer == status && told == place;
 }
 
-/* Whether the keys a to e are answered from these places. */
+/* Returns true if the keys a to e have these sources. */
 static bool sources(struct ucstore_view *view, const uint32_t *places) {
     return source(view, "a", UCSTORE_OK, places[0]) && source(view, "b", UCSTORE_OK, places[1]) &&
            source(view, "c", UCSTORE_OK, places[2]) && source(view, "d", UCSTORE_OK, places[3]) &&
            source(view, "e", UCSTORE_OK, places[4]);
 }
 
-/* Where look-ups are answered in a store, and in a view of it, also when the store went on: a has an operand over a value in a
- * run, b was put and c deleted since, d has an operand alone, and e nothing. */
+/* Sources of lookups in a store, and in a view of it after later writes: a has an operand over a value in a run, b was put and c deleted
+ * since, d has only an operand, and e nothing. */
 static void sources_are_told(void) {
     static const uint32_t first[] = {UCSTORE_RUNS, UCSTORE_MEMTABLE, UCSTORE_MEMTABLE, UCSTORE_FILTERS, UCSTORE_FILTERS};
     static const uint32_t flushed[] = {UCSTORE_RUNS, UCSTORE_RUNS, UCSTORE_RUNS, UCSTORE_RUNS, UCSTORE_FILTERS};
@@ -702,7 +703,7 @@ static void gather_two(struct ucstore_batch *batch) {
     CHECK(ucstore_batch_delete(batch, bytes("b"), 1) == UCSTORE_OK);
 }
 
-/* Whether a batch has so many operations, and these bytes. What is behind them in the room stays. */
+/* Returns true if a batch has this number of operations and these bytes, and the rest of the buffer is unchanged. */
 static bool has(struct ucstore_batch *batch, uint64_t operations, const uint8_t *text, size_t length) {
     uint8_t room[24];
     size_t size = 7;
@@ -723,7 +724,7 @@ static void batch_is_gathered(void) {
     CHECK(ucstore_batch_clear(&batch) == UCSTORE_OK);
     gather_two(&batch);
     CHECK(has(&batch, 2, two_operations, sizeof two_operations));
-    /* It tells as many bytes as there is room for. */
+    /* Copies only the bytes that fit. */
     CHECK(ucstore_batch_bytes(&batch, room, 9, &size) == UCSTORE_OK && size == 20);
     CHECK(memcmp(room, two_operations, 9) == 0 && room[9] == 7);
     CHECK(ucstore_batch_clear(&batch) == UCSTORE_OK);
@@ -731,19 +732,19 @@ static void batch_is_gathered(void) {
     CHECK(ucstore_batch_merge(&batch, bytes("a"), 1, bytes("2"), 1) == UCSTORE_OK);
     CHECK(ucstore_batch_delete_range(&batch, bytes("c"), 1, bytes("d"), 1) == UCSTORE_OK);
     CHECK(has(&batch, 2, other_operations, sizeof other_operations));
-    /* It is closed twice, and has no operations in between. */
+    /* It is closed twice, and is empty in between. */
     CHECK(ucstore_batch_close(&batch) == UCSTORE_OK);
     CHECK(has(&batch, 0, no_operations, sizeof no_operations));
     CHECK(ucstore_batch_close(&batch) == UCSTORE_OK);
 }
 
-/* Whether a batch is prepared so behind so many bytes of a log, and tells the size of what it adds. */
+/* Returns true if a batch is prepared with this status for a log of this length, with this record size. */
 static bool prepare(struct ucstore_batch *batch, uint64_t offset, uint8_t *room, size_t room_length, int32_t status, size_t size) {
     size_t told = 7;
     return ucstore_prepare(&store, batch, offset, room, room_length, &told) == status && told == size;
 }
 
-/* Prepares a batch for an empty log, with too little room, and with enough. Nothing is taken before it is committed. */
+/* Prepares a batch for an empty log, with a buffer that is too small, and one that is large enough. It is not visible before the commit. */
 static void record_batch(struct ucstore_batch *batch) {
     uint8_t small[28] = {0}, room[28] = {0};
     CHECK(prepare(batch, BLOCK_END, small, 27, UCSTORE_ROOM, 33) && all(small, sizeof small, 0));
@@ -752,7 +753,7 @@ static void record_batch(struct ucstore_batch *batch) {
     CHECK(last(UCSTORE_OK, 0) && ucstore_commit(&store) == UCSTORE_OK && last(UCSTORE_OK, 2));
 }
 
-/* A batch that is written again gets other sequences. One without operations gets none. */
+/* A batch that is written again gets other sequence numbers. An empty one gets none. */
 static void write_again(struct ucstore_batch *batch) {
     struct ucstore_batch none = {0};
     CHECK(ucstore_write(&store, batch) == UCSTORE_OK && last(UCSTORE_OK, 4));
@@ -760,7 +761,7 @@ static void write_again(struct ucstore_batch *batch) {
     CHECK(has(batch, 2, two_operations, sizeof two_operations));
 }
 
-/* Where no sequence is left a batch with operations is refused. */
+/* With sequence numbers exhausted, a batch with operations fails. */
 static void spend_sequences(struct ucstore_batch *batch) {
     struct ucstore_batch none = {0};
     CHECK(ucstore_write_bytes(&store, last_one, sizeof last_one) == UCSTORE_OK);
@@ -770,7 +771,7 @@ static void spend_sequences(struct ucstore_batch *batch) {
     CHECK(last(UCSTORE_OK, (UINT64_C(1) << 56) - 1));
 }
 
-/* A batch that is written, and prepared, but not without a store. */
+/* Writes and prepares a batch. Both fail without a store. */
 static void batch_is_written(void) {
     struct ucstore_batch batch = {0};
     gather_two(&batch);
@@ -784,14 +785,14 @@ static void batch_is_written(void) {
     CHECK(ucstore_close(&store) == UCSTORE_OK && ucstore_batch_close(&batch) == UCSTORE_OK);
 }
 
-/* What adds a record for which there is no room isn't prepared. No header stands in the last six bytes of a block. */
+/* A record that does not fit the buffer is not prepared. No header is in the last six bytes of a block. */
 static void need_room(void) {
     uint8_t room[28] = {0};
     CHECK(prepare_bytes(numbered, sizeof numbered, BLOCK_END, room, 27, UCSTORE_ROOM, 33) && all(room, sizeof room, 0));
     CHECK(ucstore_commit(&store) == UCSTORE_OK && last(UCSTORE_OK, 0));
 }
 
-/* What a batch adds to logs. Nothing is taken before it is committed. */
+/* Records of batches. Nothing is visible before the commit. */
 static void record_bytes(void) {
     uint8_t room[28] = {0};
     CHECK(prepare_bytes(numbered, sizeof numbered, 0, room, 27, UCSTORE_OK, 27));
@@ -799,7 +800,7 @@ static void record_bytes(void) {
     CHECK(last(UCSTORE_OK, 0) && ucstore_commit(&store) == UCSTORE_OK && last(UCSTORE_OK, 2));
 }
 
-/* Batches that aren't prepared: no batch, and one that isn't above the last sequence. One that is given up isn't taken. */
+/* Batches that are not prepared: malformed ones, and one not above the last sequence number. One that is discarded is not written. */
 static void refuse_back(void) {
     const uint8_t none[] = {1};
     uint8_t room[27] = {0};
@@ -819,8 +820,8 @@ static void two_steps(void) {
     CHECK(ucstore_close(&store) == UCSTORE_OK);
 }
 
-/* Whether a look-up of keys of these lengths, for which there are four places, is answered so, and tells the lengths of their
- * values, the values, and their size. */
+/* Returns true if a lookup of keys of these lengths, with space for four results, has this status, lengths of values, values and total
+ * size. */
 static bool many(const char *keys, const uint64_t *key_lengths, size_t count, int32_t status, const uint64_t *wanted,
                  const char *values, size_t size) {
     uint64_t lengths[] = {7, 7, 7, 7};
@@ -831,7 +832,7 @@ static bool many(const char *keys, const uint64_t *key_lengths, size_t count, in
     return answer == status && memcmp(lengths, wanted, sizeof lengths) == 0 && begins(room, values) && told == size;
 }
 
-/* Looks up four keys, of which b has no value, and one stands twice. Then a key, another of three bytes, and two without any. */
+/* Looks up four keys, of which b has no value, and one is repeated. Then a key, another of three bytes, and two without a value. */
 static void find_four(void) {
     static const uint64_t four[] = {2, 1, UINT64_MAX, 1}, one[] = {1, UINT64_MAX, UINT64_MAX, UINT64_MAX};
     static const uint64_t uneven[] = {1, 3, 0, 0};
@@ -839,7 +840,7 @@ static void find_four(void) {
     CHECK(many("abca", uneven, 4, UCSTORE_OK, one, "1...", 1));
 }
 
-/* Looks up keys with too little room for their values, and no keys. */
+/* Looks up keys with a buffer that is too small for their values, and no keys. */
 static void find_some(void) {
     uint64_t lengths[] = {7, 7};
     uint8_t room[] = {'.', '.', '.'};
@@ -849,7 +850,7 @@ static void find_some(void) {
     CHECK(ucstore_get_many(&store, NULL, 0, NULL, 0, NULL, 0, NULL, 0, &none) == UCSTORE_OK && none == 0);
 }
 
-/* Lengths that don't add up to the keys' bytes, and too few of them for the places. A sum doesn't wrap. */
+/* Lengths whose sum is not that of the keys, and fewer lengths than results. A sum does not wrap. */
 static void refuse_lengths(const uint64_t *untold) {
     static const uint64_t fewer[] = {1, 1, 1, 0}, more[] = {1, 1, 1, 2}, wrapping[] = {UINT64_MAX, 1, 2, 2};
     CHECK(many("caba", fewer, 4, UCSTORE_BAD_KEYS, untold, "....", 7));
@@ -858,7 +859,7 @@ static void refuse_lengths(const uint64_t *untold) {
     CHECK(many("cab", ones, 3, UCSTORE_BAD_KEYS, untold, "....", 7));
 }
 
-/* Look-ups of many keys without a store, and with one that has a value of a byte, and one of two. */
+/* Lookups of several keys without a store, and with a store that has a value of one byte and one of two. */
 static void many_keys(void) {
     static const uint64_t untold[] = {7, 7, 7, 7};
     CHECK(many("caba", ones, 4, UCSTORE_NO_STORE, untold, "....", 7));
