@@ -6,7 +6,7 @@ use crate::memory::{text, Place};
 use db::Batch;
 use std::ffi::c_void;
 
-/// Makes a batch without operations.
+/// Creates an empty batch.
 #[no_mangle]
 pub unsafe extern "C" fn ucstore_db_batch_create(batch: *mut *mut BatchHandle) -> i32 {
     call(|| {
@@ -17,7 +17,7 @@ pub unsafe extern "C" fn ucstore_db_batch_create(batch: *mut *mut BatchHandle) -
     })
 }
 
-/// Adds that a key is set to a value.
+/// Adds a put.
 #[no_mangle]
 pub unsafe extern "C" fn ucstore_db_batch_put(
     batch: *mut BatchHandle,
@@ -37,7 +37,7 @@ pub unsafe extern "C" fn ucstore_db_batch_put(
     })
 }
 
-/// Adds that a key is combined with an operand.
+/// Adds a merge.
 #[no_mangle]
 pub unsafe extern "C" fn ucstore_db_batch_merge(
     batch: *mut BatchHandle,
@@ -57,7 +57,7 @@ pub unsafe extern "C" fn ucstore_db_batch_merge(
     })
 }
 
-/// Adds that a key is removed.
+/// Adds a deletion.
 #[no_mangle]
 pub unsafe extern "C" fn ucstore_db_batch_delete(
     batch: *mut BatchHandle,
@@ -72,7 +72,7 @@ pub unsafe extern "C" fn ucstore_db_batch_delete(
     })
 }
 
-/// Adds that the keys of a range are removed.
+/// Adds a deletion of a range of keys.
 #[no_mangle]
 pub unsafe extern "C" fn ucstore_db_batch_delete_range(
     batch: *mut BatchHandle,
@@ -102,7 +102,7 @@ pub unsafe extern "C" fn ucstore_db_batch_clear(batch: *mut BatchHandle) -> i32 
     })
 }
 
-/// Tells how many operations there are.
+/// Stores the number of operations.
 #[no_mangle]
 pub unsafe extern "C" fn ucstore_db_batch_count(batch: *const BatchHandle, count: *mut u64) -> i32 {
     call(|| {

@@ -72,7 +72,7 @@ pub(crate) fn call(work: impl FnOnce() -> Result<(), Refusal>) -> i32 {
     }
 }
 
-/// The message of this thread's last call that was refused, lent until the next one that is.
+/// Returns the message of this thread's last failed call, valid until the thread's next failed call.
 #[no_mangle]
 pub extern "C" fn ucstore_db_error_text() -> *const c_char {
     SAID.try_with(|said| said.borrow().as_ptr())
@@ -105,7 +105,9 @@ mod tests {
     #[test]
     fn each_thread_has_a_text_of_its_own() {
         assert_eq!(call(|| Err(Status::Forked.into())), Status::Forked as i32);
-        thread::spawn(|| assert_eq!(said(), "success")).join().unwrap();
+        thread::spawn(|| assert_eq!(said(), "success"))
+            .join()
+            .unwrap();
         // A call that is done leaves it.
         assert_eq!(call(|| Ok(())), 0);
         assert_eq!(said(), "process was forked after the database was opened");

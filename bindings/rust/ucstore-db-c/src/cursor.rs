@@ -9,7 +9,7 @@ use std::ffi::{c_char, c_void};
 use std::ptr;
 use std::slice;
 
-/// A row of a range of keys, at which it stands.
+/// A cursor over a range of keys, positioned at a row.
 pub struct Cursor {
     snapshot: Snapshot,
     low: Vec<u8>,
@@ -162,7 +162,7 @@ fn end_of_prefix(prefix: &[u8]) -> Option<Vec<u8>> {
     Some(end)
 }
 
-/// A cursor over a range of what a database holds now.
+/// Creates a cursor over a range of the current state of a database.
 #[no_mangle]
 pub unsafe extern "C" fn ucstore_db_cursor(
     db: *const DbHandle,
@@ -188,7 +188,7 @@ pub unsafe extern "C" fn ucstore_db_cursor(
     })
 }
 
-/// A cursor over the keys that begin with some bytes, of what a database holds now.
+/// Creates a cursor over the keys with a prefix, of the current state of a database.
 #[no_mangle]
 pub unsafe extern "C" fn ucstore_db_prefix(
     db: *const DbHandle,
@@ -209,7 +209,7 @@ pub unsafe extern "C" fn ucstore_db_prefix(
     })
 }
 
-/// A cursor over a range of a snapshot.
+/// Creates a cursor over a range of a snapshot.
 #[no_mangle]
 pub unsafe extern "C" fn ucstore_db_snapshot_cursor(
     snapshot: *const SnapshotHandle,
@@ -231,7 +231,7 @@ pub unsafe extern "C" fn ucstore_db_snapshot_cursor(
     })
 }
 
-/// A cursor over the keys of a snapshot that begin with some bytes.
+/// Creates a cursor over the keys of a snapshot with a prefix.
 #[no_mangle]
 pub unsafe extern "C" fn ucstore_db_snapshot_prefix(
     snapshot: *const SnapshotHandle,
@@ -252,7 +252,7 @@ pub unsafe extern "C" fn ucstore_db_snapshot_prefix(
     })
 }
 
-/// Goes to the first row at or above a key.
+/// Moves to the first row at or above a key.
 #[no_mangle]
 pub unsafe extern "C" fn ucstore_db_cursor_seek(
     cursor: *mut CursorHandle,
@@ -266,21 +266,21 @@ pub unsafe extern "C" fn ucstore_db_cursor_seek(
     })
 }
 
-/// Goes to the next row.
+/// Moves to the next row.
 #[no_mangle]
 pub unsafe extern "C" fn ucstore_db_cursor_next(cursor: *mut CursorHandle) -> i32 {
     // SAFETY: C owes the handle, which no other call uses.
     call(|| unsafe { Handle::get_mut(cursor) }?.step())
 }
 
-/// Whether it stands at a row.
+/// Returns true if the cursor is positioned at a row.
 #[no_mangle]
 pub unsafe extern "C" fn ucstore_db_cursor_valid(cursor: *const CursorHandle) -> bool {
     // SAFETY: C owes the handle, which no other call changes.
     unsafe { Handle::get(cursor) }.is_ok_and(|cursor| cursor.row.is_some())
 }
 
-/// Lends the key of the row.
+/// Returns a pointer to the key of the row, valid until the cursor is moved or closed.
 #[no_mangle]
 pub unsafe extern "C" fn ucstore_db_cursor_key(
     cursor: *const CursorHandle,
@@ -290,7 +290,7 @@ pub unsafe extern "C" fn ucstore_db_cursor_key(
     unsafe { lend(cursor, length, |row| row.key) }
 }
 
-/// Lends the value of the row.
+/// Returns a pointer to the value of the row, valid until the cursor is moved or closed.
 #[no_mangle]
 pub unsafe extern "C" fn ucstore_db_cursor_value(
     cursor: *const CursorHandle,
@@ -324,7 +324,7 @@ unsafe fn lend(
     lent.at.cast()
 }
 
-/// Tells why no row could be fetched, if that is so.
+/// Returns the error of the last move, if it failed.
 #[no_mangle]
 pub unsafe extern "C" fn ucstore_db_cursor_status(cursor: *const CursorHandle) -> i32 {
     call(|| {
@@ -336,7 +336,7 @@ pub unsafe extern "C" fn ucstore_db_cursor_status(cursor: *const CursorHandle) -
     })
 }
 
-/// Copies rows from the one on at which it stands, and moves past them.
+/// Copies rows, starting at the current one, and moves past them.
 #[no_mangle]
 pub unsafe extern "C" fn ucstore_db_cursor_page(
     cursor: *mut CursorHandle,

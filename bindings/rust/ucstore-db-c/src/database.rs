@@ -28,7 +28,7 @@ unsafe fn open_by(
     Ok(())
 }
 
-/// Opens the database of a folder.
+/// Opens the database in a directory.
 #[no_mangle]
 pub unsafe extern "C" fn ucstore_db_open(
     folder: *const c_char,
@@ -46,7 +46,7 @@ pub unsafe extern "C" fn ucstore_db_open(
     })
 }
 
-/// Makes an empty database that ends with its process.
+/// Creates an empty database in memory.
 #[no_mangle]
 pub unsafe extern "C" fn ucstore_db_in_memory(
     options: *const COptions,
@@ -56,7 +56,7 @@ pub unsafe extern "C" fn ucstore_db_in_memory(
     call(|| unsafe { open_by(options, db, Db::in_memory) })
 }
 
-/// Ends a database, whose handle stays.
+/// Shuts a database down, and keeps its handle.
 #[no_mangle]
 pub unsafe extern "C" fn ucstore_db_end(db: *const DbHandle) -> i32 {
     // SAFETY: C owes the handle.
@@ -104,7 +104,7 @@ pub unsafe extern "C" fn ucstore_db_put(
     })
 }
 
-/// Combines a key with an operand.
+/// Merges an operand into a key's value.
 #[no_mangle]
 pub unsafe extern "C" fn ucstore_db_merge(
     db: *const DbHandle,
@@ -126,7 +126,7 @@ pub unsafe extern "C" fn ucstore_db_merge(
     })
 }
 
-/// Removes a key.
+/// Deletes a key.
 #[no_mangle]
 pub unsafe extern "C" fn ucstore_db_delete(
     db: *const DbHandle,
@@ -140,7 +140,7 @@ pub unsafe extern "C" fn ucstore_db_delete(
     })
 }
 
-/// Removes the keys of a range.
+/// Deletes a range of keys.
 #[no_mangle]
 pub unsafe extern "C" fn ucstore_db_delete_range(
     db: *const DbHandle,
@@ -162,7 +162,7 @@ pub unsafe extern "C" fn ucstore_db_delete_range(
     })
 }
 
-/// Takes a batch, acknowledged as the options say.
+/// Writes a batch, durable as the options say.
 #[no_mangle]
 pub unsafe extern "C" fn ucstore_db_write(db: *const DbHandle, batch: *const BatchHandle) -> i32 {
     call(|| {
@@ -172,7 +172,7 @@ pub unsafe extern "C" fn ucstore_db_write(db: *const DbHandle, batch: *const Bat
     })
 }
 
-/// Takes a batch, which is on the device when this returns, or not.
+/// Writes a batch, durable on return if `synced` is true.
 #[no_mangle]
 pub unsafe extern "C" fn ucstore_db_write_with(
     db: *const DbHandle,
@@ -186,7 +186,7 @@ pub unsafe extern "C" fn ucstore_db_write_with(
     })
 }
 
-/// Takes a batch that is spelled already, with its own sequence.
+/// Writes a batch in RocksDB's format, with its own sequence number.
 #[no_mangle]
 pub unsafe extern "C" fn ucstore_db_write_bytes(
     db: *const DbHandle,
@@ -201,14 +201,14 @@ pub unsafe extern "C" fn ucstore_db_write_bytes(
     })
 }
 
-/// Waits until all acknowledged writes are on the device.
+/// Waits until all acknowledged writes are durable.
 #[no_mangle]
 pub unsafe extern "C" fn ucstore_db_sync(db: *const DbHandle) -> i32 {
     // SAFETY: C owes the handle.
     call(|| Ok(unsafe { Handle::get(db) }?.sync()?))
 }
 
-/// Copies the value under a key.
+/// Copies the value of a key.
 #[no_mangle]
 pub unsafe extern "C" fn ucstore_db_get(
     db: *const DbHandle,
@@ -228,7 +228,7 @@ pub unsafe extern "C" fn ucstore_db_get(
     })
 }
 
-/// Copies the values of many keys, at one moment.
+/// Copies the values of several keys, at one point in time.
 #[no_mangle]
 pub unsafe extern "C" fn ucstore_db_get_many(
     db: *const DbHandle,
@@ -252,7 +252,7 @@ pub unsafe extern "C" fn ucstore_db_get_many(
     })
 }
 
-/// Takes a snapshot of a database.
+/// Takes a snapshot.
 #[no_mangle]
 pub unsafe extern "C" fn ucstore_db_snapshot(
     db: *const DbHandle,
@@ -266,7 +266,7 @@ pub unsafe extern "C" fn ucstore_db_snapshot(
     })
 }
 
-/// Gives out the snapshot of a mark.
+/// Returns the snapshot of a mark.
 #[no_mangle]
 pub unsafe extern "C" fn ucstore_db_take_mark(
     db: *const DbHandle,
@@ -282,28 +282,28 @@ pub unsafe extern "C" fn ucstore_db_take_mark(
     })
 }
 
-/// Makes a run of what is gathered.
+/// Flushes the memtables.
 #[no_mangle]
 pub unsafe extern "C" fn ucstore_db_flush(db: *const DbHandle) -> i32 {
     // SAFETY: C owes the handle.
     call(|| Ok(unsafe { Handle::get(db) }?.flush()?))
 }
 
-/// Compacts until nothing is picked.
+/// Compacts until no compaction is due.
 #[no_mangle]
 pub unsafe extern "C" fn ucstore_db_compact(db: *const DbHandle) -> i32 {
     // SAFETY: C owes the handle.
     call(|| Ok(unsafe { Handle::get(db) }?.compact()?))
 }
 
-/// Writes all that a database holds to a base.
+/// Writes a checkpoint.
 #[no_mangle]
 pub unsafe extern "C" fn ucstore_db_checkpoint(db: *const DbHandle) -> i32 {
     // SAFETY: C owes the handle.
     call(|| Ok(unsafe { Handle::get(db) }?.checkpoint()?))
 }
 
-/// Writes what a snapshot has to a base.
+/// Writes a checkpoint of a snapshot.
 #[no_mangle]
 pub unsafe extern "C" fn ucstore_db_checkpoint_to(
     db: *const DbHandle,
@@ -319,14 +319,14 @@ pub unsafe extern "C" fn ucstore_db_checkpoint_to(
     })
 }
 
-/// Goes on in a new log.
+/// Switches to a new log.
 #[no_mangle]
 pub unsafe extern "C" fn ucstore_db_next_log(db: *const DbHandle) -> i32 {
     // SAFETY: C owes the handle.
     call(|| Ok(unsafe { Handle::get(db) }?.next_log()?))
 }
 
-/// Tells why nothing can be written any more, if that is so.
+/// Returns the error after which the database takes no more writes, if there is one.
 #[no_mangle]
 pub unsafe extern "C" fn ucstore_db_failure(db: *const DbHandle) -> i32 {
     call(|| {

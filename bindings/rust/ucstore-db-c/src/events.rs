@@ -1,4 +1,4 @@
-//! [`CEvent`] and [`CProgress`]: what a database tells functions of C.
+//! [`CEvent`] and [`CProgress`]: the arguments of callbacks.
 
 use crate::call::Refusal;
 use crate::status::Status;
@@ -16,34 +16,34 @@ const SET_ASIDE: u32 = 5;
 /// `struct ucstore_db_progress`.
 #[repr(C)]
 pub struct CProgress {
-    /// The name of the file that is read.
+    /// Name of the file being read.
     pub file: *const c_char,
-    /// The number of bytes read, of all files.
+    /// Number of bytes read so far, of all files.
     pub read: u64,
-    /// The size of all files in bytes.
+    /// Number of bytes of all files.
     pub whole: u64,
 }
 
 /// `struct ucstore_db_event`.
 #[repr(C)]
 pub struct CEvent {
-    /// The kind of the event.
+    /// Kind of the event.
     pub kind: u32,
-    /// Of a failure its status, else 0.
+    /// Status of a failure, else 0.
     pub status: i32,
-    /// The number of runs.
+    /// Number of runs.
     pub runs: u64,
-    /// The size of a flush or a checkpoint in bytes.
+    /// Size in bytes, see the kind.
     pub bytes: u64,
-    /// The time that it took.
+    /// Duration.
     pub microseconds: u64,
-    /// The name of a base, or what failed.
+    /// File name or error message, see the kind.
     pub text: *const c_char,
 }
 
-/// A function that is told how far an opening is.
+/// A callback with the progress of an opening.
 pub type ProgressFunction = Option<unsafe extern "C" fn(*mut c_void, *const CProgress)>;
-/// A function that is told what a database does.
+/// A callback with the events of a database.
 pub type EventFunction = Option<unsafe extern "C" fn(*mut c_void, *const CEvent)>;
 
 /// An address that C's function is given, and nothing else is done with.

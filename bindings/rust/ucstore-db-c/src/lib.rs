@@ -1,10 +1,11 @@
-//! The functions of `bindings/c/ucstore_db.h` over [`db::Db`]. The header says what each does, and what its caller owes.
-//! Here they are: read `call.rs` and `handle.rs` first. `bindings/check_db_header` compares both.
+//! The functions of `bindings/c/ucstore_db.h` over [`db::Db`]. The header documents them and the requirements on the caller. Read
+//! `call.rs` and `handle.rs` first. `bindings/check_db_header` compares the header with this crate.
 //!
-//! # Why the calls are sound
+//! # Soundness
 //!
-//! The header lets C pass addresses of what it owns, with lengths, and those that the library gave. Null is refused. What
-//! is lent to C lies in a handle, and stays until the call that the header names. A panic becomes a status.
+//! The header lets C pass pointers to its own memory, with lengths, and pointers that the library has returned. Null pointers are
+//! rejected. Memory that is returned to C belongs to a handle, and stays valid until the call that the header names. A panic
+//! becomes a status.
 #![deny(unsafe_op_in_unsafe_fn)]
 #![warn(missing_docs, clippy::undocumented_unsafe_blocks)]
 // The header says what a caller must ensure.
@@ -34,10 +35,10 @@ pub use snapshot::*;
 pub use stats::{ucstore_db_stats, ucstore_db_stats_text, CStats};
 pub use status::Status;
 
-/// The version of the functions. It grows when one of them, or a status, changes its meaning.
+/// The version of the binary interface. It changes when a function or a status changes its meaning.
 pub const ABI: u32 = 2;
 
-/// Tells [`ABI`].
+/// Returns [`ABI`].
 #[no_mangle]
 pub extern "C" fn ucstore_db_version() -> u32 {
     ABI

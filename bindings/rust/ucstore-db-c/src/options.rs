@@ -1,4 +1,4 @@
-//! [`COptions`]: how a database is kept, as C has it.
+//! [`COptions`]: options of a database, as C has them.
 
 use crate::call::{call, Refusal};
 use crate::events::{events_of, progress_of, EventFunction, ProgressFunction};
@@ -22,57 +22,57 @@ const LEAST_SIZE: usize = offset_of!(COptions, recover_to);
 #[derive(Clone, Copy)]
 #[repr(C)]
 pub struct COptions {
-    /// The size of the struct.
+    /// Size of the struct.
     pub size: usize,
-    /// The number of the operator.
+    /// Number of the merge operator.
     pub merge_operator: u32,
-    /// When a write is on the device.
+    /// Time at which an acknowledged write becomes durable.
     pub sync: u32,
-    /// The time between two syncs in milliseconds, if it syncs from time to time.
+    /// Period of syncs in milliseconds.
     pub sync_milliseconds: u64,
-    /// From how many bytes on the memtable is full.
+    /// Size in bytes at which the memtable is flushed.
     pub write_buffer_size: u64,
-    /// From how many runs on something is compacted.
+    /// Number of runs at which compaction starts.
     pub compaction_trigger: u32,
-    /// From how many runs on a write compacts.
+    /// Number of runs at which a writer compacts before it writes.
     pub stop_trigger: u32,
-    /// By how many percent a run may be larger than those above it.
+    /// Percentage by which a run may exceed the newer ones that are compacted with it.
     pub size_ratio: u32,
-    /// Above how many percent of the oldest run the newer ones are compacted with it.
+    /// Size of the newer runs, in percent of the oldest, above which all are compacted.
     pub max_size_amplification_percent: u32,
-    /// The least number of runs for a compaction by size ratio.
+    /// Minimum number of runs compacted by size ratio.
     pub min_merge_width: u32,
-    /// The greatest number of runs for a compaction.
+    /// Maximum number of runs in a compaction.
     pub max_merge_width: u32,
-    /// The number of threads that compact.
+    /// Number of compaction threads.
     pub compactors: u32,
-    /// From how many runs on writes are slowed.
+    /// Number of runs at which each write is delayed.
     pub slow_trigger: u32,
-    /// By how many times the logs exceed the data when a checkpoint is made.
+    /// Size of the logs, as a multiple of the data's, at which a checkpoint is made.
     pub checkpoint_ratio: u64,
-    /// The least size of the logs in bytes at which a checkpoint is made.
+    /// Minimum size of the logs in bytes for a checkpoint.
     pub checkpoint_least: u64,
-    /// Not 0 to open a damaged folder up to the damage.
+    /// Nonzero to open a corrupted database up to the corruption.
     pub recovers_to_fault: u32,
-    /// Is told how far an opening is.
+    /// Called with the progress of an opening.
     pub progress: ProgressFunction,
-    /// The first argument that it is given.
+    /// First argument of `progress`.
     pub progress_context: *mut c_void,
-    /// Is told what the database does.
+    /// Called with each event.
     pub event: EventFunction,
-    /// The first argument that it is given.
+    /// First argument of `event`.
     pub event_context: *mut c_void,
-    /// The sequence after which everything in the files is given up.
+    /// Sequence number after which all writes are discarded.
     pub recover_to: u64,
-    /// Up to which sequence a batch may begin that is given up.
+    /// Last sequence number at which a discarded batch may begin.
     pub give_up_until: u64,
-    /// Sequences at which snapshots are made.
+    /// Sequence numbers to take snapshots at.
     pub marks: *const u64,
-    /// Their number.
+    /// Number of `marks`.
     pub marks_count: usize,
-    /// Not 0 to open only a database that is there.
+    /// Nonzero to fail instead of creating a database.
     pub must_exist: u32,
-    /// None.
+    /// Must be 0.
     pub reserved: u32,
 }
 
@@ -183,7 +183,7 @@ fn operator_of(number: u32) -> Result<Operator, Refusal> {
     }
 }
 
-/// Fills in the default options, of a struct as large as the caller says.
+/// Sets the default options, in a struct of the caller's size.
 #[no_mangle]
 pub unsafe extern "C" fn ucstore_db_options_init(options: *mut COptions, size: usize) -> i32 {
     call(|| {

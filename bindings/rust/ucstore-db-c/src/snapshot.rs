@@ -128,7 +128,7 @@ impl Values {
     }
 }
 
-/// Puts a snapshot into another handle too.
+/// Creates another handle to a snapshot.
 #[no_mangle]
 pub unsafe extern "C" fn ucstore_db_snapshot_again(
     snapshot: *const SnapshotHandle,
@@ -142,7 +142,7 @@ pub unsafe extern "C" fn ucstore_db_snapshot_again(
     })
 }
 
-/// Tells the sequence of the last write that a snapshot has.
+/// Stores the sequence number of the last write in a snapshot.
 #[no_mangle]
 pub unsafe extern "C" fn ucstore_db_snapshot_sequence(
     snapshot: *const SnapshotHandle,
@@ -156,7 +156,7 @@ pub unsafe extern "C" fn ucstore_db_snapshot_sequence(
     })
 }
 
-/// Copies the value under a key.
+/// Copies the value of a key.
 #[no_mangle]
 pub unsafe extern "C" fn ucstore_db_snapshot_get(
     snapshot: *const SnapshotHandle,
@@ -180,7 +180,7 @@ pub unsafe extern "C" fn ucstore_db_snapshot_get(
     })
 }
 
-/// Copies the values of many keys.
+/// Copies the values of several keys.
 #[no_mangle]
 pub unsafe extern "C" fn ucstore_db_snapshot_get_many(
     snapshot: *const SnapshotHandle,

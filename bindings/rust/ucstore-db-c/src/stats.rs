@@ -1,4 +1,4 @@
-//! [`CStats`]: what a database holds and did, as C has it.
+//! [`CStats`]: statistics of a database, as C has them.
 
 use crate::call::call;
 use crate::handle::{DbHandle, Handle};
@@ -16,63 +16,63 @@ const LEAST_SIZE: usize = offset_of!(CStats, lookups_by_memtable);
 #[derive(Clone, Copy)]
 #[repr(C)]
 pub struct CStats {
-    /// The size of the struct.
+    /// Size of the struct.
     pub size: usize,
-    /// For how many microseconds it is open.
+    /// Time since the database was opened, in microseconds.
     pub uptime: u64,
-    /// The sequence of the last write.
+    /// Sequence number of the last write.
     pub last: u64,
-    /// The number of runs.
+    /// Number of runs.
     pub runs: u64,
-    /// The bytes of all runs.
+    /// Size of the runs in bytes.
     pub bytes: u64,
-    /// The number of writes that no run has yet.
+    /// Number of writes in the memtables.
     pub gathered: u64,
-    /// The bytes of the logs that no checkpoint holds.
+    /// Size in bytes of the logs that no checkpoint covers.
     pub log_bytes: u64,
-    /// The number of batches taken.
+    /// Number of batches written.
     pub batches: u64,
-    /// The number of records of the log that they shared.
+    /// Number of log records they were written in.
     pub groups: u64,
-    /// The bytes of the batches.
+    /// Bytes of the batches.
     pub user_bytes: u64,
-    /// The bytes that were appended to logs.
+    /// Bytes appended to logs.
     pub logged_bytes: u64,
-    /// The bytes of the bases that were written.
+    /// Bytes of the checkpoints written.
     pub base_bytes: u64,
-    /// The number of keys looked up.
+    /// Number of keys looked up.
     pub lookups: u64,
-    /// The number of syncs of a log.
+    /// Number of syncs of logs.
     pub syncs: u64,
-    /// The microseconds that half of the last 1,024 syncs kept to.
+    /// Median duration of the last 1,024 syncs, in microseconds.
     pub sync_p50: u64,
-    /// The microseconds that 99 percent of them kept to.
+    /// 99th percentile of the same.
     pub sync_p99: u64,
-    /// The number of times that writes began to be slowed, or waited.
+    /// Number of times that writes started to be slowed or stopped.
     pub stalls: u64,
-    /// The number of groups of writes that were slowed.
+    /// Number of log records whose writes were slowed.
     pub slowed: u64,
-    /// For how many microseconds writes were slowed or waited.
+    /// Total time for which writes were slowed or stopped, in microseconds.
     pub stalled: u64,
-    /// The number of runs made of gathered writes.
+    /// Number of flushes.
     pub flushes: u64,
-    /// The number of compactions.
+    /// Number of compactions.
     pub compactions: u64,
-    /// The bytes of the runs that flushes made.
+    /// Bytes of the runs made by flushes.
     pub flush_bytes: u64,
-    /// The bytes of the runs that were compacted.
+    /// Bytes of the runs read by compactions.
     pub compaction_read: u64,
-    /// The bytes of the runs that compactions made.
+    /// Bytes of the runs made by compactions.
     pub compaction_written: u64,
-    /// The number of checkpoints made.
+    /// Number of checkpoints.
     pub checkpoints: u64,
-    /// About how many of the lookups the memtables answered.
+    /// Estimated number of lookups that the memtables answered.
     pub lookups_by_memtable: u64,
-    /// About how many of them filters answered.
+    /// Estimated number of lookups that the filters answered.
     pub lookups_by_filters: u64,
-    /// About how many of them runs answered.
+    /// Estimated number of lookups that searched runs.
     pub lookups_by_runs: u64,
-    /// The bytes that the opening cut off the last log and set aside.
+    /// Bytes that opening cut off the last log and set aside.
     pub set_aside_bytes: u64,
 }
 
@@ -113,7 +113,7 @@ impl From<Stats> for CStats {
     }
 }
 
-/// Tells what a database holds and did, in numbers.
+/// Stores statistics.
 #[no_mangle]
 pub unsafe extern "C" fn ucstore_db_stats(db: *const DbHandle, stats: *mut CStats) -> i32 {
     call(|| {
@@ -136,7 +136,7 @@ pub unsafe extern "C" fn ucstore_db_stats(db: *const DbHandle, stats: *mut CStat
     })
 }
 
-/// Tells it as a table.
+/// Writes statistics as a table.
 #[no_mangle]
 pub unsafe extern "C" fn ucstore_db_stats_text(
     db: *const DbHandle,

@@ -1,9 +1,9 @@
-//! [`Status`]: what a call answers.
+//! [`Status`]: the result of a call.
 
 use db::{ucstore, Error};
 use std::ffi::CStr;
 
-/// The status that a call returns. Below 64 the numbers are those of `ucstore.h`.
+/// The result of a call. Numbers below 64 are those of `ucstore.h`.
 #[derive(Clone, Copy, Debug, PartialEq, Eq)]
 #[repr(i32)]
 pub enum Status {
@@ -64,7 +64,7 @@ pub enum Status {
 }
 
 impl Status {
-    /// The message where nothing else is known.
+    /// Returns the message that is used if no other is known.
     pub(crate) fn text(self) -> &'static CStr {
         match self {
             Status::Ok => c"success",

@@ -403,7 +403,10 @@ fn what_is_no_batch_is_refused_before_it_is_logged() {
     let mut back = whole.clone();
     back[0] = 1;
     let refused = db.write_bytes(&back, true).unwrap_err();
-    assert_eq!(refused.to_string(), "sequence number not above the last one");
+    assert_eq!(
+        refused.to_string(),
+        "sequence number not above the last one"
+    );
     back[..8].copy_from_slice(&u64::MAX.to_le_bytes());
     assert!(matches!(db.write_bytes(&back, true), Err(Error::Store(_))));
     db.write_bytes(&Batch::new().bytes(), true).unwrap();

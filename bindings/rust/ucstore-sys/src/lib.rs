@@ -1,4 +1,4 @@
-//! The functions of `ucstore.h`, with its names. The header says what each does and what its caller owes; the crate
+//! The functions of `ucstore.h`, under the same names. The header documents them and the requirements on the caller; the crate
 //! `ucstore` calls them safely.
 #![allow(non_camel_case_types)]
 
@@ -63,44 +63,44 @@ pub const UCSTORE_HAS_CHECKPOINT: i32 = 27;
 /// Gap in sequence numbers.
 pub const UCSTORE_SEQUENCE_GAP: i32 = 28;
 
-/// One of the gathered writes puts or deletes the key.
+/// The memtables: they hold a put or a deletion of the key, or a range deletion over it.
 pub const UCSTORE_MEMTABLE: u32 = 0;
-/// None of them does, and no write of a run touches the key.
+/// The filters: the memtables do not answer, and no run has a write of the key.
 pub const UCSTORE_FILTERS: u32 = 1;
-/// None of them does, and a write of a run touches the key.
+/// The runs: the memtables do not answer, and a run has a write of the key.
 pub const UCSTORE_RUNS: u32 = 2;
 
-/// A handle: no store if it is all zeros.
+/// A handle to a store. All zeros: no store.
 #[repr(C)]
 pub struct ucstore {
     pub at: *mut c_void,
 }
 
-/// A batch: no operations if it is all zeros.
+/// A batch. All zeros: no operations.
 #[repr(C)]
 pub struct ucstore_batch {
     pub at: *mut c_void,
 }
 
-/// What a store held at a moment: none if it is all zeros.
+/// A handle to a view. All zeros: no view.
 #[repr(C)]
 pub struct ucstore_view {
     pub at: *mut c_void,
 }
 
-/// A view whose rows are laid out as a log: none if it is all zeros.
+/// A handle to a checkpoint. All zeros: no checkpoint.
 #[repr(C)]
 pub struct ucstore_checkpoint {
     pub at: *mut c_void,
 }
 
-/// A compaction that is taken out of a store: none if it is all zeros.
+/// A handle to a job. All zeros: no job.
 #[repr(C)]
 pub struct ucstore_job {
     pub at: *mut c_void,
 }
 
-/// How a store is kept.
+/// Options of a store.
 #[repr(C)]
 #[derive(Clone, Copy, Debug, Default)]
 pub struct ucstore_options {
@@ -113,11 +113,11 @@ pub struct ucstore_options {
     pub min_merge_width: u32,
     pub max_merge_width: u32,
     pub compacts_itself: u32,
-    /// How many memtables are gathered at most, at least 1.
+    /// Maximum number of memtables, at least 1.
     pub max_write_buffer_number: u32,
 }
 
-/// What a store holds, in numbers.
+/// Statistics of a store.
 #[repr(C)]
 #[derive(Clone, Copy, Debug, Default)]
 pub struct ucstore_report {
@@ -131,7 +131,7 @@ pub struct ucstore_report {
     pub last: u64,
 }
 
-/// How a log ended.
+/// Where and why reading a log ended.
 #[repr(C)]
 #[derive(Clone, Copy, Debug, Default)]
 pub struct ucstore_ended {
@@ -140,7 +140,7 @@ pub struct ucstore_ended {
     pub place: u64,
 }
 
-/// A place in a log, between two batches.
+/// A position in a log, between two batches.
 #[repr(C)]
 #[derive(Clone, Copy, Debug, Default)]
 pub struct ucstore_log_place {

@@ -1,4 +1,4 @@
-//! [`Batch`]: operations that a store takes at once.
+//! [`Batch`]: operations that a store writes atomically.
 
 use crate::error::{check, Error};
 use crate::sys;
@@ -6,7 +6,7 @@ use std::cell::UnsafeCell;
 use std::fmt;
 use std::ptr;
 
-/// Operations that a store takes at once. They may be written more than once.
+/// Operations that a store writes atomically. A batch may be written more than once.
 ///
 /// ```
 /// # fn main() -> Result<(), ucstore::Error> {
@@ -17,7 +17,7 @@ use std::ptr;
 /// # }
 /// ```
 ///
-/// A batch may go from thread to thread (`Send`), and threads don't share it (`!Sync`).
+/// A batch may move between threads (`Send`), but threads can't share it (`!Sync`).
 pub struct Batch {
     handle: UnsafeCell<sys::ucstore_batch>,
 }
@@ -26,7 +26,7 @@ pub struct Batch {
 unsafe impl Send for Batch {}
 
 impl Batch {
-    /// A batch without operations.
+    /// Creates an empty batch.
     pub fn new() -> Batch {
         Batch {
             handle: UnsafeCell::new(sys::ucstore_batch {
@@ -35,12 +35,12 @@ impl Batch {
         }
     }
 
-    /// Adds that a key is set to a value.
+    /// Adds a put.
     ///
     /// # Errors
     ///
-    /// [`Error::TooLong`] if a text has 2^32 bytes or more, [`Error::BatchFull`] after 2^32 - 1 operations,
-    /// [`Error::OutOfMemory`]. The batch has the operations that it had.
+    /// [`Error::TooLong`] if the key or the value has 2^32 bytes or more, [`Error::BatchFull`] after 2^32 - 1 operations,
+    /// [`Error::OutOfMemory`]. On an error the batch is unchanged.
     pub fn put(
         &mut self,
         key: impl AsRef<[u8]>,
@@ -49,7 +49,7 @@ impl Batch {
         self.add(sys::ucstore_batch_put, key.as_ref(), value.as_ref())
     }
 
-    /// Adds that a key is combined with an operand.
+    /// Adds a merge.
     ///
     /// # Errors
     ///
@@ -62,7 +62,7 @@ impl Batch {
         self.add(sys::ucstore_batch_merge, key.as_ref(), operand.as_ref())
     }
 
-    /// Adds that a key is removed.
+    /// Adds a deletion.
     ///
     /// # Errors
     ///
@@ -73,7 +73,7 @@ impl Batch {
         Ok(self)
     }
 
-    /// Adds that each key from `begin` to below `end` is removed: none if `begin` isn't below `end`.
+    /// Adds a deletion of all keys from `begin` (inclusive) to `end` (exclusive). The range may be empty.
     ///
     /// # Errors
     ///
@@ -90,7 +90,7 @@ impl Batch {
         )
     }
 
-    /// How many operations there are.
+    /// Returns the number of operations.
     pub fn len(&self) -> usize {
         let mut count = 0;
         // It always answers that it did, as the other calls without a check do.
@@ -98,28 +98,28 @@ impl Batch {
         count as usize
     }
 
-    /// Whether there are none.
+    /// Returns true if there are no operations.
     pub fn is_empty(&self) -> bool {
         self.len() == 0
     }
 
-    /// Removes all operations. The memory stays for others.
+    /// Removes all operations, and keeps their memory for new ones.
     pub fn clear(&mut self) {
         unsafe { sys::ucstore_batch_clear(self.handle()) };
     }
 
-    /// The batch as RocksDB writes it: 8 bytes for the sequence of the first operation, 4 for the count, and the
+    /// Returns the batch in RocksDB's format: 8 bytes for the sequence number of the first operation, 4 for the count, and the
     /// operations.
     ///
-    /// A sequence is set by writing it over the 8 bytes, low byte first. It is 0, which stands for the one after the
-    /// store's last one.
+    /// The sequence number is 0, which means the one after the store's last one. To set another one, overwrite the 8 bytes,
+    /// little-endian.
     pub fn bytes(&self) -> Vec<u8> {
         let mut bytes = Vec::new();
         self.bytes_into(&mut bytes);
         bytes
     }
 
-    /// The [`bytes`](Batch::bytes) of a batch that may be too large for the memory that is left.
+    /// Returns the [`bytes`](Batch::bytes) of a batch, or an error if they do not fit the available memory.
     ///
     /// # Errors
     ///

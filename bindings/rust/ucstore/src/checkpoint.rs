@@ -14,13 +14,12 @@ const MOST_ROWS: u64 = 4096;
 /// How many bytes a piece has at most that has more rows than one.
 const ROOM_BYTES: usize = 64 * 1024;
 
-/// The rows of a view at its last sequence as a write-ahead log, as [`View::checkpoint`] makes it.
+/// The rows of a view at its last sequence number as a write-ahead log, piece by piece, from [`View::checkpoint`].
 ///
-/// [`Store::open`](crate::Store::open) opens a store of exactly these rows from its pieces, one behind the other. They are
-/// numbered from 1. There are at most as many as the view's last sequence, so batches that were written later go on behind
-/// them.
+/// [`Store::open`](crate::Store::open) opens a store of exactly these rows from the concatenated pieces. The rows are
+/// numbered from 1. Their number is at most the view's last sequence number, so later batches can follow them in the same log.
 ///
-/// As an iterator it copies each piece. [`next_piece`](Checkpoint::next_piece) lends it instead:
+/// As an iterator it copies each piece. [`next_piece`](Checkpoint::next_piece) returns a reference instead:
 ///
 /// ```
 /// # use ucstore::{Ended, Operator, Options, Store};
@@ -69,11 +68,11 @@ impl Checkpoint {
         Ok(checkpoint)
     }
 
-    /// The next bytes of the log, lent until the next call; none behind the last row.
+    /// Returns the next bytes of the log, valid until the next call, or `None` after the last row.
     ///
     /// # Errors
     ///
-    /// [`Error::TooLong`], [`Error::OutOfMemory`]. No piece comes behind one.
+    /// [`Error::TooLong`], [`Error::OutOfMemory`]. After an error there are no more pieces.
     pub fn next_piece(&mut self) -> Result<Option<&[u8]>, Error> {
         if self.is_done {
             return Ok(None);

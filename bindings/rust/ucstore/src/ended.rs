@@ -1,43 +1,43 @@
-//! [`Ended`]: how a log ends.
+//! [`Ended`]: where and why reading a log ended.
 
 use crate::sys::ucstore_ended;
 use std::fmt;
 
-/// How far a log can be read.
+/// Where and why reading a log ended.
 #[derive(Clone, Copy, Debug, PartialEq, Eq, Hash)]
 pub enum Ended {
-    /// To its end.
+    /// At the end of the log.
     Clean,
-    /// To a record or payload that was still being written, as after a crash.
+    /// At an incomplete record or payload, which was being written at a crash.
     Torn {
-        /// Where it begins.
+        /// Offset at which it begins.
         offset: u64,
     },
-    /// To a fault of a record.
+    /// At a fault of a record.
     LogFault {
-        /// Where it is.
+        /// Offset of the record.
         offset: u64,
-        /// What is wrong.
+        /// The fault.
         fault: LogFault,
     },
-    /// To a payload that isn't a batch that may follow.
+    /// At a payload that is not a valid next batch.
     BatchFault {
-        /// Which payload it is, from 1.
+        /// Number of the payload, from 1.
         payload: u64,
-        /// What is wrong.
+        /// The fault.
         fault: BatchFault,
     },
 }
 
-/// What is wrong with a record of a log.
+/// Faults of a log record.
 #[derive(Clone, Copy, Debug, PartialEq, Eq, Hash)]
 #[non_exhaustive]
 pub enum LogFault {
-    /// A length past its block's end.
+    /// The length is past the end of the block.
     BadLength,
-    /// A checksum that doesn't match.
+    /// The checksum does not match.
     BadChecksum,
-    /// An unknown type.
+    /// The type is unknown.
     UnsupportedType,
     /// A MIDDLE without a FIRST.
     MiddleAlone,
@@ -47,33 +47,33 @@ pub enum LogFault {
     FullInside,
     /// A FIRST before a LAST.
     FirstInside,
-    /// A fault that this crate doesn't know.
+    /// A fault that this crate does not know.
     Other(u32),
 }
 
-/// What is wrong with a batch of a log.
+/// Faults of a batch in a log.
 #[derive(Clone, Copy, Debug, PartialEq, Eq, Hash)]
 #[non_exhaustive]
 pub enum BatchFault {
-    /// Fewer bytes than a header has.
+    /// Fewer bytes than a header.
     TooShort,
-    /// A sequence that isn't above the last one.
+    /// A sequence number not above the last one.
     SequenceBack,
-    /// A sequence of 2^56 or more.
+    /// A sequence number of 2^56 or more.
     SequenceTooLarge,
     /// An unknown tag.
     BadTag,
-    /// A record cut short.
+    /// A truncated record.
     Cut,
-    /// A number that doesn't fit 32 bits.
+    /// A number above 32 bits.
     BadNumber,
     /// Another column family.
     OtherFamily,
     /// A wrong count of records.
     WrongCount,
-    /// No fault of the batch: memory was refused.
+    /// No fault of the batch: an allocation failed.
     OutOfMemory,
-    /// A fault that this crate doesn't know.
+    /// A fault that this crate does not know.
     Other(u32),
 }
 
@@ -96,7 +96,7 @@ impl Ended {
         }
     }
 
-    /// Whether nothing was lost but what a crash left unfinished.
+    /// Returns true if nothing was lost except writes that a crash left unfinished.
     pub fn is_sound(&self) -> bool {
         matches!(self, Ended::Clean | Ended::Torn { .. })
     }

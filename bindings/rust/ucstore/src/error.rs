@@ -1,9 +1,9 @@
-//! [`Error`]: why a call is refused.
+//! [`Error`]: the error of a failed call.
 
 use crate::sys;
 use std::fmt;
 
-/// Why a call is refused. No write was taken then.
+/// The error of a failed call. The call has written nothing.
 #[derive(Clone, Copy, Debug, PartialEq, Eq, Hash)]
 #[non_exhaustive]
 pub enum Error {
@@ -27,7 +27,7 @@ pub enum Error {
     BatchFull,
     /// Run limit reached: jobs hold the runs that would be compacted. End a job and retry.
     RunsClaimed,
-    /// The library answered a status that the call doesn't have: it isn't of this crate's version.
+    /// The library returned a status that the call cannot have: it has another version than this crate.
     Unexpected(i32),
 }
 

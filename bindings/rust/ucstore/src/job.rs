@@ -1,16 +1,15 @@
-//! [`Job`]: a flush or a compaction that is taken out of its store; [`EndedJob`]: one that was put back.
+//! [`Job`]: a flush or a compaction outside its store; [`EndedJob`]: a job that has ended.
 
 use crate::error::{check, Error};
 use crate::sys;
 use std::fmt;
 use std::ptr;
 
-/// A flush or a compaction that [`Store::take_job`](crate::Store::take_job) takes out of a store. Any thread runs it, while
-/// the store goes on: it is written to, flushed, and compacts other runs. [`Store::end_job`](crate::Store::end_job) puts
-/// the result in, and gives an [`EndedJob`].
+/// A flush or a compaction that [`Store::take_job`](crate::Store::take_job) has taken out of a store. Any thread may run it,
+/// while the store is written to, flushed, and compacts other runs. [`Store::end_job`](crate::Store::end_job) installs the
+/// result, and returns an [`EndedJob`].
 ///
-/// A job that is dropped without that is forgotten: its runs are read as before, and never compacted, and its writes are
-/// flushed by a later write.
+/// If a job is dropped before that, the store never compacts its runs again, and a later write flushes its writes.
 ///
 /// ```
 /// # use ucstore::{Operator, Options, Store};
@@ -46,17 +45,17 @@ impl Job {
         }
     }
 
-    /// Sorts the writes, or merges the runs. It touches no store. One that was run isn't run again.
+    /// Runs the job, unless it was run already. Uses no store.
     ///
     /// # Errors
     ///
-    /// [`Error::OutOfMemory`]. The job is as it was: it may be run again, or ended.
+    /// [`Error::OutOfMemory`]. The job is unchanged: it may be run again, or ended.
     pub fn run(&mut self) -> Result<(), Error> {
         check(unsafe { sys::ucstore_job_run(self.handle()) })
     }
 
-    /// How many bytes the runs have together that it compacts, as [`Report::bytes`](crate::Report::bytes) counts them: 0 for a
-    /// flush. So the change of a store's bytes at the job's end tells those of the run that was made.
+    /// Returns the total size of the runs that it compacts, as [`Report::bytes`](crate::Report::bytes) counts: 0 for a flush. The
+    /// size of the new run is this plus the change of the store's bytes when the job ends.
     pub fn input_bytes(&mut self) -> u64 {
         let mut bytes = 0;
         unsafe { sys::ucstore_job_input_bytes(self.handle(), &mut bytes) };
@@ -81,7 +80,7 @@ impl fmt::Debug for Job {
     }
 }
 
-/// A job that has ended. It keeps the runs or the memtables that it had: drop it where that time may be spent, in any
+/// A job that has ended. It keeps its old runs or memtables until it is dropped. Dropping it takes time, and is possible in any
 /// thread.
 #[must_use = "what it had is freed where it is dropped"]
 pub struct EndedJob {
@@ -98,9 +97,9 @@ impl EndedJob {
         }
     }
 
-    /// Whether its run took the place of what it had. It doesn't if the job wasn't run, or if no number was left for a
-    /// run. Then the store has it for other jobs. Nor does the run of a flush if the store has flushed its writes since,
-    /// if no run more may be, or if memory was refused.
+    /// Returns true if its run was installed. It is not if the job was not run, or if run IDs are exhausted; its runs are then
+    /// free for other jobs. The run of a flush is not installed either if the store has since flushed the writes, if the run
+    /// limit is reached, or if an allocation failed.
     pub fn is_installed(&self) -> bool {
         self.is_installed
     }

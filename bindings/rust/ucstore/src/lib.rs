@@ -1,5 +1,5 @@
-//! An embedded log-structured merge store in memory, proved against its contracts, with merge operands, range deletions
-//! and snapshots.
+//! An embedded key-value store in memory: an LSM tree with merge operators, range deletions and snapshots, proved against its
+//! contracts.
 //!
 //! ```
 //! use ucstore::{Batch, Operator, Options, Store};
@@ -14,10 +14,10 @@
 //! # }
 //! ```
 //!
-//! # A store that outlives its process
+//! # Durability
 //!
-//! The store itself is in memory. Its owner keeps a log in a file: [`Store::prepare`] returns what to append before
-//! [`Store::commit`] takes a batch, and [`Store::open`] reads it again. [`LogWrites::end`] says where the file goes on.
+//! A store is in memory only. To make it durable, keep a log in a file: append the bytes that [`Store::prepare`] returns before
+//! calling [`Store::commit`], and read the file with [`Store::open`]. [`LogWrites::end`] returns the offset to continue at.
 //!
 //! ```
 //! # use ucstore::{Batch, Ended, Operator, Options, Store};
@@ -37,20 +37,20 @@
 //!
 //! # Threads
 //!
-//! A store takes one call at a time. Others read [`View`]s meanwhile, each thread one of its own, and run the
-//! compactions that [`Store::take_job`] takes out.
+//! A store takes one call at a time. Other threads read [`View`]s, each thread its own, and run the flushes and compactions that
+//! [`Store::take_job`] takes out.
 //!
 //! # Building
 //!
-//! The build links `libucstore.a` from the folder that `UCSTORE_LIB_DIR` names, or from the one that pkg-config says.
-//! `./install` at the top of the repository puts it there. With the feature `no-link` none is looked for: then the
-//! crate can be checked and documented.
+//! The build links `libucstore.a` from the directory `UCSTORE_LIB_DIR`, or finds it with pkg-config. `./install` at the top of the
+//! repository installs it. With the feature `no-link` the library is not needed, and the crate can only be checked and
+//! documented.
 //!
-//! # Why the calls are sound
+//! # Soundness
 //!
-//! Addresses are those of references and slices, which outlive the call; none is null where its length isn't 0.
-//! What is written is borrowed mutably, so it overlaps nothing. A handle is in a type that no two threads share, and no
-//! call calls back into one. It is closed where its owner is dropped. A store refuses the jobs of others.
+//! Pointers are those of references and slices, which outlive the call; none is null unless its length is 0. Memory that is
+//! written is borrowed mutably, so it overlaps no other argument. A handle is in a type that threads can't share, no call calls
+//! back into one, and it is closed when its owner is dropped. A store rejects the jobs of other stores.
 #![warn(missing_docs)]
 
 mod batch;

@@ -8,29 +8,29 @@ use crate::sys;
 use std::iter::FusedIterator;
 use std::ops;
 
-/// An operation of a log, whose texts are lent or its own.
+/// An operation in a log, with borrowed or owned keys and values.
 #[derive(Clone, Copy, Debug, PartialEq, Eq, Hash)]
 pub enum Operation<T = Vec<u8>> {
-    /// A key is set to a value.
+    /// Sets a key to a value.
     Put {
         /// The key.
         key: T,
         /// Its value.
         value: T,
     },
-    /// A key is removed.
+    /// Deletes a key.
     Delete {
         /// The key.
         key: T,
     },
-    /// A key is combined with an operand.
+    /// Merges an operand into a key's value.
     Merge {
         /// The key.
         key: T,
         /// The operand.
         operand: T,
     },
-    /// The keys from `begin` to below `end` are removed.
+    /// Deletes the keys from `begin` to below `end`.
     DeleteRange {
         /// The first key.
         begin: T,
@@ -39,17 +39,17 @@ pub enum Operation<T = Vec<u8>> {
     },
 }
 
-/// A write of a log.
+/// A write in a log.
 #[derive(Clone, Copy, Debug, PartialEq, Eq, Hash)]
 pub struct Write<T = Vec<u8>> {
-    /// Its sequence.
+    /// Its sequence number.
     pub sequence: u64,
-    /// What it does.
+    /// Its operation.
     pub operation: Operation<T>,
 }
 
 impl Write<&[u8]> {
-    /// The write with texts of its own.
+    /// Returns the write with owned keys and values.
     fn to_own(self) -> Write {
         let operation = match self.operation {
             Operation::Put { key, value } => Operation::Put {
@@ -73,9 +73,9 @@ impl Write<&[u8]> {
     }
 }
 
-/// The writes of a log up to its first fault, fetched batch by batch. [`log_writes`] makes it.
+/// The writes of a log up to its first fault, fetched batch by batch, from [`log_writes`].
 ///
-/// As an iterator it copies each write. [`next_write`](LogWrites::next_write) lends it instead.
+/// As an iterator it copies each write. [`next_write`](LogWrites::next_write) returns references instead.
 #[derive(Debug)]
 pub struct LogWrites<'a> {
     log: &'a [u8],
@@ -90,7 +90,7 @@ pub struct LogWrites<'a> {
     failed: bool,
 }
 
-/// The writes of a log, given as its bytes.
+/// Returns the writes of a log, which is given as bytes.
 ///
 /// ```
 /// # use ucstore::{Batch, Operator, Options, Store};
@@ -109,17 +109,17 @@ pub fn log_writes(log: &[u8]) -> LogWrites<'_> {
     log_writes_at(log, LogPlace::default())
 }
 
-/// A place in a log, where a batch may begin. A walk begins at the default one.
+/// A position in a log at which a batch may begin. The default is the start of the log.
 #[derive(Clone, Copy, Debug, Default, PartialEq, Eq, Hash)]
 pub struct LogPlace {
-    /// The bytes before it.
+    /// Number of bytes before it.
     pub offset: u64,
-    /// The last sequence before it; 0 if there is none.
+    /// Last sequence number before it; 0 if there is none.
     pub last: u64,
 }
 
-/// The writes of a log from a place on. The log may be given from the start of any of its blocks, of 32,768 bytes, on: the place is
-/// one of what is given then.
+/// Returns the writes of a log from a position on. `log` may start at any block of the log, of 32,768 bytes; the position is then
+/// relative to that block.
 ///
 /// ```
 /// # use ucstore::{log_writes_at, Batch, LogPlace, Operator, Options, Store};
@@ -152,18 +152,18 @@ pub fn log_writes_at(log: &[u8], place: LogPlace) -> LogWrites<'_> {
 }
 
 impl<'a> LogWrites<'a> {
-    /// Writes the batches that weren't fetched yet to a store, one at a call of [`Replay::write_next`].
+    /// Replays the batches that were not fetched yet to a store, one with each call of [`Replay::write_next`].
     pub fn replay(self, store: &'a Store) -> Replay<'a> {
         Replay::of(store, self.log, self.place)
     }
 }
 
 impl LogWrites<'_> {
-    /// The next write, lent until the next call; none after the last one.
+    /// Returns the next write, valid until the next call, or `None` after the last one.
     ///
     /// # Errors
     ///
-    /// [`Error::OutOfMemory`]. No write comes behind it.
+    /// [`Error::OutOfMemory`]. After an error there are no more writes.
     pub fn next_write(&mut self) -> Result<Option<Write<&[u8]>>, Error> {
         if self.failed {
             return Ok(None);
@@ -172,25 +172,25 @@ impl LogWrites<'_> {
         Ok((self.left > 0).then(|| self.write()))
     }
 
-    /// How the log ends, once all writes were returned.
+    /// Returns how the log ends, once all writes were returned.
     pub fn ended(&self) -> Option<Ended> {
         self.ended
     }
 
-    /// Where the log goes on after the batches that were fetched.
+    /// Returns the position after the batches that were fetched.
     pub fn offset(&self) -> u64 {
         self.place.offset
     }
 
-    /// Whether the next write, if there is one, begins another batch.
+    /// Returns true if the next write, if there is one, begins another batch.
     pub fn is_between_batches(&self) -> bool {
         self.left == 0
     }
 
-    /// Passes over what is left. It returns where the log goes on, and how it ends.
+    /// Skips the remaining writes, and returns the offset where the log ends, and how it ends.
     ///
-    /// A log's file is cut to this length before more is appended to it: what is after may be a torn record, or zeros
-    /// that a crash left.
+    /// Truncate the log's file to this length before you append to it: the rest may be an incomplete record, or zeros that a
+    /// crash left.
     ///
     /// # Errors
     ///

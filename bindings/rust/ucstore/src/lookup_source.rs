@@ -1,19 +1,18 @@
-//! [`LookupSource`]: where a lookup is answered.
+//! [`LookupSource`]: the part of a store that answers a lookup.
 
 use crate::error::Error;
 use crate::sys;
 
-/// Where a lookup at the last sequence is answered, as [`Store::source`](crate::Store::source) and
-/// [`View::source`](crate::View::source) tell it.
+/// The part of a store that answers a lookup at the last sequence number, from [`Store::source`](crate::Store::source) and
+/// [`View::source`](crate::View::source).
 #[derive(Clone, Copy, Debug, PartialEq, Eq, Hash)]
 pub enum LookupSource {
-    /// By the memtables: one of the writes that no run has yet puts the key, or deletes it, alone or in a range. No run is
-    /// asked.
+    /// The memtables: they hold a put or a deletion of the key, or a range deletion over it. No run is searched.
     Memtable,
-    /// By the filters of the runs: none of those writes does, and no write of a run touches the key. So no run has a point
-    /// of it, and is searched only if its filter admits the key by chance.
+    /// The filters: the memtables do not answer, and no run has a write of the key. A run is searched only if its filter admits the
+    /// key by chance.
     Filters,
-    /// By the runs: none of those writes does, and a write of a run touches the key.
+    /// The runs: the memtables do not answer, and a run has a write of the key.
     Runs,
 }
 

@@ -1,11 +1,12 @@
-//! [`Options`] and [`Operator`]: how a store is kept.
+//! [`Options`] of a store, and its merge [`Operator`].
 
 use crate::sys;
 
-/// How a store is kept, with the names of RocksDB's options (its wiki, "Universal Compaction").
+/// Options of a store, with the names of RocksDB's options (its wiki, "Universal Compaction").
 ///
-/// The default options are a memtable of 4 MiB, 4 runs, 36 runs, 1 percent, 200 percent, at least 2 runs and no limit
-/// to them, a store that compacts by itself, and one memtable.
+/// The defaults are `write_buffer_size` 4 MiB, `compaction_trigger` 4, `stop_trigger` 36, `size_ratio` 1,
+/// `max_size_amplification_percent` 200, `min_merge_width` 2, no limit for `max_merge_width`, `compacts_itself` true, and
+/// `max_write_buffer_number` 1.
 ///
 /// ```
 /// let options = ucstore::Options { write_buffer_size: 1 << 20, ..Default::default() };
@@ -13,24 +14,24 @@ use crate::sys;
 /// ```
 #[derive(Clone, Copy, Debug, PartialEq, Eq)]
 pub struct Options {
-    /// From how many bytes on the memtable is full, at least 1.
+    /// Size in bytes at which the memtable is full, at least 1.
     pub write_buffer_size: u64,
-    /// From how many runs on something is compacted, at least 1.
+    /// Number of runs at which compaction starts, at least 1.
     pub compaction_trigger: u32,
-    /// From how many runs on a write compacts before it goes on, `compaction_trigger` to 255.
+    /// Number of runs at which a write that flushes compacts first, `compaction_trigger` to 255.
     pub stop_trigger: u32,
-    /// By how many percent a run may be larger than those above it to be compacted with them.
+    /// Percentage by which a run may exceed the newer ones that are compacted with it.
     pub size_ratio: u32,
-    /// Above how many percent of the oldest run's size the newer ones are compacted with it.
+    /// Size of the newer runs, in percent of the oldest, above which all are compacted.
     pub max_size_amplification_percent: u32,
-    /// The least number of runs for a compaction by size ratio, at least 2.
+    /// Minimum number of runs compacted by size ratio, at least 2.
     pub min_merge_width: u32,
-    /// The greatest number of runs for a compaction, at least `min_merge_width`.
+    /// Maximum number of runs in a compaction, at least `min_merge_width`.
     pub max_merge_width: u32,
-    /// Whether the store compacts behind a flush. Else it does from `stop_trigger` runs on alone.
+    /// True to compact after each flush, false to compact only at `stop_trigger` runs.
     pub compacts_itself: bool,
-    /// How many memtables are gathered at most, at least 1. With 1 a write that finds the memtable full flushes it. With
-    /// more a [job](crate::Store::take_job) does, and a write only once as many are full.
+    /// Maximum number of memtables, at least 1. With 1, a write that finds the memtable full flushes it. With more, a
+    /// [job](crate::Store::take_job) does, and a write only when all are full.
     pub max_write_buffer_number: u32,
 }
 
@@ -71,16 +72,16 @@ impl Default for Options {
     }
 }
 
-/// Which operator merges a key's operands into its value.
+/// Merge operators. An operator combines a key's operands and its value.
 #[derive(Clone, Copy, Debug, PartialEq, Eq, Hash)]
 #[repr(u32)]
 pub enum Operator {
-    /// Texts joined by commas.
+    /// Byte strings joined by commas.
     Append = 0,
-    /// Sums of 64-bit numbers, 8 bytes each, little-endian. Any other text is 0.
+    /// Sum of 64-bit numbers, 8 bytes each, little-endian. Any other value counts as 0.
     Counter = 1,
-    /// The greater text.
+    /// The greater byte string.
     Maximum = 2,
-    /// The last four bytes of all texts.
+    /// The last four bytes of the byte strings joined.
     Tail = 3,
 }

@@ -1,22 +1,22 @@
-//! [`Replay`]: a log whose batches are written to a store again.
+//! [`Replay`]: writing the batches of a log to a store again.
 
 use crate::ended::Ended;
 use crate::error::{check, Error};
 use crate::store::Store;
 use crate::sys;
 
-/// What was done with the next batch of a log.
+/// The result of replaying the next batch of a log.
 #[derive(Clone, Copy, Debug, PartialEq, Eq)]
 pub enum Replayed {
-    /// It was written.
+    /// The batch was written.
     Batch,
-    /// It begins later than right behind the store's last sequence, and wasn't written.
+    /// The batch was not written, since it does not follow the store's last sequence number.
     Gap,
-    /// There is none that may follow: how far the log was read.
+    /// There is no valid next batch: where and why reading the log ended.
     Ended(Ended),
 }
 
-/// A log whose batches are written to a store again, one at a call. [`Store::replay`] makes it.
+/// A log whose batches are replayed to a store, one with each call, from [`Store::replay`].
 #[derive(Debug)]
 pub struct Replay<'a> {
     store: &'a Store,
@@ -35,12 +35,12 @@ impl<'a> Replay<'a> {
         }
     }
 
-    /// Writes the next batch, with the sequences that it has. One that begins later than right behind the last sequence is
-    /// written if it `may_skip` some.
+    /// Writes the next batch, with its sequence numbers. If it does not follow the last sequence number, it is written only if
+    /// `may_skip` is true.
     ///
     /// # Errors
     ///
-    /// Those of [`Store::write`]: the batch isn't written then. [`Error::Unexpected`] if the store was written to meanwhile.
+    /// Those of [`Store::write`]: the batch is not written then. [`Error::Unexpected`] if there were other writes to the store.
     pub fn write_next(&mut self, may_skip: bool) -> Result<Replayed, Error> {
         let mut ended = sys::ucstore_ended::default();
         let status = unsafe {
@@ -60,12 +60,12 @@ impl<'a> Replay<'a> {
         }
     }
 
-    /// The last sequence of the store.
+    /// Returns the last sequence number of the store.
     pub fn last(&self) -> u64 {
         self.place.last
     }
 
-    /// Where the log goes on behind the batches that were written.
+    /// Returns the position after the batches that were written.
     pub fn offset(&self) -> u64 {
         self.place.offset
     }

@@ -1,23 +1,23 @@
-//! [`Report`]: what a store holds, in numbers.
+//! [`Report`]: statistics of a store.
 
 use crate::sys;
 
-/// What a store holds, in numbers.
+/// Statistics of a store.
 #[derive(Clone, Copy, Debug, Default, PartialEq, Eq)]
 pub struct Report {
-    /// How many runs there are.
+    /// Number of runs.
     pub runs: u64,
-    /// How many sequences snapshots protect.
+    /// Number of sequence numbers that snapshots protect.
     pub snapshots: u64,
-    /// How many points all runs have: puts, deletions and merges of keys.
+    /// Number of points in the runs: puts, deletions and merges of keys.
     pub points: u64,
-    /// How many fragments of range deletions all runs have.
+    /// Number of fragments of range deletions in the runs.
     pub fragments: u64,
-    /// The bytes of all runs, with 8 for each sequence.
+    /// Size of the runs in bytes, with 8 bytes for each sequence number.
     pub bytes: u64,
-    /// How many writes are gathered, which no run has yet.
+    /// Number of writes in the memtables.
     pub gathered: u64,
-    /// The last sequence.
+    /// Last sequence number.
     pub last: u64,
 }
 

@@ -17,14 +17,14 @@ const PAGE_ROWS: u64 = 512;
 const FIRST_BYTES: usize = 4 * 1024;
 const PAGE_BYTES: usize = 16 * 1024;
 
-/// A key and its value, lent.
+/// A borrowed key and its value.
 type Row<'a> = (&'a [u8], &'a [u8]);
 
-/// The keys of a range in order, each with its value. [`Store::scan`](crate::Store::scan) makes it, and
-/// [`View::scan`](crate::View::scan). They are fetched in pages. Behind a page at the last
-/// sequence of a store the next one has what was written since.
+/// The keys of a range in order, each with its value, from [`Store::scan`](crate::Store::scan) or
+/// [`View::scan`](crate::View::scan). Rows are fetched in pages. A scan of a store at its last sequence number sees writes made
+/// between two pages.
 ///
-/// As an iterator it copies each row. [`next_row`](Scan::next_row) lends it instead:
+/// As an iterator it copies each row. [`next_row`](Scan::next_row) returns references instead:
 ///
 /// ```
 /// # use ucstore::{Operator, Options, Store};
@@ -101,11 +101,11 @@ impl<S: Source> Scan<S> {
         }
     }
 
-    /// The next key and its value, lent until the next call; none after the last row.
+    /// Returns the next key and its value, valid until the next call, or `None` after the last row.
     ///
     /// # Errors
     ///
-    /// Those of the scan. No row comes after one.
+    /// Those of the scan. After an error there are no more rows.
     pub fn next_row(&mut self) -> Result<Option<Row<'_>>, Error> {
         if self.left == 0 && !self.is_last {
             self.fetch().inspect_err(|_| self.is_last = true)?;

@@ -1,11 +1,11 @@
-//! [`Snapshot`]: a snapshot that its guard releases.
+//! [`Snapshot`]: a snapshot that is released when it is dropped.
 
 use crate::error::Error;
 use crate::scan::{end_of_prefix, Scan};
 use crate::store::Store;
 
-/// A snapshot of a store. It reads what was written before it was taken, whatever is written and compacted meanwhile.
-/// Dropping it releases it.
+/// A snapshot of a store. It reads what was written before it was taken, whatever is written and compacted later. Dropping it
+/// releases it.
 ///
 /// ```
 /// # use ucstore::{Operator, Options, Store};
@@ -34,12 +34,12 @@ impl<'a> Snapshot<'a> {
         })
     }
 
-    /// The sequence that it is at.
+    /// Returns its sequence number.
     pub fn sequence(&self) -> u64 {
         self.sequence
     }
 
-    /// The value under a key, if there is one.
+    /// Returns the value of a key, or `None`.
     ///
     /// # Errors
     ///
@@ -48,16 +48,16 @@ impl<'a> Snapshot<'a> {
         self.store.get_at(key, self.sequence)
     }
 
-    /// The keys from `low` to below `high`, or to the last one, with their values.
+    /// Returns the keys from `low` to below `high`, or to the last one, with their values.
     ///
     /// # Errors
     ///
-    /// A row may be [`Error::OutOfMemory`], and the last one then.
+    /// A row may be [`Error::OutOfMemory`], after which there are no more rows.
     pub fn scan(&self, low: impl AsRef<[u8]>, high: Option<&[u8]>) -> Scan<&Store> {
         self.store.scan_at(low, high, self.sequence)
     }
 
-    /// The keys that begin with these bytes, with their values, as [`scan`](Snapshot::scan) gives them.
+    /// Returns the keys that begin with `prefix`, with their values, as [`scan`](Snapshot::scan) does.
     pub fn prefix(&self, prefix: impl AsRef<[u8]>) -> Scan<&Store> {
         let prefix = prefix.as_ref();
         self.scan(prefix, end_of_prefix(prefix).as_deref())

@@ -10,7 +10,7 @@ use std::mem::MaybeUninit;
 /// A page's memory, which has no values before rows are copied there.
 pub(crate) type Buffer<'a> = &'a mut [MaybeUninit<u8>];
 
-/// What a [`Scan`](crate::Scan) reads: a store, or a view.
+/// The source of a [`Scan`](crate::Scan): a store or a view.
 pub trait Source: sealed::Rows + fmt::Debug {}
 
 pub(crate) mod sealed {

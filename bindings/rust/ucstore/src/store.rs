@@ -1,4 +1,4 @@
-//! [`Store`]: a store that its owner reads and writes.
+//! [`Store`]: a store with one owner.
 
 use crate::batch::Batch;
 use crate::ended::Ended;
@@ -30,19 +30,18 @@ const READS: Functions<sys::ucstore> = Functions {
     scan_at: sys::ucstore_scan_at,
 };
 
-/// A log-structured merge store in memory.
+/// An LSM tree in memory.
 ///
-/// Its methods take `&self`, so that snapshots may be held while it is written. It takes one call at a time: a store
-/// may go from thread to thread (`Send`), and threads don't share it (`!Sync`).
+/// Its methods take `&self`, so that snapshots may be held while it is written. It takes one call at a time: a store may move
+/// between threads (`Send`), but threads can't share it (`!Sync`).
 ///
 /// ```compile_fail
 /// fn share<T: Sync>() {}
 /// share::<ucstore::Store>();
 /// ```
 ///
-/// Writes are gathered in a memtable, which becomes a run when it is full. Runs are compacted then. It opens without
-/// snapshots, which are counted: each [`take_snapshot`](Store::take_snapshot) needs a [`release`](Store::release) of
-/// its own.
+/// Writes go to a memtable, which is flushed to a run when it is full. Runs are then compacted. A store opens without
+/// snapshots. Snapshots are counted: each [`take_snapshot`](Store::take_snapshot) needs its own [`release`](Store::release).
 pub struct Store {
     handle: UnsafeCell<sys::ucstore>,
 }
@@ -51,7 +50,7 @@ pub struct Store {
 unsafe impl Send for Store {}
 
 impl Store {
-    /// An empty store.
+    /// Creates an empty store.
     ///
     /// # Errors
     ///
@@ -62,8 +61,8 @@ impl Store {
         Ok(store)
     }
 
-    /// A store that is opened from the bytes of a write-ahead log, and how the log ends. It has the writes before the
-    /// log's first fault.
+    /// Opens a store from the bytes of a write-ahead log, and returns how the log ends. The store has all writes before the log's
+    /// first fault.
     ///
     /// # Errors
     ///
@@ -88,8 +87,8 @@ impl Store {
         Ok((store, Ended::of(ended)))
     }
 
-    /// Writes the batches of a log to the store again, one at a call of [`Replay::write_next`]. [`open`](Store::open) reads one
-    /// log whole; this one reads logs that lie in several files, or after a checkpoint.
+    /// Replays the batches of a log to the store, one with each call of [`Replay::write_next`]. Use it for a log of several files,
+    /// or one that follows a checkpoint; [`open`](Store::open) reads a whole log.
     ///
     /// ```
     /// # use ucstore::{Batch, Operator, Options, Replayed, Store};
@@ -107,7 +106,7 @@ impl Store {
         log_writes(log).replay(self)
     }
 
-    /// Writes the operations of a batch, with the sequences after the last one.
+    /// Writes the operations of a batch atomically, with the sequence numbers after the last one.
     ///
     /// # Errors
     ///
@@ -117,8 +116,8 @@ impl Store {
         check(unsafe { sys::ucstore_write(self.handle(), batch.handle()) })
     }
 
-    /// Writes a batch that [`Batch::bytes`] or RocksDB wrote. The operations get its sequence and those behind it, or
-    /// the ones after the last one if it is 0: there may be gaps.
+    /// Writes a batch that [`Batch::bytes`] or RocksDB has encoded. The operations get the sequence number of the batch and those
+    /// that follow it, or, if it is 0, the ones after the last write. Gaps are allowed.
     ///
     /// # Errors
     ///
@@ -131,7 +130,7 @@ impl Store {
     ///
     /// # Errors
     ///
-    /// [`Error::TooLong`] if a text has 2^32 bytes or more, [`Error::SequencesSpent`], [`Error::IdsSpent`],
+    /// [`Error::TooLong`] if the key or the value has 2^32 bytes or more, [`Error::SequencesSpent`], [`Error::IdsSpent`],
     /// [`Error::OutOfMemory`], and [`Error::RunsClaimed`] while jobs are out.
     pub fn put(&self, key: impl AsRef<[u8]>, value: impl AsRef<[u8]>) -> Result<(), Error> {
         let (key, value) = (key.as_ref(), value.as_ref());
@@ -146,7 +145,7 @@ impl Store {
         })
     }
 
-    /// Removes a key.
+    /// Deletes a key.
     ///
     /// # Errors
     ///
@@ -156,7 +155,7 @@ impl Store {
         check(unsafe { sys::ucstore_delete(self.handle(), key.as_ptr(), key.len()) })
     }
 
-    /// Combines a key with an operand.
+    /// Merges an operand into a key's value.
     ///
     /// # Errors
     ///
@@ -174,7 +173,7 @@ impl Store {
         })
     }
 
-    /// Removes each key from `begin` to below `end`: none if `begin` isn't below `end`.
+    /// Deletes all keys from `begin` (inclusive) to `end` (exclusive). The range may be empty.
     ///
     /// # Errors
     ///
@@ -196,15 +195,15 @@ impl Store {
         })
     }
 
-    /// The last sequence: 0 if nothing was written.
+    /// Returns the last sequence number: 0 if nothing was written.
     pub fn last(&self) -> u64 {
         let mut sequence = 0;
         self.certain(unsafe { sys::ucstore_last(self.handle(), &mut sequence) });
         sequence
     }
 
-    /// Takes a snapshot at the last sequence, until [`release`](Store::release) is called as often as this. Returns the
-    /// sequence.
+    /// Takes a snapshot at the last sequence number, and returns that. It lasts until [`release`](Store::release) was called as
+    /// often as this.
     ///
     /// # Errors
     ///
@@ -215,7 +214,7 @@ impl Store {
         Ok(sequence)
     }
 
-    /// Releases a snapshot that was taken at the sequence.
+    /// Releases a snapshot at a sequence number.
     ///
     /// # Errors
     ///
@@ -224,7 +223,7 @@ impl Store {
         check(unsafe { sys::ucstore_release(self.handle(), sequence) })
     }
 
-    /// A snapshot at the last sequence, for as long as the guard lives.
+    /// Takes a snapshot at the last sequence number, which is released when the guard is dropped.
     ///
     /// # Errors
     ///
@@ -233,8 +232,8 @@ impl Store {
         Snapshot::of(self)
     }
 
-    /// What the store holds now, for other threads to read. What is prepared isn't in it, and stays prepared. Unlike a
-    /// snapshot it needs no release, and holds memory of its own: that of runs which the store has compacted meanwhile.
+    /// Takes a view of the store as it is now, for other threads to read. A prepared batch is not in it, and stays prepared. Unlike
+    /// a snapshot a view needs no release, but it keeps the memory of runs that the store has since compacted.
     ///
     /// # Errors
     ///
@@ -245,7 +244,7 @@ impl Store {
         Ok(view)
     }
 
-    /// The sequences at which snapshots are, which rise.
+    /// Returns the sequence numbers of the snapshots, in ascending order.
     pub fn snapshots(&self) -> Vec<u64> {
         let mut count = 0;
         self.certain(unsafe {
@@ -268,7 +267,7 @@ impl Store {
         sequences
     }
 
-    /// Where [`get`](Store::get) finds what it answers of a key. It costs a lookup at most, and no value is copied.
+    /// Returns the part of the store that answers [`get`](Store::get) for a key. Costs at most a lookup, and copies no value.
     ///
     /// ```
     /// # use ucstore::{LookupSource, Operator, Options, Store};
@@ -288,7 +287,7 @@ impl Store {
         self.reads().source(key.as_ref())
     }
 
-    /// The value under a key at a snapshot, if there is one.
+    /// Returns the value of a key at a snapshot, or `None`.
     ///
     /// # Errors
     ///
@@ -297,7 +296,7 @@ impl Store {
         self.reads().get_at(key.as_ref(), at)
     }
 
-    /// The value under a key, if there is one.
+    /// Returns the value of a key, or `None`.
     ///
     /// # Errors
     ///
@@ -306,8 +305,8 @@ impl Store {
         self.reads().get(key.as_ref())
     }
 
-    /// Puts the value under a key into a vector, instead of what that has, and tells whether there is one. The vector is empty
-    /// without one, and its memory is used again.
+    /// Replaces the contents of a vector by the value of a key, and returns true if it has one. Without a value the vector is empty.
+    /// Reuses the vector's memory.
     ///
     /// # Errors
     ///
@@ -316,8 +315,8 @@ impl Store {
         self.reads().get_into(key.as_ref(), value)
     }
 
-    /// Copies the value under a key into a room, as much of it as there is room for. Returns the size of all of it, if there is
-    /// one: what of the room is below it has values then.
+    /// Copies as much of the value of a key as fits a buffer, and returns the length of the value, or `None`. The buffer is
+    /// initialized up to that length.
     ///
     /// # Errors
     ///
@@ -330,7 +329,7 @@ impl Store {
         self.reads().get_to_room(key.as_ref(), room)
     }
 
-    /// For each key its value, if there is one. The keys come in any order.
+    /// Returns the value of each key, or `None`. Keys may be in any order.
     ///
     /// ```
     /// # use ucstore::{Operator, Options, Store};
@@ -352,17 +351,17 @@ impl Store {
         self.reads().get_many(keys)
     }
 
-    /// The keys from `low` to below `high`, or to the last one, with their values. They come in the order
-    /// of the keys' bytes, and are fetched in pages.
+    /// Returns the keys from `low` to below `high`, or to the last one, with their values. They are in byte order of the keys, and
+    /// fetched in pages.
     ///
     /// # Errors
     ///
-    /// A row may be [`Error::OutOfMemory`], and the last one then.
+    /// A row may be [`Error::OutOfMemory`], after which there are no more rows.
     pub fn scan(&self, low: impl AsRef<[u8]>, high: Option<&[u8]>) -> Scan<&Store> {
         Scan::of(self, low.as_ref(), high, None)
     }
 
-    /// The keys that begin with these bytes, with their values, as [`scan`](Store::scan) gives them.
+    /// Returns the keys that begin with `prefix`, with their values, as [`scan`](Store::scan) does.
     ///
     /// ```
     /// # use ucstore::{Operator, Options, Store};
@@ -379,17 +378,17 @@ impl Store {
         self.scan(prefix, end_of_prefix(prefix).as_deref())
     }
 
-    /// The keys from `low` to below `high`, or to the last one, with their values at a snapshot, as
-    /// [`scan`](Store::scan) gives them.
+    /// Returns the keys from `low` to below `high`, or to the last one, with their values at a snapshot, as
+    /// [`scan`](Store::scan) does.
     ///
     /// # Errors
     ///
-    /// A row may be [`Error::NotProtected`] or [`Error::OutOfMemory`], and the last one then.
+    /// A row may be [`Error::NotProtected`] or [`Error::OutOfMemory`], after which there are no more rows.
     pub fn scan_at(&self, low: impl AsRef<[u8]>, high: Option<&[u8]>, at: u64) -> Scan<&Store> {
         Scan::of(self, low.as_ref(), high, Some(at))
     }
 
-    /// Makes a run of what is gathered.
+    /// Flushes the memtables.
     ///
     /// # Errors
     ///
@@ -398,8 +397,7 @@ impl Store {
         check(unsafe { sys::ucstore_flush(self.handle()) })
     }
 
-    /// Compacts the runs that are picked next, if there are any, and tells whether there were. A store that compacts by
-    /// itself needs no such call.
+    /// Does the next compaction that is due, and returns true if there was one. Optional if the store compacts automatically.
     ///
     /// # Errors
     ///
@@ -410,9 +408,9 @@ impl Store {
         Ok(compacted)
     }
 
-    /// Takes out a job, if there is one: the flush of what is gathered, if a memtable is full, no flush is out, and
-    /// [`max_write_buffer_number`](crate::Options::max_write_buffer_number) is above 1. Else the compaction that is picked
-    /// next among the runs that no other job has.
+    /// Takes out a job, or returns `None`: the flush of the memtables, if a memtable is full, no flush is out, and
+    /// [`max_write_buffer_number`](crate::Options::max_write_buffer_number) is above 1, or else the next compaction that is due
+    /// among the runs that no other job has.
     ///
     /// # Errors
     ///
@@ -423,12 +421,12 @@ impl Store {
         Ok(taken.then_some(job))
     }
 
-    /// Ends a job: if it was run, its run takes the place of what it had. What one had that wasn't run may be flushed or
-    /// compacted again. It frees neither runs nor memtables: the ended job does, where it is dropped.
+    /// Ends a job, and installs its run in place of its runs or memtables. If it was not run, they are free for other jobs. Frees no
+    /// run and no memtable: dropping the ended job does.
     ///
     /// # Errors
     ///
-    /// A job of another store comes back.
+    /// The job itself, if it belongs to another store.
     pub fn end_job(&self, mut job: Job) -> Result<EndedJob, Job> {
         let mut installed = false;
         match unsafe { sys::ucstore_job_end(self.handle(), job.handle(), &mut installed) } {
@@ -440,22 +438,22 @@ impl Store {
         }
     }
 
-    /// What the store holds, in numbers.
+    /// Returns statistics.
     pub fn report(&self) -> Report {
         Report::by(|report| unsafe { sys::ucstore_report(self.handle(), report) })
     }
 
-    /// Prepares a batch, so that [`commit`](Store::commit) can take it, and returns the bytes that it adds to a log of
-    /// `length` bytes. No read sees it before. A batch that was prepared before is given up.
+    /// Prepares a batch for [`commit`](Store::commit), and returns the bytes to append to a log of `length` bytes. No read sees the
+    /// batch before the commit. A batch prepared earlier is discarded.
     ///
-    /// Append the bytes to the log's file, wait until they are on its device, and [`commit`](Store::commit): then
-    /// [`open`](Store::open) has the batch again after a crash. If the file fails, cut it back, and
-    /// [`give_up`](Store::give_up). A file that was read is cut first, as [`LogWrites::end`](crate::LogWrites::end)
-    /// says. A write, a flush or a snapshot in between gives the batch up.
+    /// Append the bytes to the log's file, sync it, and call [`commit`](Store::commit): then [`open`](Store::open) recovers the
+    /// batch after a crash. If the file fails, truncate it to its old length, and call [`give_up`](Store::give_up). Before you
+    /// append to a file that was read, truncate it as [`LogWrites::end`](crate::LogWrites::end) says. A write, a flush or a
+    /// snapshot before the commit discards the batch.
     ///
     /// # Errors
     ///
-    /// What [`write`](Store::write) would refuse the batch for.
+    /// Those that [`write`](Store::write) would return for the batch.
     pub fn prepare(&self, length: u64, batch: &Batch) -> Result<Vec<u8>, Error> {
         record_by(batch.size(), |room, size| unsafe {
             sys::ucstore_prepare(
@@ -469,11 +467,11 @@ impl Store {
         })
     }
 
-    /// Prepares a batch that [`Batch::bytes`] or RocksDB wrote, as [`prepare`](Store::prepare) does.
+    /// Prepares a batch that [`Batch::bytes`] or RocksDB has encoded, as [`prepare`](Store::prepare) does.
     ///
     /// # Errors
     ///
-    /// What [`write_bytes`](Store::write_bytes) would refuse the batch for.
+    /// Those that [`write_bytes`](Store::write_bytes) would return for the batch.
     pub fn prepare_bytes(&self, length: u64, batch: &[u8]) -> Result<Vec<u8>, Error> {
         record_by(batch.len(), |room, size| unsafe {
             sys::ucstore_prepare_bytes(
@@ -488,12 +486,12 @@ impl Store {
         })
     }
 
-    /// Takes the batch that is prepared; if there is none, nothing.
+    /// Makes the prepared batch visible, if there is one.
     pub fn commit(&self) {
         self.certain(unsafe { sys::ucstore_commit(self.handle()) });
     }
 
-    /// Gives up the batch that is prepared, if there is one.
+    /// Discards the prepared batch, if there is one.
     pub fn give_up(&self) {
         self.certain(unsafe { sys::ucstore_give_up(self.handle()) });
     }

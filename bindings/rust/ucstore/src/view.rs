@@ -1,4 +1,4 @@
-//! [`View`]: what a store held at a moment.
+//! [`View`]: a read-only view of a store at one point in time.
 
 use crate::checkpoint::Checkpoint;
 use crate::error::{check, Error};
@@ -22,11 +22,11 @@ const READS: Functions<sys::ucstore_view> = Functions {
     scan_at: sys::ucstore_view_scan_at,
 };
 
-/// What a store held at a moment, as [`Store::view`](crate::Store::view) makes it. It stays so, whatever is written,
-/// flushed and compacted, and also when the store is dropped.
+/// A read-only view of a store at one point in time, from [`Store::view`](crate::Store::view). No write, flush or compaction
+/// changes it, nor does dropping the store.
 ///
-/// A view takes one call at a time (`!Sync`). Each thread reads a clone of its own (`Send`), while the store goes on.
-/// It holds the memory of the runs that it has.
+/// A view takes one call at a time (`!Sync`). Each thread reads its own clone (`Send`), while the store is in use. It keeps the
+/// memory of its runs.
 ///
 /// ```
 /// # use ucstore::{Operator, Options, Store};
@@ -62,7 +62,7 @@ impl View {
         }
     }
 
-    /// The view once more, for another thread. No run is copied.
+    /// Returns another handle to the view, for another thread. Copies no data.
     ///
     /// # Errors
     ///
@@ -73,7 +73,7 @@ impl View {
         Ok(again)
     }
 
-    /// The value under a key, if there is one.
+    /// Returns the value of a key, or `None`.
     ///
     /// # Errors
     ///
@@ -82,8 +82,8 @@ impl View {
         self.reads().get(key.as_ref())
     }
 
-    /// Puts the value under a key into a vector, instead of what that has, and tells whether there is one. The vector is empty
-    /// without one, and its memory is used again.
+    /// Replaces the contents of a vector by the value of a key, and returns true if it has one. Without a value the vector is empty.
+    /// Reuses the vector's memory.
     ///
     /// # Errors
     ///
@@ -92,8 +92,8 @@ impl View {
         self.reads().get_into(key.as_ref(), value)
     }
 
-    /// Copies the value under a key into a room, as much of it as there is room for. Returns the size of all of it, if there is
-    /// one: what of the room is below it has values then.
+    /// Copies as much of the value of a key as fits a buffer, and returns the length of the value, or `None`. The buffer is
+    /// initialized up to that length.
     ///
     /// # Errors
     ///
@@ -106,7 +106,7 @@ impl View {
         self.reads().get_to_room(key.as_ref(), room)
     }
 
-    /// Where [`get`](View::get) finds what it answers of a key. It costs a lookup at most, and no value is copied.
+    /// Returns the part of the view that answers [`get`](View::get) for a key. Costs at most a lookup, and copies no value.
     ///
     /// ```
     /// # use ucstore::{LookupSource, Operator, Options, Store};
@@ -126,7 +126,7 @@ impl View {
         self.reads().source(key.as_ref())
     }
 
-    /// The value under a key at a snapshot that the store had then, if there is one.
+    /// Returns the value of a key at a snapshot that the store had when the view was taken, or `None`.
     ///
     /// # Errors
     ///
@@ -135,7 +135,7 @@ impl View {
         self.reads().get_at(key.as_ref(), at)
     }
 
-    /// For each key its value, if there is one. The keys come in any order.
+    /// Returns the value of each key, or `None`. Keys may be in any order.
     ///
     /// # Errors
     ///
@@ -147,44 +147,43 @@ impl View {
         self.reads().get_many(keys)
     }
 
-    /// The keys from `low` to below `high`, or to the last one, with their values. They come in the order of the keys'
-    /// bytes.
+    /// Returns the keys from `low` to below `high`, or to the last one, with their values, in byte order of the keys.
     ///
     /// # Errors
     ///
-    /// A row may be [`Error::OutOfMemory`], and the last one then.
+    /// A row may be [`Error::OutOfMemory`], after which there are no more rows.
     pub fn scan(&self, low: impl AsRef<[u8]>, high: Option<&[u8]>) -> Scan<&View> {
         Scan::of(self, low.as_ref(), high, None)
     }
 
-    /// The rows of a [`scan`](View::scan), which keep the view.
+    /// Returns the rows of a [`scan`](View::scan), which own the view.
     pub fn into_scan(self, low: impl AsRef<[u8]>, high: Option<&[u8]>) -> Scan<View> {
         Scan::of(self, low.as_ref(), high, None)
     }
 
-    /// The keys that begin with these bytes, with their values, as [`scan`](View::scan) gives them.
+    /// Returns the keys that begin with `prefix`, with their values, as [`scan`](View::scan) does.
     pub fn prefix(&self, prefix: impl AsRef<[u8]>) -> Scan<&View> {
         let prefix = prefix.as_ref();
         self.scan(prefix, end_of_prefix(prefix).as_deref())
     }
 
-    /// The rows of a [`prefix`](View::prefix), which keep the view.
+    /// Returns the rows of a [`prefix`](View::prefix), which own the view.
     pub fn into_prefix(self, prefix: impl AsRef<[u8]>) -> Scan<View> {
         let prefix = prefix.as_ref();
         self.into_scan(prefix, end_of_prefix(prefix).as_deref())
     }
 
-    /// The rows of a [`scan`](View::scan) at a snapshot that the store had then.
+    /// Returns the rows of a [`scan`](View::scan) at a snapshot that the store had when the view was taken.
     ///
     /// # Errors
     ///
-    /// A row may be [`Error::NotProtected`] or [`Error::OutOfMemory`], and the last one then.
+    /// A row may be [`Error::NotProtected`] or [`Error::OutOfMemory`], after which there are no more rows.
     pub fn scan_at(&self, low: impl AsRef<[u8]>, high: Option<&[u8]>, at: u64) -> Scan<&View> {
         Scan::of(self, low.as_ref(), high, Some(at))
     }
 
-    /// The rows at the last sequence as a write-ahead log, piece by piece. The view stays. What no run of it has is sorted,
-    /// once.
+    /// Starts a checkpoint: the rows at the last sequence number as a write-ahead log, piece by piece. The view stays open. Its
+    /// memtables are sorted, once.
     ///
     /// # Errors
     ///
@@ -193,7 +192,7 @@ impl View {
         Checkpoint::of(self)
     }
 
-    /// The last sequence then: 0 if nothing was written.
+    /// Returns the last sequence number of the view: 0 if nothing was written.
     pub fn last(&self) -> u64 {
         let mut sequence = 0;
         let status = unsafe { sys::ucstore_view_last(self.handle(), &mut sequence) };
@@ -201,7 +200,7 @@ impl View {
         sequence
     }
 
-    /// What the store held then, in numbers.
+    /// Returns statistics of the view.
     pub fn report(&self) -> Report {
         Report::by(|report| unsafe { sys::ucstore_view_report(self.handle(), report) })
     }
@@ -220,7 +219,7 @@ impl View {
     }
 }
 
-/// [`View::again`], which panics if memory is refused.
+/// [`View::again`], which panics if an allocation fails.
 impl Clone for View {
     fn clone(&self) -> View {
         self.again().expect("memory for a view")
