@@ -168,7 +168,7 @@ class Event(NamedTuple):
     runs: int
     """Number of runs."""
     bytes: int
-    """Size in bytes of the flush, the checkpoint or the bytes set aside."""
+    """Number of bytes flushed, written to the checkpoint, or set aside."""
     seconds: float
     """Duration."""
     text: str
@@ -235,6 +235,6 @@ class DbStats(NamedTuple):
     lookups_by_filters: int
     """Lookups that the filters answered: no run has a write of the key."""
     lookups_by_runs: int
-    """Lookups that searched runs."""
+    """Lookups that the runs answered."""
     set_aside_bytes: int
     """Bytes that opening cut off the last log and kept in a file (`EventKind.SET_ASIDE`)."""

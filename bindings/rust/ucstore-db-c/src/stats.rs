@@ -70,7 +70,7 @@ pub struct CStats {
     pub lookups_by_memtable: u64,
     /// Estimated number of lookups that the filters answered.
     pub lookups_by_filters: u64,
-    /// Estimated number of lookups that searched runs.
+    /// Estimated number of lookups that the runs answered.
     pub lookups_by_runs: u64,
     /// Bytes that opening cut off the last log and set aside.
     pub set_aside_bytes: u64,
