@@ -40,6 +40,10 @@ mark_text n = 3 ∷ suc (length (number_text 8 n)) ∷ 115 ∷ number_text 8 n
 abbrev pub with_mark : List ℕ → ℕ → List ℕ
 with_mark batch n = take 12 batch ++ (mark_text n ++ drop 12 batch)
 
+-- a mark at an offset says that the log was on the device for certain up to a place beyond `end`
+abbrev pub SaysBeyond : Option ℕ → ℕ → ℕ → Type 0
+SaysBeyond mark end offset = (unsynced : ℕ) × (mark ≡ Some unsynced) × (end + unsynced < offset)
+
 -- A batch at an offset says that the log was on the device for certain up to a place beyond `end`.
 pub record Tells (log : List ℕ) (end offset : ℕ) : Type 0 where
   pub payload : List ℕ
