@@ -2,3 +2,4 @@ pub mod Shown
 pub mod Bounds
 pub mod Spelling
 pub mod ReadBack
+pub mod Told

@@ -22,8 +22,8 @@ were_written written shown synced before found end walk unforged (read_one some 
     subst (λ (ps : List (List ℕ)). Walks written ps after) (append_assoc before some (payload ∷ [])) (one_more (before ++ some) offset payload after so_far own)
 
 -- a mark that is shown was written, and is true
-pub none_tells : (written shown : List ℕ) (synced end offset : ℕ) → AreTrue written synced → AreOwn written synced shown → synced ≤ end → end ≤ offset → Tells shown end offset → ⊥
-none_tells written shown synced end offset true own le later told =
-    let there = own told.payload offset told.after told.unsynced (omega (arith, le, later)) told.lies told.mark in
+pub none_tells : (written shown : List ℕ) (synced last end offset : ℕ) → AreTrue written synced → AreOwn written synced last shown → synced ≤ end → end ≤ offset → Tells shown end last offset → ⊥
+none_tells written shown synced last end offset true own le after told =
+    let there = own told.payload offset told.after told.unsynced (omega (arith, le, after)) told.lies told.later told.mark in
     let most : offset ≤ synced + told.unsynced = true told.payload offset told.after told.unsynced there told.mark in
     omega (arith, le, most, told.beyond)

@@ -1,5 +1,6 @@
 -- Marks: a batch tells how far its log was on the device for certain when it was written.
 use Rattle.std.specs.Prelude.{◌≡◌, ◌≤◌, ◌<◌, ℕ, zero, suc, ◌+◌, ◌-◌, ◌*◌, ◌/◌, ◌%◌, List, [], ◌∷◌, ◌++◌, length, take, drop, Option, Some, None, option_map, nat_lt, nat_le, ◌&&◌, ◌==◌, if◌then◌else◌}
+use Rattle.std.specs.Int.{w64, from_le_bytes}
 use Rattle.uc_logrec.specs.Position.{LiesIn}
 
 -- A number, seven bits in each byte, the lowest first. All bytes but the last are 128 or more.
@@ -44,12 +45,17 @@ with_mark batch n = take 12 batch ++ (mark_text n ++ drop 12 batch)
 abbrev pub SaysBeyond : Option ℕ → ℕ → ℕ → Type 0
 SaysBeyond mark end offset = (unsynced : ℕ) × (mark ≡ Some unsynced) × (end + unsynced < offset)
 
--- A batch at an offset says that the log was on the device for certain up to a place beyond `end`.
-pub record Tells (log : List ℕ) (end offset : ℕ) : Type 0 where
+-- the sequence of a batch, at the start of its header
+unfoldable pub sequence_of : List ℕ → ℕ
+sequence_of payload = from_le_bytes w64 (take 8 payload)
+
+-- A batch at an offset, with a sequence after `last`, says that the log was on the device for certain up to a place beyond `end`.
+pub record Tells (log : List ℕ) (end last offset : ℕ) : Type 0 where
   pub payload : List ℕ
   pub after : ℕ
   pub unsynced : ℕ
   pub lies : LiesIn payload log offset after
+  pub later : last < sequence_of payload
   pub mark : mark_of payload ≡ Some unsynced
   pub beyond : end + unsynced < offset
 
@@ -57,6 +63,8 @@ pub record Tells (log : List ℕ) (end offset : ℕ) : Type 0 where
 abbrev pub AreTrue : List ℕ → ℕ → Type 0
 AreTrue written synced = (payload : List ℕ) (offset after unsynced : ℕ) → LiesIn payload written offset after → mark_of payload ≡ Some unsynced → offset ≤ synced + unsynced
 
--- The premise. After the synced bytes nothing is shown that passes as a batch with a mark but what was written there.
-abbrev pub AreOwn : List ℕ → ℕ → List ℕ → Type 0
-AreOwn written synced shown = (payload : List ℕ) (offset after unsynced : ℕ) → synced ≤ offset → LiesIn payload shown offset after → mark_of payload ≡ Some unsynced → LiesIn payload written offset after
+-- The premise. After the synced bytes nothing is shown that passes as a batch with a mark, and with a sequence after `last`, but what was
+-- written there.
+abbrev pub AreOwn : List ℕ → ℕ → ℕ → List ℕ → Type 0
+AreOwn written synced last shown = (payload : List ℕ) (offset after unsynced : ℕ) → synced ≤ offset → LiesIn payload shown offset after
+    → last < sequence_of payload → mark_of payload ≡ Some unsynced → LiesIn payload written offset after

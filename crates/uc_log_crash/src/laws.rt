@@ -28,8 +28,8 @@ pub fn batches_that_are_read_were_written()
 /// After a crash no batch tells that one was on the device which isn't there. The log ends at an offset where that of the synced bytes
 /// is, or after it.
 pub fn crash_is_no_damage()
-    ensures { (written shown : List ℕ) (synced end offset : ℕ) → AreTrue written synced → AreOwn written synced shown →
-        synced ≤ end → end ≤ offset → Tells shown end offset → ⊥ }
+    ensures { (written shown : List ℕ) (synced last end offset : ℕ) → AreTrue written synced → AreOwn written synced last shown →
+        synced ≤ end → end ≤ offset → Tells shown end last offset → ⊥ }
 {}
 
 /// A mark that is put after the header of a batch is read there again.

@@ -56,7 +56,8 @@ fn mark_in(records: &[u8]) -> Option<u64>
 /// The mark of a batch: the number of bytes before its record that weren't on the device for certain when it was written. None if the
 /// batch has no mark.
 pub fn mark_of(payload: &[u8]) -> Option<u64>
-    ensures { result ≡ marks.mark_of payload.now }
+    ensures value { result ≡ marks.mark_of payload.now }
+    ensures long { IfSome result (λ _. 12 ≤ length payload.now) }
 {
     match payload.get(HEADER_SIZE..) {
         Some(records) => mark_in(records),

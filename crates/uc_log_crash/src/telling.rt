@@ -1,37 +1,52 @@
 //! [`tells`]: whether a batch says that a log was on the device.
-ghost use Rattle.std.specs.Prelude.{◌≡◌, ◌<◌, ◌+◌, ◌↔◌, ℕ, Some, IsTrue, IfOk};
-ghost use Rattle.uc_log_crash.specs.Marks.{Tells, SaysBeyond};
+ghost use Rattle.std.specs.Prelude.{◌<◌, ◌≤◌, ◌↔◌, IsTrue, IfOk, length};
+ghost use Rattle.uc_log_crash.specs.Marks.{Tells, SaysBeyond, mark_of, sequence_of};
 
 use crate::mark::mark_of;
 use std::alloc::AllocError;
 use uc_logrec::{Next, next_payload};
 
-/// Whether a mark at an offset says that the log was on the device beyond a place.
-fn says_beyond(mark: Option<u64>, end: u64, offset: u64) -> bool
-    ensures { IsTrue result ↔ SaysBeyond mark end offset }
+/// Whether a batch has a sequence after the last one.
+#[tactic(auto, unfolding(crate::specs::Marks::sequence_of))]
+fn is_later(payload: &[u8], last: u64) -> bool
+    requires { 12 ≤ length payload.now }
+    ensures { IsTrue result ↔ (last < sequence_of payload.now) }
 {
-    match mark {
-        Some(unsynced) => unsynced <= offset && end < offset - unsynced,
+    let Some(first) = payload.first_chunk() else {
+        unreachable!();
+    };
+    last < u64::from_le_bytes(*first)
+}
+
+/// Whether a batch at an offset has a sequence after the last one, and a mark that says that the log was on the device beyond a place.
+fn says_beyond(payload: &[u8], end: u64, last: u64, offset: u64) -> bool
+    ensures { IsTrue result ↔ ((last < sequence_of payload.now) × SaysBeyond (mark_of payload.now) end offset) }
+{
+    match mark_of(payload) {
+        Some(unsynced) => {
+            is_later(payload, last) && unsynced <= offset && end < offset - unsynced
+        }
         None => false,
     }
 }
 
-/// Whether a whole batch lies at an offset of a log whose mark says that the log was on the device beyond a place, when it was written.
+/// Whether a whole batch lies at an offset of a log, with a sequence after the last one, whose mark says that the log was on the device
+/// beyond a place when it was written.
 ///
 /// The buffer is for a batch of several records, as at [`next_payload`]. After an `Err` the call can be made again.
 pub fn tells(
     log: &[u8],
     end: u64,
+    last: u64,
     offset: u64,
     joined: &mut Vec<u8>,
 ) -> Result<bool, AllocError>
-    ensures { IfOk result (λ told. IsTrue told ↔ Tells log.now end offset) }
+    ensures { IfOk result (λ told. IsTrue told ↔ Tells log.now end last offset) }
 {
     let (next, _) = next_payload(log, offset, joined)?;
-    let mark = match next {
-        Next::Whole(payload) => mark_of(payload),
-        Next::Joined => mark_of(joined),
-        Next::Ended(_) => return Ok(false),
-    };
-    Ok(says_beyond(mark, end, offset))
+    Ok(match next {
+        Next::Whole(payload) => says_beyond(payload, end, last, offset),
+        Next::Joined => says_beyond(joined, end, last, offset),
+        Next::Ended(_) => false,
+    })
 }
