@@ -3,3 +3,4 @@ pub mod Bounds
 pub mod Spelling
 pub mod ReadBack
 pub mod Told
+pub mod Searched

@@ -16,6 +16,7 @@
 
 mod laws;
 mod mark;
+mod search;
 mod telling;
 
 pub use laws::{batches_that_are_read_were_written, crash_is_no_damage, synced_batches_are_read};
