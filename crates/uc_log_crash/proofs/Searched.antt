@@ -4,7 +4,7 @@ use Rattle.std.specs.Prelude.{◌&&◌, not, nat_le, ◌==◌, if◌then◌else�
 use Rattle.std.proofs.lemmas.Bool.{and_parts, leb-true}
 use Rattle.uc_logrec.specs.Format.{room, stored_length, stored_code}
 use Rattle.uc_log_crash.specs.Marks.{Tells}
-use Rattle.uc_log_crash.specs.Places.{has_another, next_place, chained, in_block, places_from, IsFirst}
+use Rattle.uc_log_crash.specs.Places.{has_another, next_place, chained, in_block, places_from, in_blocks, IsFirst}
 
 -- ---- the places of a block
 
@@ -67,3 +67,50 @@ module _ (log : List ℕ) (end last : ℕ) where
       let all : places_from log place ≡ place ∷ places_from log next =
       shape log place ∙ (ap (λ (o : Option ℕ). place ∷ chained (in_block (room place - 1) log) o) there ∙ ap (λ (ps : List ℕ). place ∷ ps) rest) in
       subst (λ (ps : List ℕ). IsFirst log end last ps found) (sym all) (inr (untold, first))
+
+  -- ---- places after others
+
+  pub in_front : (place : ℕ) (some others : List ℕ) → IsFirst log end last some (Some place) → IsFirst log end last (some ++ others) (Some place)
+  in_front place [] others first = absurd cc
+  in_front place (p ∷ ps) others (inl here) = inl here
+  in_front place (p ∷ ps) others (inr (untold, first)) = inr (untold, in_front place ps others first)
+
+  pub past_all : (some others : List ℕ) (found : Option ℕ) → IsFirst log end last some None → IsFirst log end last others found → IsFirst log end last (some ++ others) found
+  past_all [] others found none first = first
+  past_all (p ∷ ps) others found (inl (told, e)) first = absurd cc
+  past_all (p ∷ ps) others found (inr (untold, none)) first = inr (untold, past_all ps others found none first)
+
+-- ---- blocks
+
+blocks_at : (n : ℕ) (log : List ℕ) (block : ℕ) → 0 < n → in_blocks n log block ≡ places_from log (32768 * block) ++ in_blocks (n - 1) log (block + 1)
+unfolding in_blocks
+blocks_at zero log block lt = absurd (omega (arith, lt))
+blocks_at (suc n) log block lt =
+    let less : suc n - 1 ≡ n = omega arith in
+    rw less refl
+
+-- the blocks from one on, and those after it
+pub blocks_step : (count : ℕ) (log : List ℕ) (block : ℕ) → block < count → in_blocks (count - block) log block ≡ places_from log (32768 * block) ++ in_blocks (count - (block + 1)) log (block + 1)
+blocks_step count log block lt =
+    let fewer : count - block - 1 ≡ count - (block + 1) = omega (arith, lt) in
+    blocks_at (count - block) log block (omega (arith, lt)) ∙ ap (λ (n : ℕ). places_from log (32768 * block) ++ in_blocks n log (block + 1)) fewer
+
+pub blocks_over : (log : List ℕ) (end last n block : ℕ) → n ≡ 0 → IsFirst log end last (in_blocks n log block) None
+unfolding in_blocks
+blocks_over log end last zero block none = refl
+blocks_over log end last (suc n) block none = absurd (omega (arith, none))
+
+pub in_this_block : (log : List ℕ) (end last count block place : ℕ) → block < count → IsFirst log end last (places_from log (32768 * block)) (Some place) → IsFirst log end last (in_blocks (count - block) log block) (Some place)
+in_this_block log end last count block place lt first =
+    subst (λ (ps : List ℕ). IsFirst log end last ps (Some place)) (sym (blocks_step count log block lt)) (in_front log end last place (places_from log (32768 * block)) (in_blocks (count - (block + 1)) log (block + 1)) first)
+
+pub in_later_block : (log : List ℕ) (end last count block : ℕ) (found : Option ℕ) → block < count → IsFirst log end last (places_from log (32768 * block)) None → IsFirst log end last (in_blocks (count - (block + 1)) log (block + 1)) found
+    → IsFirst log end last (in_blocks (count - block) log block) found
+in_later_block log end last count block found lt none first =
+    subst (λ (ps : List ℕ). IsFirst log end last ps found) (sym (blocks_step count log block lt)) (past_all log end last (places_from log (32768 * block)) (in_blocks (count - (block + 1)) log (block + 1)) found none first)
+
+pub first_of_all : (log : List ℕ) (end last : ℕ) (here others : List ℕ) (place : ℕ) → IsFirst log end last here (Some place) → IsFirst log end last (here ++ others) (Some place)
+first_of_all log end last here others place first = in_front log end last place here others first
+
+pub later_of_all : (log : List ℕ) (end last : ℕ) (here others : List ℕ) (found : Option ℕ) → IsFirst log end last here None → IsFirst log end last others found → IsFirst log end last (here ++ others) found
+later_of_all log end last here others found none first = past_all log end last here others found none first

@@ -21,4 +21,5 @@ mod telling;
 
 pub use laws::{batches_that_are_read_were_written, crash_is_no_damage, synced_batches_are_read};
 pub use mark::{mark_bytes, mark_of};
+pub use search::first_told;
 pub use telling::tells;
