@@ -1,5 +1,5 @@
 -- The bounds of numbers of a few bytes.
-use Rattle.std.proofs.Common.{◌≡◌, ℕ, zero, suc, ◌+◌, ◌-◌, ◌*◌, ◌≤◌, refl, sym, subst, arith}
+use Rattle.std.proofs.Common.{◌≡◌, ℕ, zero, suc, ◌+◌, ◌-◌, ◌≤◌, refl, subst, arith}
 use Rattle.uc_log_crash.specs.Marks.{bound_of}
 
 grows : (n m k : ℕ) → k ≡ m + n → bound_of n ≤ bound_of k

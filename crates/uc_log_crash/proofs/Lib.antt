@@ -4,3 +4,4 @@ pub mod Spelling
 pub mod ReadBack
 pub mod Told
 pub mod Searched
+pub mod Onward

@@ -1,5 +1,5 @@
 -- A search through the places of a log, one after the other.
-use Rattle.std.proofs.Common.{◌≡◌, ℕ, zero, suc, ◌+◌, ◌-◌, ◌*◌, ◌%◌, ◌≤◌, ◌<◌, Bool, true, false, List, [], ◌∷◌, ◌++◌, length, drop, Option, Some, None, ◌⊎◌, inl, inr, refl, sym, ap, subst, ◌∙◌, arith}
+use Rattle.std.proofs.Common.{◌≡◌, ℕ, zero, suc, ◌+◌, ◌-◌, ◌*◌, ◌≤◌, ◌<◌, Bool, true, false, List, [], ◌∷◌, ◌++◌, length, drop, Option, Some, None, inl, inr, refl, sym, ap, subst, ◌∙◌, arith}
 use Rattle.std.specs.Prelude.{◌&&◌, not, nat_le, ◌==◌, if◌then◌else◌}
 use Rattle.std.proofs.lemmas.Bool.{and_parts, leb-true}
 use Rattle.uc_logrec.specs.Format.{room, stored_length, stored_code}
@@ -50,7 +50,6 @@ shape log place = shape_at (room place) log place (omega arith)
 -- ---- the search
 
 module _ (log : List ℕ) (end last : ℕ) where
-
   pub found_here : (place : ℕ) → Tells log end last place → IsFirst log end last (places_from log place) (Some place)
   found_here place told = subst (λ (ps : List ℕ). IsFirst log end last ps (Some place)) (sym (shape log place)) (inl (told, refl))
 

@@ -1,9 +1,9 @@
 -- Reading what is shown of a log, beside a walk through what was written.
-use Rattle.std.proofs.Common.{◌≡◌, ℕ, ◌+◌, ◌≤◌, ◌<◌, List, [], ◌∷◌, ◌++◌, take, drop, Some, refl, sym, ap, subst, ◌∙◌, append_assoc, arith}
+use Rattle.std.proofs.Common.{◌≡◌, ℕ, ◌+◌, ◌≤◌, List, [], ◌∷◌, ◌++◌, drop, sym, ap, subst, ◌∙◌, append_assoc, arith}
 use Rattle.std.proofs.lemmas.List.{append-nil, take-append-drop}
 use Rattle.uc_logrec.specs.Walk.{Walks, one_more, cut_and_added}
 use Rattle.uc_log_crash.specs.Shown.{Shows, IsUnforged, ReadsOn, nothing, one_more as read_one}
-use Rattle.uc_log_crash.specs.Marks.{mark_of, Tells, AreTrue, AreOwn}
+use Rattle.uc_log_crash.specs.Marks.{Tells, AreTrue, AreOwn}
 
 -- what is shown is the log, cut at the synced offset, and other bytes
 pub is_cut : (written shown : List ℕ) (synced : ℕ) → Shows written synced shown → cut_and_added written synced (drop synced shown) ≡ shown
@@ -23,7 +23,7 @@ were_written written shown synced before found end walk unforged (read_one some 
 
 -- a mark that is shown was written, and is true
 pub none_tells : (written shown : List ℕ) (synced last end offset : ℕ) → AreTrue written synced → AreOwn written synced last shown → synced ≤ end → end ≤ offset → Tells shown end last offset → ⊥
-none_tells written shown synced last end offset true own le after told =
+none_tells written shown synced last end offset marks own le after told =
     let there = own told.payload offset told.after told.unsynced (omega (arith, le, after)) told.lies told.later told.mark in
-    let most : offset ≤ synced + told.unsynced = true told.payload offset told.after told.unsynced there told.mark in
+    let most : offset ≤ synced + told.unsynced = marks told.payload offset told.after told.unsynced there told.mark in
     omega (arith, le, most, told.beyond)

@@ -1,7 +1,7 @@
 -- What the payload at an offset tells, if one lies there.
-use Rattle.std.proofs.Common.{◌≡◌, ◌↔◌, ℕ, ◌+◌, ◌<◌, List, [], ◌∷◌, Option, Some, Bool, IsTrue, sym, ap, ◌∙◌, subst}
+use Rattle.std.proofs.Common.{◌≡◌, ◌↔◌, ℕ, ◌<◌, List, [], ◌∷◌, Some, Bool, IsTrue, sym, ap, ◌∙◌, subst}
 use Rattle.uc_logrec.specs.Log.{Reading}
-use Rattle.uc_logrec.specs.Position.{ahead_in, LiesIn}
+use Rattle.uc_logrec.specs.Position.{LiesIn}
 use Rattle.uc_log_crash.specs.Marks.{mark_of, sequence_of, SaysBeyond, Tells}
 
 abbrev first_of : List (List ℕ) → List ℕ

@@ -1,8 +1,9 @@
 //! Laws about what a crash leaves of a log.
-ghost use Rattle.std.specs.Prelude.{◌≡◌, ℕ, ◌≤◌, ◌<◌, ◌++◌, List, Some, length};
+ghost use Rattle.std.specs.Prelude.{◌≡◌, ℕ, ◌≤◌, ◌<◌, ◌++◌, List, Option, Some, None, length};
 ghost use Rattle.uc_logrec.specs.Walk.{Walks, BeginsWith};
 ghost use Rattle.uc_log_crash.specs.Shown.{Shows, IsUnforged, ReadsOn};
-ghost use Rattle.uc_log_crash.specs.Marks.{Tells, AreTrue, AreOwn, mark_of, with_mark};
+ghost use Rattle.uc_log_crash.specs.Marks.{AreTrue, AreOwn, mark_of, with_mark};
+ghost use Rattle.uc_log_crash.specs.Places.{all_places, IsFirst};
 
 use uc_logrec::{walk_begins_log, walk_is_kept};
 
@@ -25,11 +26,11 @@ pub fn batches_that_are_read_were_written()
     walk_begins_log();
 }
 
-/// After a crash no batch tells that one was on the device which isn't there. The log ends at an offset where that of the synced bytes
-/// is, or after it.
+/// A crash leaves no log in which [`first_told`](crate::first_told) finds a batch, if its whole batches end where the synced bytes do, or
+/// after these.
 pub fn crash_is_no_damage()
-    ensures { (written shown : List ℕ) (synced last end offset : ℕ) → AreTrue written synced → AreOwn written synced last shown →
-        synced ≤ end → end ≤ offset → Tells shown end last offset → ⊥ }
+    ensures { (written shown : List ℕ) (synced last end : ℕ) (found : Option ℕ) → AreTrue written synced → AreOwn written synced last shown →
+        synced ≤ end → IsFirst shown end last (all_places shown end) found → found ≡ None }
 {}
 
 /// A mark that is put after the header of a batch is read there again.

@@ -1,4 +1,4 @@
-use Rattle.std.proofs.Common.{ℕ, ◌-◌, ◌≤◌, length, take, drop, arith}
+use Rattle.std.proofs.Common.{◌-◌, length, take, drop, arith}
 use Rattle.std.proofs.lemmas.List.{length-take, length-drop}
 use Rattle.uc_log_crash.proofs.Bounds.{within_eight}
 use Rattle.uc_log_crash.proofs.mark.+number_in.Goals as goal

@@ -1,4 +1,4 @@
-use Rattle.std.proofs.Common.{◌≤◌, ◌+◌, ◌-◌, ◌/◌, ◌%◌, ◌∷◌, arith}
+use Rattle.std.proofs.Common.{◌≤◌, ◌+◌, ◌-◌, ◌/◌, ◌%◌, arith}
 use Rattle.std.proofs.lemmas.Result.{on_ok_weaker}
 use Rattle.uc_log_crash.specs.Marks.{number_text}
 use Rattle.uc_log_crash.proofs.Spelling.{text_step, bound_down, text_after}

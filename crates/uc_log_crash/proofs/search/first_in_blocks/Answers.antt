@@ -1,4 +1,4 @@
-use Rattle.std.proofs.Common.{ℕ, ◌<◌, ◌*◌, ◌-◌, Option, Some, None, refl, subst, arith}
+use Rattle.std.proofs.Common.{ℕ, ◌<◌, ◌*◌, ◌-◌, Option, Some, None, subst, arith}
 use Rattle.uc_log_crash.specs.Places.{places_from, block_count, IsFirst}
 use Rattle.uc_log_crash.proofs.Searched.{in_this_block, in_later_block, blocks_over}
 use Rattle.uc_log_crash.proofs.search.first_in_blocks.Goals as goal

@@ -1,4 +1,4 @@
-use Rattle.std.proofs.Common.{ℕ, ◌+◌, ◌-◌, ◌/◌, ◌++◌, Option, Some, None, sym, subst}
+use Rattle.std.proofs.Common.{ℕ, ◌+◌, ◌-◌, ◌/◌, ◌++◌, Option, Some, subst}
 use Rattle.std.proofs.lemmas.Result.{IfOk-weaker}
 use Rattle.uc_logrec.specs.Format as format
 use Rattle.uc_log_crash.specs.Places.{places_from, in_blocks, block_count, all_places, IsFirst}
@@ -22,6 +22,6 @@ returns c =
     (λ found. IsFirst log c.args.end c.args.last (in_blocks (block_count log - (place / 32768 + 1)) log (place / 32768 + 1)) found)
     (λ found. IsFirst log c.args.end c.args.last (all_places log c.args.end) found)
     (λ found first.
-        subst (λ (p : ℕ). IsFirst log c.args.end c.args.last (places_from log p ++ in_blocks (block_count log - (p / 32768 + 1)) log (p / 32768 + 1)) found) c.header_place-place.ensures.value
-        (later_of_all log c.args.end c.args.last (places_from log place) (in_blocks (block_count log - (place / 32768 + 1)) log (place / 32768 + 1)) found none first))
+    subst (λ (p : ℕ). IsFirst log c.args.end c.args.last (places_from log p ++ in_blocks (block_count log - (p / 32768 + 1)) log (p / 32768 + 1)) found) c.header_place-place.ensures.value
+    (later_of_all log c.args.end c.args.last (places_from log place) (in_blocks (block_count log - (place / 32768 + 1)) log (place / 32768 + 1)) found none first))
     c.first_in_blocks.ensures
