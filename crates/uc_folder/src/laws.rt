@@ -1,0 +1,1 @@
+//! What holds of a folder for every list of events.
