@@ -1,0 +1,7 @@
+mod Lists
+mod Records
+mod Sound
+mod Holding
+mod Opening
+mod Changes
+mod Writing
