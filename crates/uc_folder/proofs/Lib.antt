@@ -5,3 +5,10 @@ mod Holding
 mod Opening
 mod Changes
 mod Writing
+mod Renewing
+mod Adding
+mod Switching
+mod Checkpointing
+mod Running
+mod Marks
+mod Histories
