@@ -71,12 +71,12 @@ module _ (d e : Device) (log count synced base new : ℕ) (firm before part : Li
   writer_stays (Syncing n) fits = (opened fits.0, fits.1, fits.2)
   writer_stays (Both n) fits = (appended fits.0, fits.1, fits.2)
   writer_stays Closing fits = opened fits
-  writer_stays Beginning fits = closed fits
+  writer_stays Beginning fits = let both = closed (fits.0, fits.1) in (both.0, both.1, fits.2)
   writer_stays Entering fits =
       let both = closed (fits.0, fits.1) in
       let top = s.top in
-      let le = fits.3 in
-      (both.0, both.1, new_stays (d.logs (log + 1)) (e.logs (log + 1)) (s.same (log + 1) (omega arith)) fits.2, omega (arith, top, le))
+      let le = fits.4 in
+      (both.0, both.1, fits.2, new_stays (d.logs (log + 1)) (e.logs (log + 1)) (s.same (log + 1) (omega arith)) fits.3, omega (arith, top, le))
   writer_stays Failed fits = subst (IsPrefixOf (take count part)) (sym (ap content here)) fits
 
 -- ---- its steps

@@ -68,8 +68,8 @@ FitsWriter d log count synced base firm before part batch Appending = IsAppended
 FitsWriter d log count synced base firm before part batch (Syncing n) = IsOpen count synced firm before part (d.logs log) × (synced ≤ n) × (n ≤ count)
 FitsWriter d log count synced base firm before part batch (Both n) = IsAppended count synced firm before part batch (d.logs log) × (synced ≤ n) × (n ≤ count)
 FitsWriter d log count synced base firm before part batch Closing = IsOpen count synced firm before part (d.logs log)
-FitsWriter d log count synced base firm before part batch Beginning = (is : IsOpen count synced firm before part (d.logs log)) × IsWhole part is.file
-FitsWriter d log count synced base firm before part batch Entering = (is : IsOpen count synced firm before part (d.logs log)) × IsWhole part is.file × IsNew (d.logs (log + 1)).now × (log + 1 ≤ d.names)
+FitsWriter d log count synced base firm before part batch Beginning = (is : IsOpen count synced firm before part (d.logs log)) × IsWhole part is.file × (synced ≡ count)
+FitsWriter d log count synced base firm before part batch Entering = (is : IsOpen count synced firm before part (d.logs log)) × IsWhole part is.file × (synced ≡ count) × IsNew (d.logs (log + 1)).now × (log + 1 ≤ d.names)
 FitsWriter d log count synced base firm before part batch Failed = IsPrefixOf (take count part) (content (d.logs log).now)
 
 -- a base that may be made: of its log it has batches that are there

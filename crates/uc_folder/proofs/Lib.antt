@@ -12,3 +12,4 @@ mod Checkpointing
 mod Running
 mod Marks
 mod Histories
+mod Saying

@@ -193,3 +193,14 @@ marks_after Done batch parts d a fine are = done_marked batch parts d a fine are
 marks_after NotDone batch parts d a fine are = failed_marked d a are
 marks_after PartDone batch parts d a fine are = begun_marked d a are
 marks_after DoneUntold batch parts d a fine are = failed_marked (carried_out batch parts d a) a (done_marked batch parts d a fine are)
+
+pub marks_reread : (n : ℕ) (keep : Keep) (d : Device) → AreMarked d → AreMarked (change_log n (crashed_file keep) d)
+marks_reread n keep d are = marks_changed n (crashed_file keep) d (λ f e is. marked_crashed keep (Some f) is) are
+
+-- a name stands for one file
+pub same_file : (n : ℕ) (o : Option File) (f g : File) → o ≡ Some f → o ≡ Some g → n ≤ length (first_whole f.kept) → n ≤ length (first_whole g.kept)
+same_file n o f g e e' le = subst (λ (x : Option File). n ≤ length (kept_of x)) (sym e ∙ e') le
+  where
+    kept_of : Option File → List Batch
+    kept_of None = []
+    kept_of (Some h) = first_whole h.kept

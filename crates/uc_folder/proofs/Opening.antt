@@ -118,22 +118,22 @@ module _ (d : Device) (log sure : ℕ) (parts : ℕ → List Batch) (firm : List
   pub sound_firm : IsPrefixOf firm (upto parts log ++ parts log)
   sound_firm = last_firm firm (upto parts log) (parts log) (d.logs log).now sound.last
 
-  abbrev has_base : ℕ → Bool
+  abbrev pub has_base : ℕ → Bool
   has_base k = is_there (d.bases k).now
 
-  abbrev has_log : ℕ → Bool
+  abbrev pub has_log : ℕ → Bool
   has_log k = is_used (d.logs k).now
 
-  abbrev m : ℕ
+  abbrev pub m : ℕ
   m = highest has_base d.names
 
-  abbrev n : ℕ
+  abbrev pub n : ℕ
   n = max first_number m
 
-  abbrev h : ℕ
+  abbrev pub h : ℕ
   h = highest has_log d.names
 
-  abbrev read : ℕ → List Batch
+  abbrev pub read : ℕ → List Batch
   read k = cond (ltb k n) (parts k) (content (d.logs k).now)
 
   n_there : (n ≡ first_number) ⊎ (has_base n ≡ true)
@@ -170,10 +170,10 @@ module _ (d : Device) (log sure : ℕ) (parts : ℕ → List Batch) (firm : List
       (λ (le : h ≤ log). le) (cases_lt log h))
       (highest_passes has_log d.names)
 
-  abbrev j : ℕ
+  abbrev pub j : ℕ
   j = max n h
 
-  j_below : j ≤ log
+  pub j_below : j ≤ log
   j_below = let a = n_below in let b = h_below in omega (arith, a, b)
 
   n_j : n ≤ j
@@ -189,7 +189,7 @@ module _ (d : Device) (log sure : ℕ) (parts : ℕ → List Batch) (firm : List
       (λ (is : has_log k ≡ true). let top = sound.named in let above : k ≤ h = highest_above has_log d.names k (omega (arith, le, top)) is in absurd (omega (arith, above, lt)))
       (λ (is : has_log k ≡ false). is) (cases_Bool (has_log k)))
 
-  read_at : (k : ℕ) → n ≤ k → read k ≡ content (d.logs k).now
+  pub read_at : (k : ℕ) → n ≤ k → read k ≡ content (d.logs k).now
   read_at k le = ap (λ b. cond b (parts k) (content (d.logs k).now)) (le-ltb k n le)
 
   read_below : (k : ℕ) → k < log → read k ≡ parts k
@@ -202,7 +202,7 @@ module _ (d : Device) (log sure : ℕ) (parts : ℕ → List Batch) (firm : List
   read_none : read 0 ≡ []
   read_none = let a = n_first in ap (λ b. cond b (parts 0) (content (d.logs 0).now)) (lt-ltb 0 n (omega (arith, a))) ∙ sound.none
 
-  upto_read : (k : ℕ) → k ≤ log → upto read k ≡ upto parts k
+  pub upto_read : (k : ℕ) → k ≤ log → upto read k ≡ upto parts k
   upto_read k le = upto_same read parts k (λ i lt. read_below i (omega (arith, lt, le)))
 
   -- of the logs after the one that goes on nothing is read

@@ -172,12 +172,10 @@ module _ (d : Device) (m : Machine) (c : Checkpointer) (parts : ℕ → List Bat
   replacing : (v : Writer) (keeps : Keeps (inside' Replacing)) → FitsAt (name_log log (Some d.copy) d) keeps.firm v → Keeps (world (name_log log (Some d.copy) d) m v c parts batch acked)
   replacing v keeps fits =
       let is : IsWhole part d.copy = keeps.writer.1 in
-      edited d m c parts batch acked m.count m.synced Replacing v (stands_for (Some d.copy) (d.logs log)) (max d.names log) keeps (omega arith)
-      (
+      edited d m c parts batch acked m.count m.synced Replacing v (stands_for (Some d.copy) (d.logs log)) (max d.names log) keeps (omega arith) (
         subst (λ l. IsPrefixOf l part) (sym (whole_content part d.copy is)) (prefix_refl part),
         subst (λ l. IsPrefixOf keeps.firm (upto parts log ++ l)) (sym is.kept) (sound_firm d log keeps.sure parts keeps.firm keeps.sound),
-      )
-      (
+      ) (
         subst (λ l. IsLast keeps.firm (upto parts log) l (d.logs log).now) (sym is.kept) keeps.sound.last,
         subst (AllByRecursion (IsLast keeps.firm (upto parts log) (first_whole d.copy.kept))) (sym keeps.writer.0.1) tt,
       )

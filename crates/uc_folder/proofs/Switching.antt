@@ -131,22 +131,23 @@ module _ (d : Device) (m : Machine) (c : Checkpointer) (parts : ℕ → List Bat
       moved d m c parts batch acked (file' (synced m.count)) log m.count m.count parts batch more more Closing Beginning refl (λ k. refl) (omega arith) (λ k lt. refl) (prefix_refl part) keeps
       (synced_grows d m c parts batch acked m.count part keeps.firm is from)
       (synced_firmly d m c parts batch acked m.count part keeps.firm is keeps.sure keeps.sound (prefix_refl part) from (prefix_take m.count part))
-      (prefix_refl more) (synced_open d m c parts batch acked m.count part keeps.firm is from (omega arith), closed keeps.firm is)
+      (prefix_refl more) (synced_open d m c parts batch acked m.count part keeps.firm is from (omega arith), closed keeps.firm is, refl)
   closing_keeps NotDone keeps = suspects Closing part m.count keeps keeps.writer (prefix_take m.count part)
   closing_keeps PartDone keeps = suspects Closing part m.count keeps keeps.writer (prefix_take m.count part)
   closing_keeps DoneUntold keeps = suspects_after Closing m.count part keeps keeps.writer (prefix_refl part) (prefix_take m.count part) (omega arith) (few_synced keeps.firm keeps.writer)
 
-  beginning : (v : Writer) (keeps : Keeps (inside' Beginning)) → (((is : IsOpen m.count m.synced keeps.firm before part ((name_log (log + 1) (Some empty_file) d).logs log)) × IsWhole part is.file) → FitsWriter (name_log (log + 1) (Some empty_file) d) log m.count m.synced m.base keeps.firm before part batch v) →
+  beginning : (v : Writer) (keeps : Keeps (inside' Beginning)) → (((is : IsOpen m.count m.synced keeps.firm before part ((name_log (log + 1) (Some empty_file) d).logs log)) × IsWhole part is.file × (m.synced ≡ m.count)) → FitsWriter (name_log (log + 1) (Some empty_file) d) log m.count m.synced m.base keeps.firm before part batch v) →
       Keeps (world (name_log (log + 1) (Some empty_file) d) m v c parts batch acked)
   beginning v keeps fits =
       stepped d m c parts batch acked (name_log (log + 1) (Some empty_file) d) m.count m.synced Beginning v refl (λ k. refl) keeps (later_sound d log keeps.sure parts keeps.firm keeps.sound (log + 1) (Some empty_file) (omega arith) refl)
-      (fits (subst (λ (e : Entry). (is : IsOpen m.count m.synced keeps.firm before part e) × IsWhole part is.file) (sym (at_other (log + 1) (stands_for (Some empty_file) (d.logs (log + 1))) d.logs log (omega arith))) keeps.writer))
+      (fits (subst (λ (e : Entry). (is : IsOpen m.count m.synced keeps.firm before part e) × IsWhole part is.file × (m.synced ≡ m.count)) (sym (at_other (log + 1) (stands_for (Some empty_file) (d.logs (log + 1))) d.logs log (omega arith))) keeps.writer))
 
   pub beginning_keeps : (o : Outcome) → Keeps (inside' Beginning) → Keeps (happens (inside' Beginning) (Writes o))
   beginning_keeps Done keeps =
       beginning Entering keeps (λ is. (
         is.0,
         is.1,
+        is.2,
         subst (λ (e : Entry). IsNew e.now) (sym (at_here (log + 1) (stands_for (Some empty_file) (d.logs (log + 1))) d.logs)) (empty_new (d.logs (log + 1))),
         omega arith,
       ))
@@ -157,7 +158,7 @@ module _ (d : Device) (m : Machine) (c : Checkpointer) (parts : ℕ → List Bat
   pub entering_keeps : (o : Outcome) → Keeps (inside' Entering) → Keeps (happens (inside' Entering) (Writes o))
   entering_keeps Done keeps =
       let is = keeps.writer.0 in
-      let new = keeps.writer.2 in
+      let new = keeps.writer.3 in
       let next : ℕ = log + 1 in
       let q = at next [] parts in
       let more = before ++ part in
@@ -165,7 +166,7 @@ module _ (d : Device) (m : Machine) (c : Checkpointer) (parts : ℕ → List Bat
       let empty : q next ≡ [] = at_here next [] parts in
       let grows = sound_firm d log keeps.sure parts keeps.firm keeps.sound in
       let sound = switched_sound (sync_names d) log keeps.sure parts keeps.firm (named_sound d log keeps.sure parts keeps.firm keeps.sound) next (omega arith) (subst (IsLog part) (sym is.now) keeps.writer.1) refl
-      (subst IsThere (sym new.now) tt, tt) keeps.writer.3 in
+      (subst IsThere (sym new.now) tt, tt) keeps.writer.4 in
       let last = subst (IsLast more (upto q next) (q next)) new.now sound.last in
       moved d m c parts batch acked (sync_names d) next 0 0 q batch acked more Entering Ready refl (λ k. refl) (omega arith) (λ k lt. at_other next [] parts k (omega (arith, lt)))
       (subst (IsPrefixOf part) (sym (at_other next [] parts log (omega arith))) (prefix_refl part)) keeps grows sound

@@ -1,5 +1,5 @@
 -- The machine and the device together, over every list of events.
-use Rattle.std.specs.Prelude.{take, min, length, ◌≡◌, ℕ, ◌+◌, ◌≤◌, ◌<◌, Bool, true, false, not, List, [], ◌∷◌, ◌++◌, Option, Some, None, nat_lt, if◌then◌else◌}
+use Rattle.std.specs.Prelude.{take, min, length, ◌≡◌, ℕ, ◌+◌, ◌≤◌, ◌<◌, Bool, true, false, not, ◌&&◌, List, [], ◌∷◌, ◌++◌, Option, Some, None, nat_lt, if◌then◌else◌}
 use Rattle.uc_folder.specs.Device.{Batch, Record, Whole, Torn, File, Device, Keep, first_number, crashed, crashed_file, empty_file, appended, synced, suspected, sealed, copied, rows_of, at, change_log, name_log, name_base, sync_names, write_copy, write_partial, records_of, content, are_whole, are_damaged, is_there, past_of, newest_base, last_log, upto}
 use Rattle.uc_folder.specs.declared.machine.Machine.{Machine}
 use Rattle.uc_folder.specs.declared.listing.Found.{Found}
@@ -214,3 +214,25 @@ pub record IsReadable (d : Device) : Type 0 where
   pub logs : (k : ℕ) → newest_base d ≤ k → k < last_log d → is_intact (d.logs k).now ≡ true
   pub last : first_number < last_log d → is_there (d.logs (last_log d)).now ≡ true
   pub whole : (k : ℕ) → are_damaged (records_of (d.logs k).now) ≡ false
+
+-- an event that may happen beside a sync of the log: neither that ends nor the process
+abbrev pub is_beside : Event → Bool
+is_beside (Syncs o) = false
+is_beside (Crash logs bases least top) = false
+is_beside (Restart least top) = false
+is_beside (Reread keep least top) = false
+is_beside e = true
+
+abbrev pub are_beside : List Event → Bool
+are_beside [] = true
+are_beside (e ∷ es) = is_beside e && are_beside es
+
+-- One course: three batches in two logs, all synced, and a base that has the first log and one batch of the second. The first log is
+-- removed.
+abbrev pub base_within_a_log : Batch → Batch → Batch → List Event
+base_within_a_log a b c =
+    Writes Done ∷ Writes Done ∷
+    Submit a ∷ Writes Done ∷ AskSwitch ∷ Writes Done ∷ Writes Done ∷ Writes Done ∷
+    Submit b ∷ Writes Done ∷ AskSync ∷ Submit c ∷ Writes Done ∷ Syncs Done ∷
+    AskSwitch ∷ Writes Done ∷ Writes Done ∷ Writes Done ∷
+    AskCheckpoint 2 1 ∷ Checkpoints Done ∷ Checkpoints Done ∷ Checkpoints Done ∷ Checkpoints Done ∷ Checkpoints Done ∷ Checkpoints Done ∷ []

@@ -1,1 +1,107 @@
-//! What holds of a folder for every list of events.
+//! What holds of a folder for every list of events, from a folder without a file on: whatever is asked for, however each operation goes,
+//! and however often the machine crashed and the process ended before.
+//!
+//! Proof steps: none does anything when it runs. Their contracts speak of definitions alone.
+ghost use Rattle.std.specs.Prelude.{◌≡◌, ℕ, true, List, [], ◌∷◌, ◌++◌, None};
+ghost use Rattle.uc_folder.specs.declared.phases.Writer.TheVariants.{Ready, Appending};
+ghost use Rattle.uc_folder.specs.Device.{Batch, Keep, crashed, recovered, content, upto};
+ghost use Rattle.uc_folder.specs.Steps.{is_open};
+ghost use Rattle.uc_folder.specs.Worlds.{
+  Event,
+  AskSync,
+  Syncs,
+  Done,
+  Crash,
+  Restart,
+  Reread,
+  reread,
+  happens,
+  run,
+  start,
+  submitted,
+  answered,
+  first_of,
+  are_beside,
+  IsPrefixOf,
+  IsReadable,
+  base_within_a_log,
+};
+
+/// A crash at any moment leaves a folder that can be opened, whatever it keeps of what wasn't synced. What is read are the first of the
+/// batches that were submitted, none in part and none left out, and with them all that were acknowledged as synced. These stay
+/// acknowledged, and from then on what was read is what was submitted.
+pub fn a_crash_loses_nothing_acknowledged()
+    ensures readable { (events : List Event) (logs bases : ℕ → Keep) → IsReadable (crashed logs bases (run events start).device) }
+    ensures prefix { (events : List Event) (logs bases : ℕ → Keep) →
+        IsPrefixOf (recovered (crashed logs bases (run events start).device)) (submitted (run events start)) }
+    ensures acknowledged { (events : List Event) (logs bases : ℕ → Keep) →
+        IsPrefixOf (run events start).acked (recovered (crashed logs bases (run events start).device)) }
+    ensures goes_on { (events : List Event) (logs bases : ℕ → Keep) (least top : ℕ) →
+        submitted (happens (run events start) (Crash logs bases least top)) ≡ recovered (crashed logs bases (run events start).device) }
+    ensures stays { (events later : List Event) → IsPrefixOf (run events start).acked (run (events ++ later) start).acked }
+{}
+
+/// If only the process ends, an opening reads all that was answered, synced or not, also after a sync that failed.
+pub fn a_process_that_ends_loses_nothing_answered()
+    ensures readable { (events : List Event) → IsReadable (run events start).device }
+    ensures prefix { (events : List Event) → IsPrefixOf (recovered (run events start).device) (submitted (run events start)) }
+    ensures answered { (events : List Event) → IsPrefixOf (answered (run events start)) (recovered (run events start).device) }
+    ensures acknowledged { (events : List Event) → IsPrefixOf (run events start).acked (recovered (run events start).device) }
+    ensures goes_on { (events : List Event) (least top : ℕ) →
+        submitted (happens (run events start) (Restart least top)) ≡ recovered (run events start).device }
+{}
+
+/// And if of the log that was written only what is on the device can be read, as a system may do after a sync that failed, all that was
+/// acknowledged as synced is read.
+pub fn a_log_read_from_the_device_loses_nothing_acknowledged()
+    ensures readable { (events : List Event) (keep : Keep) → IsReadable (reread keep (run events start)) }
+    ensures prefix { (events : List Event) (keep : Keep) →
+        IsPrefixOf (recovered (reread keep (run events start))) (submitted (run events start)) }
+    ensures acknowledged { (events : List Event) (keep : Keep) →
+        IsPrefixOf (run events start).acked (recovered (reread keep (run events start))) }
+    ensures goes_on { (events : List Event) (keep : Keep) (least top : ℕ) →
+        submitted (happens (run events start) (Reread keep least top)) ≡ recovered (reread keep (run events start)) }
+{}
+
+/// Under `Always` a write is answered once the machine counts it as synced. A crash at any later moment loses none of these.
+pub fn always_loses_nothing()
+    ensures said { (events : List Event) → IsPrefixOf (first_of (run events start).parts (run events start).machine.log
+        (run events start).machine.synced) (run events start).acked }
+    ensures kept { (events later : List Event) (logs bases : ℕ → Keep) →
+        IsPrefixOf (first_of (run events start).parts (run events start).machine.log (run events start).machine.synced)
+        (recovered (crashed logs bases (run (events ++ later) start).device)) }
+{}
+
+/// Under `EveryMs` a write is answered once it is appended, and a sync is asked for every so often. Once that is told as done, a crash at
+/// any later moment loses nothing that was answered before it was asked for.
+pub fn every_ms_loses_only_what_came_after_a_sync()
+    ensures ready { (events beside later : List Event) (logs bases : ℕ → Keep) →
+        (run events start).machine.writer ≡ Ready → are_beside beside ≡ true →
+        is_open (run (events ++ AskSync ∷ beside) start).machine.writer ≡ true →
+        IsPrefixOf (answered (run events start))
+        (recovered (crashed logs bases (run ((events ++ AskSync ∷ beside) ++ Syncs Done ∷ later) start).device)) }
+    ensures appending { (events beside later : List Event) (logs bases : ℕ → Keep) →
+        (run events start).machine.writer ≡ Appending → are_beside beside ≡ true →
+        is_open (run (events ++ AskSync ∷ beside) start).machine.writer ≡ true →
+        IsPrefixOf (answered (run events start))
+        (recovered (crashed logs bases (run ((events ++ AskSync ∷ beside) ++ Syncs Done ∷ later) start).device)) }
+{}
+
+/// Under `Never`, where no sync is asked for, a crash loses at most the end of the log that is written: all that older logs had is
+/// there, and of that log the first batches. A switch of the log syncs it.
+pub fn never_loses_only_the_end_of_a_log()
+    ensures older { (events : List Event) (logs bases : ℕ → Keep) →
+        IsPrefixOf (upto (run events start).parts (run events start).machine.log) (recovered (crashed logs bases (run events start).device)) }
+    ensures prefix { (events : List Event) (logs bases : ℕ → Keep) →
+        IsPrefixOf (recovered (crashed logs bases (run events start).device)) (submitted (run events start)) }
+    ensures readable { (events : List Event) (logs bases : ℕ → Keep) → IsReadable (crashed logs bases (run events start).device) }
+{}
+
+/// The machine does what it is for: a base has one log and the first batch of the next one, the first log is gone, and all batches are
+/// read.
+pub fn a_base_may_end_within_a_log()
+    ensures acknowledged { (a b c : Batch) → (run (base_within_a_log a b c) start).acked ≡ a ∷ b ∷ c ∷ [] }
+    ensures based { (a b c : Batch) → content ((run (base_within_a_log a b c) start).device.bases 2).now ≡ a ∷ b ∷ [] }
+    ensures gone { (a b c : Batch) → ((run (base_within_a_log a b c) start).device.logs 1).now ≡ None }
+    ensures read { (a b c : Batch) → recovered (run (base_within_a_log a b c) start).device ≡ a ∷ b ∷ c ∷ [] }
+{}

@@ -1,12 +1,26 @@
 //! [`Machine`]: which file operation comes next, and what follows from how it went.
+ghost use Rattle.std.specs.Prelude.{◌≡◌, ◌<◌, ◌^◌};
+ghost use Rattle.uc_folder.specs.Steps.{
+  next_write,
+  told_write,
+  next_sync,
+  told_sync,
+  next_checkpoint,
+  told_checkpoint,
+  submitting,
+  syncing,
+  switching,
+  may_begin,
+  checkpointing,
+  opened,
+  is_open,
+  clearing_after,
+  removing_from,
+};
+
 use crate::action::Action;
 use crate::listing::Found;
 use crate::phases::{Checkpointer, Writer};
-
-ghost use Rattle.std.specs.Prelude.{◌≡◌, ◌<◌, ◌^◌};
-ghost use Rattle.uc_folder.specs.Steps.{
-    next_write, told_write, next_sync, told_sync, next_checkpoint, told_checkpoint, submitting, syncing, switching,
-    may_begin, checkpointing, opened, is_open, clearing_after, removing_from};
 
 /// The state of a folder that is open.
 #[derive(Debug, Clone, Copy, PartialEq, Eq)]
@@ -60,7 +74,8 @@ impl Machine {
     {
         match self.writer {
             Writer::Making => Action::CreateLog(self.log),
-            Writer::Founding | Writer::Naming(_) | Writer::Settling | Writer::Entering => Action::SyncNames,
+            Writer::Founding | Writer::Naming(_) | Writer::Settling | Writer::Entering =>
+                Action::SyncNames,
             Writer::Clearing(number, _) => Action::RemoveLog(number),
             Writer::SettingAside => Action::SetAside(self.log),
             Writer::Copying => Action::CopyLog(self.log),
@@ -234,7 +249,8 @@ impl Machine {
     /// changes unless the folder is open, no base is under way, none has as much, and all of it is in older logs.
     pub fn ask_checkpoint(&mut self, number: u64, past: u64)
         ensures { self.new ≡ record self.old {
-            checkpointer = checkpointing self.old.checkpointer (may_begin self.old number past) number past } }
+          checkpointer = checkpointing self.old.checkpointer (may_begin self.old number past) number past;
+        } }
     {
         let may_begin = self.is_open()
             && (self.tried < number || self.tried == number && self.past < past)
