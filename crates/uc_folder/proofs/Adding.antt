@@ -1,21 +1,20 @@
 -- Appends and syncs of the log keep what holds.
-use Rattle.std.proofs.Common.{◌≡◌, ℕ, zero, suc, ◌+◌, ◌<◌, ◌≤◌, Bool, true, false, cond, ◌⊎◌, inl, inr, List, [], ◌∷◌, ◌++◌, append_assoc, length, take, drop, refl, sym, ap, ◌∙◌, subst, arith}
-use Rattle.std.specs.Prelude.{Option, Some, None, max, min}
+use Rattle.std.proofs.Common.{◌≡◌, ℕ, ◌+◌, ◌≤◌, List, [], ◌∷◌, ◌++◌, append_assoc, length, take, refl, sym, ap, ◌∙◌, subst, arith}
+use Rattle.std.specs.Prelude.{Some}
 use Rattle.std.specs.List.{AllByRecursion}
 use Rattle.std.proofs.lemmas.List.{append-nil, take-append-le, length-append, length-take}
 use Rattle.uc_folder.specs.declared.machine.Machine.{Machine}
 use Rattle.uc_folder.specs.declared.phases.Writer.{Writer}
-use Rattle.uc_folder.specs.declared.phases.Writer.TheVariants.{Ready, Appending, Syncing, Both, Closing, Beginning, Failed}
+use Rattle.uc_folder.specs.declared.phases.Writer.TheVariants.{Ready, Appending, Syncing, Both, Failed}
 use Rattle.uc_folder.specs.declared.phases.Checkpointer.{Checkpointer}
-use Rattle.uc_folder.specs.Device.{Batch, Record, Whole, Torn, first_whole, are_whole, File, Entry, Device, first_number, content, upto, appended, synced, suspected, changed, changed_name, change_log}
-use Rattle.uc_folder.specs.Worlds.{World, IsPrefixOf, first_of, Outcome, Done, NotDone, PartDone, DoneUntold, Writes, Syncs, happens}
-use Rattle.uc_folder.proofs.Lists.{prefix_refl, prefix_trans, prefix_under, prefix_onto, prefix_take}
-use Rattle.uc_folder.proofs.Records.{first_append, first_prefix, whole_append, whole_front, whole_length}
-use Rattle.uc_folder.proofs.Sound.{Sound, IsWhole, IsThere, IsLast, settled, Each}
+use Rattle.uc_folder.specs.Device.{Batch, Record, Whole, Torn, first_whole, are_whole, File, Entry, Device, content, upto, appended, synced, changed, changed_name}
+use Rattle.uc_folder.specs.Worlds.{World, IsPrefixOf, Outcome, Done, NotDone, PartDone, DoneUntold, Writes, happens}
+use Rattle.uc_folder.proofs.Lists.{prefix_refl, prefix_trans, prefix_under, prefix_take}
+use Rattle.uc_folder.proofs.Records.{first_append, first_prefix, whole_append}
+use Rattle.uc_folder.proofs.Sound.{Sound, IsThere, IsLast, settled}
 use Rattle.uc_folder.proofs.Holding.{IsOpen, IsAppended, FitsWriter, Keeps}
-use Rattle.uc_folder.proofs.Opening.{sound_firm}
 use Rattle.uc_folder.proofs.Changes.{entry_sound, submitted_sound}
-use Rattle.uc_folder.proofs.Writing.{world, inside, moved, waits, fails, with_file, filed, last_of, here, here_before, answered_in, take_length, take_counted, drop_length, take_more, most, synced_file, synced_is, synced_all, synced_first, synced_more}
+use Rattle.uc_folder.proofs.Writing.{world, inside, fails, with_file, filed, last_of, here, here_before, take_counted, take_more, most, synced_file, synced_is, synced_all, synced_first, synced_more}
 
 -- no more is on the device than the log has
 pub marked_count : (count synced : ℕ) (firm before part : List Batch) (e : Entry) → IsOpen count synced firm before part e → synced ≤ length part

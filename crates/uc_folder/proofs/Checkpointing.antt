@@ -1,6 +1,6 @@
 -- The checkpointer's steps keep what holds.
-use Rattle.std.proofs.Common.{◌≡◌, ℕ, ◌+◌, ◌<◌, ◌≤◌, Bool, true, false, cond, ltb, inl, inr, ⊎_elim, List, [], ◌∷◌, ◌++◌, length, take, refl, sym, ap, ◌∙◌, subst, arith}
-use Rattle.std.specs.Prelude.{Some, None, max}
+use Rattle.std.proofs.Common.{◌≡◌, ℕ, ◌+◌, ◌<◌, ◌≤◌, Bool, true, false, cond, ltb, inl, inr, ⊎_elim, List, [], take, refl, sym, ap, ◌∙◌, subst, arith}
+use Rattle.std.specs.Prelude.{Some, None}
 use Rattle.std.proofs.lemmas.List.{length-take-le}
 use Rattle.std.proofs.lemmas.Bool.{ltb-true}
 use Rattle.uc_folder.specs.declared.machine.Machine.{Machine}
@@ -14,7 +14,7 @@ use Rattle.uc_folder.specs.Worlds.{World, IsPrefixOf, first_of, Outcome, Done, N
 use Rattle.uc_folder.proofs.Lists.{prefix_take, at_all, at_here, at_other}
 use Rattle.uc_folder.proofs.Records.{rows_first, rows_whole}
 use Rattle.uc_folder.proofs.Sound.{IsWhole, IsThere, Sound}
-use Rattle.uc_folder.proofs.Holding.{Stands, IsRead, IsNew, IsOpen, IsOpening, IsAppended, FitsWriter, IsCopy, Attempt, FitsCheckpointer, Keeps}
+use Rattle.uc_folder.proofs.Holding.{Stands, IsRead, IsNew, IsOpen, IsOpening, IsAppended, FitsWriter, IsCopy, FitsCheckpointer, Keeps}
 use Rattle.uc_folder.proofs.Opening.{there_true}
 use Rattle.uc_folder.proofs.Changes.{named_sound, raised_sound, based_sound, aside_sound, log_removed_sound, base_removed_sound}
 use Rattle.uc_folder.proofs.Writing.{world}

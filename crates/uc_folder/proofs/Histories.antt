@@ -1,16 +1,16 @@
 -- Every list of events keeps what holds; and what openings find after it.
-use Rattle.std.proofs.Common.{◌≡◌, ℕ, suc, ◌<◌, ◌≤◌, Bool, true, false, cond, ◌⊎◌, inl, inr, ⊎_elim, List, [], ◌∷◌, ◌++◌, length, take, refl, sym, ap, ◌∙◌, subst, arith}
-use Rattle.std.specs.Prelude.{Option, Some, None}
+use Rattle.std.proofs.Common.{◌≡◌, ℕ, ◌≤◌, false, inl, List, [], ◌∷◌, ◌++◌, length, take, refl, sym, ap, ◌∙◌, subst, arith}
+use Rattle.std.specs.Prelude.{Some}
 use Rattle.std.proofs.lemmas.List.{take-append-le}
 use Rattle.uc_folder.specs.declared.machine.Machine.{Machine}
 use Rattle.uc_folder.specs.declared.phases.Writer.{Writer}
-use Rattle.uc_folder.specs.declared.phases.Writer.TheVariants.{Making, Founding, Naming, Clearing, SettingAside, Copying, SealingCopy, Replacing, Settling, Ready, Appending, Syncing, Both, Closing, Beginning, Entering, Failed}
+use Rattle.uc_folder.specs.declared.phases.Writer.TheVariants.{Making, Replacing, Settling, Appending, Syncing, Both, Closing}
 use Rattle.uc_folder.specs.declared.phases.Checkpointer.{Checkpointer}
 use Rattle.uc_folder.specs.declared.phases.Checkpointer.TheVariants.{Idle}
-use Rattle.uc_folder.specs.Device.{Batch, first_whole, content, File, Device, Keep, first_number, are_damaged, records_of, upto, at, crashed, recovered}
+use Rattle.uc_folder.specs.Device.{Batch, first_whole, content, File, Device, Keep, first_number, upto, crashed, recovered}
 use Rattle.uc_folder.specs.Steps.{next_write, next_sync, next_checkpoint}
 use Rattle.uc_folder.specs.Worlds.{World, IsPrefixOf, IsReadable, Outcome, Done, NotDone, PartDone, DoneUntold, Event, Submit, AskSync, AskSwitch, AskCheckpoint, Writes, Syncs, Checkpoints, Crash, Restart, Reread, reread, first_of, answered, acked_after, acked_then, happens, opens, start, run, submitted}
-use Rattle.uc_folder.proofs.Lists.{prefix_refl, prefix_trans, prefix_take, prefix_under}
+use Rattle.uc_folder.proofs.Lists.{prefix_refl, prefix_trans, prefix_under}
 use Rattle.uc_folder.proofs.Sound.{Sound, crash_sound}
 use Rattle.uc_folder.proofs.Opening.{j, read, sound_firm, opened_keeps, opened_sound, opened_reads, opened_prefix, opened_answered, opened_readable}
 use Rattle.uc_folder.proofs.Holding.{IsOpen, FitsWriter, Keeps}

@@ -1,14 +1,13 @@
 -- Marks tell no more than what is on the device: so what a crash leaves is never taken for damage.
-use Rattle.std.proofs.Common.{◌≡◌, ℕ, zero, suc, ◌+◌, ◌<◌, ◌≤◌, Bool, true, false, cond, not, ◌&&◌, ◌||◌, ltb, ◌⊎◌, inl, inr, List, [], ◌∷◌, ◌++◌, append_assoc, length, take, drop, refl, sym, ap, ◌∙◌, subst, arith}
+use Rattle.std.proofs.Common.{◌≡◌, ℕ, zero, suc, ◌≤◌, Bool, true, false, cond, not, ◌&&◌, ◌||◌, ltb, List, [], ◌∷◌, ◌++◌, append_assoc, length, take, refl, sym, ap, ◌∙◌, subst, arith}
 use Rattle.std.specs.Prelude.{⊤, Option, Some, None}
-use Rattle.std.specs.List.{AllByRecursion}
 use Rattle.std.proofs.lemmas.Bool.{le-ltb, ltb-false}
 use Rattle.std.proofs.lemmas.List.{append-nil, length-append}
 use Rattle.uc_folder.specs.declared.action.Action.{Action}
 use Rattle.uc_folder.specs.declared.action.Action.TheVariants.{Nothing, CreateLog, Append, SyncLog, SyncNames, SetAside, CopyLog, SyncCopy, NameCopy, WriteBase, SyncBase, NameBase, RemoveLog, RemoveBase}
-use Rattle.uc_folder.specs.Device.{Batch, Record, Whole, Torn, first_whole, whole_part, are_whole, tell_more, are_damaged, records_of, left_of, File, Entry, Device, Keep, crashed, crashed_file, crashed_name, empty_file, appended, synced, suspected, sealed, copied, at, changed, changed_name, change_log, stands_for, name_log}
+use Rattle.uc_folder.specs.Device.{Batch, Record, Whole, Torn, first_whole, whole_part, are_whole, tell_more, are_damaged, records_of, left_of, File, Entry, Device, Keep, crashed, crashed_file, crashed_name, empty_file, appended, synced, suspected, sealed, copied, changed, changed_name, change_log, stands_for, name_log}
 use Rattle.uc_folder.specs.Worlds.{IsPrefixOf, Outcome, Done, NotDone, PartDone, DoneUntold, carried_out, begun, failed, device_after}
-use Rattle.uc_folder.proofs.Lists.{at_all, all_weaker}
+use Rattle.uc_folder.proofs.Lists.{at_all}
 use Rattle.uc_folder.proofs.Records.{first_prefix, part_first}
 use Rattle.uc_folder.proofs.Sound.{Each, each_crashed}
 use Rattle.uc_folder.proofs.Writing.{synced_file, synced_is, synced_all, synced_more}

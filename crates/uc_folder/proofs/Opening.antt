@@ -11,8 +11,8 @@ use Rattle.uc_folder.specs.Device.{Batch, first_whole, are_whole, are_damaged, r
 use Rattle.uc_folder.specs.Worlds.{IsPrefixOf, IsReadable, is_intact, opens}
 use Rattle.uc_folder.proofs.Lists.{prefix_refl, prefix_trans, prefix_under, prefix_onto, prefix_cancel, prefix_of_nil, upto_same, upto_more, upto_empty, highest_passes, highest_above, all_weaker}
 use Rattle.uc_folder.proofs.Records.{first_prefix}
-use Rattle.uc_folder.proofs.Sound.{IsWhole, IsBase, IsThere, IsGone, IsLog, IsUnused, IsLast, settled, Each, Sound, last_weaker}
-use Rattle.uc_folder.proofs.Holding.{Stands, IsRead, FitsWriter, Keeps}
+use Rattle.uc_folder.proofs.Sound.{IsWhole, IsBase, IsThere, IsGone, IsLog, IsUnused, IsLast, settled, Each, Sound}
+use Rattle.uc_folder.proofs.Holding.{IsRead, FitsWriter, Keeps}
 
 -- ---- files
 

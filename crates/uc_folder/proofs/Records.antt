@@ -1,9 +1,9 @@
 -- Lists of records: what is read of them, and what a crash leaves.
-use Rattle.std.proofs.Common.{◌≡◌, ℕ, zero, suc, ◌<◌, ◌≤◌, Bool, true, false, cond, not, ◌&&◌, ◌||◌, ltb, ◌⊎◌, inl, inr, ⊎_elim, List, [], ◌∷◌, ◌++◌, append_assoc, length, take, drop, refl, sym, ap, ◌∙◌, subst, arith}
-use Rattle.std.proofs.lemmas.List.{append-nil, take-append-drop}
+use Rattle.std.proofs.Common.{◌≡◌, ℕ, zero, suc, Bool, true, false, cond, List, [], ◌∷◌, ◌++◌, length, take, drop, refl, ap, subst}
+use Rattle.std.proofs.lemmas.List.{take-append-drop}
 use Rattle.uc_folder.specs.Device.{Batch, Record, Whole, Torn, first_whole, whole_part, are_whole, left_of, rows_of}
 use Rattle.uc_folder.specs.Worlds.{IsPrefixOf}
-use Rattle.uc_folder.proofs.Lists.{prefix_refl, prefix_trans}
+use Rattle.uc_folder.proofs.Lists.{prefix_trans}
 
 pub first_append : (rs ss : List Record) → are_whole rs ≡ true → first_whole (rs ++ ss) ≡ first_whole rs ++ first_whole ss
 first_append [] ss e = refl

@@ -1,21 +1,20 @@
 -- The writer's steps while the folder is opened keep what holds.
-use Rattle.std.proofs.Common.{◌≡◌, ℕ, zero, suc, ◌+◌, ◌<◌, ◌≤◌, Bool, true, false, cond, ltb, ◌⊎◌, inl, inr, List, [], ◌∷◌, ◌++◌, length, take, refl, sym, ap, ◌∙◌, subst, arith}
+use Rattle.std.proofs.Common.{◌≡◌, ℕ, ◌+◌, ◌<◌, Bool, true, false, cond, ltb, ◌⊎◌, inl, inr, List, [], ◌++◌, length, take, refl, sym, ap, ◌∙◌, subst, arith}
 use Rattle.std.specs.Prelude.{Option, Some, None, max}
 use Rattle.std.specs.List.{AllByRecursion}
 use Rattle.std.proofs.lemmas.Bool.{ltb-true}
-use Rattle.std.proofs.lemmas.List.{append-nil}
 use Rattle.uc_folder.specs.declared.machine.Machine.{Machine}
 use Rattle.uc_folder.specs.declared.phases.Writer.{Writer}
 use Rattle.uc_folder.specs.declared.phases.Writer.TheVariants.{Making, Founding, Naming, Clearing, SettingAside, Copying, SealingCopy, Replacing, Settling, Ready, Failed}
 use Rattle.uc_folder.specs.declared.phases.Checkpointer.{Checkpointer}
 use Rattle.uc_folder.specs.declared.phases.Checkpointer.TheVariants.{Idle, RemovingLog}
-use Rattle.uc_folder.specs.Device.{Batch, Record, first_whole, are_whole, whole_part, records_of, File, Entry, Device, first_number, content, is_there, upto, at, empty_file, copied, sealed, stands_for, name_log, sync_names, write_copy}
+use Rattle.uc_folder.specs.Device.{Batch, first_whole, are_whole, records_of, File, Entry, Device, first_number, content, is_there, upto, empty_file, copied, sealed, stands_for, name_log, sync_names, write_copy}
 use Rattle.uc_folder.specs.Worlds.{World, IsPrefixOf, first_of, Outcome, Done, NotDone, PartDone, DoneUntold, Writes, happens}
-use Rattle.uc_folder.proofs.Lists.{prefix_refl, prefix_trans, prefix_under, prefix_onto, prefix_take, at_here, at_other}
+use Rattle.uc_folder.proofs.Lists.{prefix_refl, prefix_onto, at_here, at_other}
 use Rattle.uc_folder.proofs.Records.{part_first, part_whole}
-use Rattle.uc_folder.proofs.Sound.{Sound, IsWhole, IsThere, IsUnused, IsLast, settled, Each}
-use Rattle.uc_folder.proofs.Holding.{Stands, IsRead, IsNew, IsOpen, IsCopy, IsOpening, FitsWriter, FitsCheckpointer, Keeps}
-use Rattle.uc_folder.proofs.Opening.{there_true, whole_content, whole_all, sound_firm}
+use Rattle.uc_folder.proofs.Sound.{IsWhole, IsThere, IsLast, settled, Each}
+use Rattle.uc_folder.proofs.Holding.{Stands, IsRead, IsNew, IsCopy, IsOpening, FitsWriter, FitsCheckpointer, Keeps}
+use Rattle.uc_folder.proofs.Opening.{whole_content, whole_all, sound_firm}
 use Rattle.uc_folder.proofs.Changes.{later_sound, submitted_sound, named_sound, raised_sound, aside_sound}
 use Rattle.uc_folder.proofs.Writing.{world, inside, moved, stepped, waits, fails, edited, read_file, answered_in, take_counted}
 

@@ -1,27 +1,24 @@
 -- Whatever happens, one event after the other, keeps what holds.
-use Rattle.std.proofs.Common.{◌≡◌, ℕ, suc, ◌<◌, ◌≤◌, Bool, true, false, cond, eqb, ltb, leb, ◌&&◌, ◌||◌, ◌⊎◌, inl, inr, ⊎_elim, List, [], ◌∷◌, ◌++◌, length, take, refl, sym, ap, ◌∙◌, subst, arith}
-use Rattle.std.specs.Prelude.{Option, Some, None, min, nat_lt, nat_le, ◌==◌}
-use Rattle.std.specs.List.{AllByRecursion}
-use Rattle.std.proofs.lemmas.List.{append-nil, take-append-le}
+use Rattle.std.proofs.Common.{◌≡◌, ℕ, suc, ◌<◌, ◌≤◌, Bool, true, false, eqb, ltb, ◌&&◌, ◌⊎◌, inl, inr, ⊎_elim, List, [], ◌∷◌, ◌++◌, length, take, refl, sym, subst, arith}
+use Rattle.std.specs.Prelude.{min, nat_le}
+use Rattle.std.proofs.lemmas.List.{append-nil}
 use Rattle.std.proofs.lemmas.Bool.{ltb-true, leb-true, eqb-true, and_parts, or_cases}
 use Rattle.uc_folder.specs.declared.machine.Machine.{Machine}
 use Rattle.uc_folder.specs.declared.phases.Writer.{Writer}
-use Rattle.uc_folder.specs.declared.phases.Writer.TheVariants.{Making, Founding, Naming, Clearing, SettingAside, Copying, SealingCopy, Replacing, Settling, Ready, Appending, Syncing, Both, Closing, Beginning, Entering, Failed}
+use Rattle.uc_folder.specs.declared.phases.Writer.TheVariants.{Making, Founding, Naming, Clearing, SettingAside, Copying, SealingCopy, Replacing, Settling, Ready, Appending, Syncing, Both, Closing, Beginning, Entering}
 use Rattle.uc_folder.specs.declared.phases.Checkpointer.{Checkpointer}
-use Rattle.uc_folder.specs.declared.phases.Checkpointer.TheVariants.{Idle, Writing, Sealing, Renaming, Fixing, RemovingLog, RemovingBase}
-use Rattle.uc_folder.specs.Device.{Batch, first_whole, File, Device, Keep, upto, at, crashed, recovered}
-use Rattle.uc_folder.specs.Steps.{is_open, is_later, is_in_older, may_begin, checkpointing}
-use Rattle.uc_folder.specs.Worlds.{World, IsPrefixOf, IsReadable, Outcome, Done, NotDone, PartDone, DoneUntold, Event, Submit, AskSync, AskSwitch, AskCheckpoint, Writes, Syncs, Checkpoints, Crash, Restart, Reread, reread, first_of, happens, opens, start, run, submitted}
+use Rattle.uc_folder.specs.declared.phases.Checkpointer.TheVariants.{Idle}
+use Rattle.uc_folder.specs.Device.{Batch, Device, upto, at}
+use Rattle.uc_folder.specs.Steps.{is_open, is_later, is_in_older, checkpointing}
+use Rattle.uc_folder.specs.Worlds.{World, IsPrefixOf, Outcome, Done, NotDone, PartDone, DoneUntold, Submit, AskSync, AskSwitch, AskCheckpoint, Writes, first_of, happens}
 use Rattle.uc_folder.proofs.Lists.{prefix_refl, prefix_trans, prefix_under, prefix_take, upto_same, upto_more, at_here, at_other}
-use Rattle.uc_folder.proofs.Sound.{IsLast, settled, Sound, last_weaker, crash_sound}
-use Rattle.uc_folder.proofs.Opening.{sound_firm, opened_keeps}
+use Rattle.uc_folder.proofs.Sound.{IsLast, last_weaker}
 use Rattle.uc_folder.proofs.Holding.{IsOpen, FitsWriter, Keeps}
-use Rattle.uc_folder.proofs.Changes.{submitted_sound, reread_sound}
+use Rattle.uc_folder.proofs.Changes.{submitted_sound}
 use Rattle.uc_folder.proofs.Writing.{world, moved, waits}
 use Rattle.uc_folder.proofs.Renewing.{making_keeps, founding_keeps, naming_keeps, clearing_keeps, setting_keeps, copying_keeps, sealing_copy_keeps, replacing_keeps, settling_keeps}
 use Rattle.uc_folder.proofs.Adding.{marked_count, appending_keeps, both_keeps}
-use Rattle.uc_folder.proofs.Switching.{syncs_keep, closing_keeps, beginning_keeps, entering_keeps}
-use Rattle.uc_folder.proofs.Checkpointing.{checkpoints_keep}
+use Rattle.uc_folder.proofs.Switching.{closing_keeps, beginning_keeps, entering_keeps}
 
 module _ (d : Device) (m : Machine) (parts : ℕ → List Batch) (batch : Batch) (acked : List Batch) where
   abbrev log : ℕ

@@ -1,17 +1,17 @@
 -- What the machine says may be acknowledged is acknowledged, and a sync covers what was appended before it.
-use Rattle.std.proofs.Common.{◌≡◌, ℕ, zero, suc, ◌+◌, ◌<◌, ◌≤◌, Bool, true, false, cond, ◌&&◌, List, [], ◌∷◌, ◌++◌, length, take, refl, sym, ap, ◌∙◌, subst, arith}
+use Rattle.std.proofs.Common.{◌≡◌, ℕ, zero, suc, ◌+◌, ◌≤◌, true, List, [], ◌∷◌, ◌++◌, length, take, refl, sym, ap, ◌∙◌, subst, arith}
 use Rattle.std.proofs.lemmas.Bool.{and_parts}
 use Rattle.std.proofs.lemmas.List.{append-nil, take-append-le}
 use Rattle.uc_folder.specs.declared.machine.Machine.{Machine}
 use Rattle.uc_folder.specs.declared.phases.Writer.{Writer}
-use Rattle.uc_folder.specs.declared.phases.Writer.TheVariants.{Making, Founding, Naming, Clearing, SettingAside, Copying, SealingCopy, Replacing, Settling, Ready, Appending, Syncing, Both, Closing, Beginning, Entering, Failed}
+use Rattle.uc_folder.specs.declared.phases.Writer.TheVariants.{Making, Settling, Ready, Syncing, Both, Closing, Entering, Failed}
 use Rattle.uc_folder.specs.declared.phases.Checkpointer.{Checkpointer}
-use Rattle.uc_folder.specs.Device.{Batch, Device, Keep, upto, at, crashed}
+use Rattle.uc_folder.specs.Device.{Batch, Device, upto, at, crashed}
 use Rattle.uc_folder.specs.Steps.{is_open}
-use Rattle.uc_folder.specs.Worlds.{World, IsPrefixOf, Outcome, Done, NotDone, PartDone, DoneUntold, Event, Submit, AskSync, AskSwitch, AskCheckpoint, Writes, Syncs, Checkpoints, Crash, Restart, Reread, reread, first_of, answered, is_beside, are_beside, happens, run, start}
-use Rattle.uc_folder.proofs.Lists.{prefix_refl, prefix_trans, prefix_under, prefix_onto, prefix_take, upto_same, upto_more, at_here, at_other}
+use Rattle.uc_folder.specs.Worlds.{World, IsPrefixOf, Outcome, Done, NotDone, PartDone, DoneUntold, Event, Submit, AskSync, AskSwitch, AskCheckpoint, Writes, Syncs, Checkpoints, Crash, Restart, Reread, reread, first_of, is_beside, are_beside, happens, run, start}
+use Rattle.uc_folder.proofs.Lists.{prefix_refl, prefix_trans, prefix_under, upto_same, upto_more, at_here, at_other}
 use Rattle.uc_folder.proofs.Sound.{Sound}
-use Rattle.uc_folder.proofs.Holding.{IsOpen, Keeps}
+use Rattle.uc_folder.proofs.Holding.{Keeps}
 use Rattle.uc_folder.proofs.Opening.{j, read, j_below, upto_read}
 use Rattle.uc_folder.proofs.Changes.{reread_sound}
 use Rattle.uc_folder.proofs.Writing.{world, take_counted}

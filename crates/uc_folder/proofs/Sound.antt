@@ -1,11 +1,11 @@
 -- What holds of the folder between any two operations, whatever the machine does: a crash leaves what can be opened.
-use Rattle.std.proofs.Common.{length, ◌≡◌, ℕ, zero, suc, ◌<◌, ◌≤◌, Bool, true, false, ◌⊎◌, inl, inr, ⊎_elim, List, [], ◌∷◌, ◌++◌, append_assoc, get_or, take, refl, sym, ap, ◌∙◌, subst, arith}
+use Rattle.std.proofs.Common.{length, ◌≡◌, ℕ, ◌<◌, ◌≤◌, true, ◌⊎◌, inl, inr, ⊎_elim, List, [], ◌∷◌, ◌++◌, get_or, take, refl, sym, ap, ◌∙◌, subst}
 use Rattle.std.specs.Prelude.{⊤, Option, Some, None}
 use Rattle.std.specs.List.{AllByRecursion}
 use Rattle.std.proofs.lemmas.List.{append-nil}
-use Rattle.uc_folder.specs.Device.{Batch, Record, first_whole, are_whole, left_of, File, Entry, Device, Keep, first_number, crashed, crashed_file, crashed_name, crashed_entry, upto}
+use Rattle.uc_folder.specs.Device.{Batch, first_whole, are_whole, left_of, File, Entry, Device, Keep, first_number, crashed, crashed_file, crashed_name, crashed_entry, upto}
 use Rattle.uc_folder.specs.Worlds.{IsPrefixOf}
-use Rattle.uc_folder.proofs.Lists.{prefix_trans, prefix_under, prefix_onto, prefix_of_nil, all_at, all_weaker}
+use Rattle.uc_folder.proofs.Lists.{prefix_trans, prefix_under, prefix_of_nil, all_at, all_weaker}
 use Rattle.uc_folder.proofs.Records.{first_prefix, left_prefix, take_none}
 
 -- ---- what a name may stand for

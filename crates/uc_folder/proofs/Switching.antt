@@ -1,22 +1,21 @@
 -- Syncs of the log, and going on in the next one, keep what holds.
-use Rattle.std.proofs.Common.{◌≡◌, ℕ, zero, suc, ◌+◌, ◌<◌, ◌≤◌, Bool, true, false, cond, ◌⊎◌, inl, inr, List, [], ◌∷◌, ◌++◌, append_assoc, length, take, drop, refl, sym, ap, ◌∙◌, subst, arith}
-use Rattle.std.specs.Prelude.{Option, Some, None, max}
-use Rattle.std.specs.List.{AllByRecursion}
-use Rattle.std.proofs.lemmas.List.{append-nil, take-append-le, take_all, drop_all}
+use Rattle.std.proofs.Common.{◌≡◌, ℕ, ◌+◌, ◌≤◌, List, [], ◌∷◌, ◌++◌, length, take, refl, sym, ap, ◌∙◌, subst, arith}
+use Rattle.std.specs.Prelude.{Some}
+use Rattle.std.proofs.lemmas.List.{take-append-le, take_all, drop_all}
 use Rattle.uc_folder.specs.declared.machine.Machine.{Machine}
 use Rattle.uc_folder.specs.declared.phases.Writer.{Writer}
-use Rattle.uc_folder.specs.declared.phases.Writer.TheVariants.{Making, Founding, Naming, Clearing, SettingAside, Copying, SealingCopy, Replacing, Settling, Ready, Appending, Syncing, Both, Closing, Beginning, Entering, Failed}
+use Rattle.uc_folder.specs.declared.phases.Writer.TheVariants.{Ready, Appending, Syncing, Both, Closing, Beginning, Entering, Failed}
 use Rattle.uc_folder.specs.declared.phases.Checkpointer.{Checkpointer}
-use Rattle.uc_folder.specs.Device.{Batch, Record, first_whole, are_whole, File, Entry, Device, first_number, content, upto, at, empty_file, synced, suspected, stands_for, change_log, name_log, sync_names}
+use Rattle.uc_folder.specs.Device.{Batch, first_whole, are_whole, File, Entry, Device, content, upto, at, empty_file, synced, suspected, stands_for, change_log, name_log, sync_names}
 use Rattle.uc_folder.specs.Worlds.{World, IsPrefixOf, first_of, Outcome, Done, NotDone, PartDone, DoneUntold, Writes, Syncs, happens}
-use Rattle.uc_folder.proofs.Lists.{prefix_refl, prefix_trans, prefix_onto, prefix_take, at_here, at_other}
+use Rattle.uc_folder.proofs.Lists.{prefix_refl, prefix_trans, prefix_take, at_here, at_other}
 use Rattle.uc_folder.proofs.Records.{whole_front, whole_length}
-use Rattle.uc_folder.proofs.Sound.{Sound, IsWhole, IsThere, IsLog, IsUnused, IsLast}
+use Rattle.uc_folder.proofs.Sound.{Sound, IsWhole, IsThere, IsLog, IsLast}
 use Rattle.uc_folder.proofs.Holding.{IsNew, IsOpen, IsAppended, FitsWriter, Keeps}
 use Rattle.uc_folder.proofs.Opening.{sound_firm}
 use Rattle.uc_folder.proofs.Changes.{later_sound, switched_sound, named_sound}
-use Rattle.uc_folder.proofs.Writing.{world, inside, moved, stepped, waits, fails, with_file, filed, last_of, here, answered_in, open_answered, most, synced_file, synced_is, synced_all, synced_first}
-use Rattle.uc_folder.proofs.Adding.{marked_count, synced_enough, synced_open, synced_sound, synced_firmly, synced_grows}
+use Rattle.uc_folder.proofs.Writing.{world, inside, moved, stepped, waits, fails, with_file, filed, last_of, here, answered_in, most, synced_file, synced_all, synced_first}
+use Rattle.uc_folder.proofs.Adding.{marked_count, synced_open, synced_sound, synced_firmly, synced_grows}
 use Rattle.uc_folder.proofs.Renewing.{empty_new}
 
 module _ (d : Device) (m : Machine) (c : Checkpointer) (parts : ℕ → List Batch) (batch : Batch) (acked : List Batch) where

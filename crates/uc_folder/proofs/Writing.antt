@@ -1,20 +1,20 @@
 -- What the writer's steps have in common: another phase, and another folder.
-use Rattle.std.proofs.Common.{◌≡◌, ℕ, zero, suc, ◌+◌, ◌<◌, ◌≤◌, Bool, true, false, cond, ◌⊎◌, inl, inr, List, [], ◌∷◌, ◌++◌, append_assoc, length, take, drop, refl, sym, ap, ◌∙◌, subst, arith}
+use Rattle.std.proofs.Common.{◌≡◌, ℕ, zero, suc, ◌<◌, ◌≤◌, Bool, false, cond, List, [], ◌∷◌, ◌++◌, length, take, drop, refl, sym, ap, ◌∙◌, subst, arith}
 use Rattle.std.specs.Prelude.{Option, Some, None, max}
 use Rattle.std.specs.List.{AllByRecursion}
-use Rattle.std.proofs.lemmas.List.{append-nil, take-append-le, take-append-drop, length-append}
+use Rattle.std.proofs.lemmas.List.{take-append-le, take-append-drop, length-append}
 use Rattle.uc_folder.specs.declared.machine.Machine.{Machine}
 use Rattle.uc_folder.specs.declared.phases.Writer.{Writer}
 use Rattle.uc_folder.specs.declared.phases.Writer.TheVariants.{Making, Founding, Naming, Clearing, SettingAside, Copying, SealingCopy, Replacing, Settling, Ready, Appending, Syncing, Both, Closing, Beginning, Entering, Failed}
 use Rattle.uc_folder.specs.declared.phases.Checkpointer.{Checkpointer}
 use Rattle.uc_folder.specs.declared.phases.Checkpointer.TheVariants.{Idle, Writing, Sealing, Renaming, Fixing, RemovingLog, RemovingBase}
-use Rattle.uc_folder.specs.Device.{Batch, Record, first_whole, are_whole, File, Entry, Device, first_number, content, upto, at, synced, changed, changed_name, change_log}
+use Rattle.uc_folder.specs.Device.{Batch, first_whole, File, Entry, Device, first_number, content, upto, at, synced, changed, changed_name, change_log}
 use Rattle.uc_folder.specs.Worlds.{World, IsPrefixOf, first_of}
-use Rattle.uc_folder.proofs.Lists.{prefix_refl, prefix_trans, prefix_under, prefix_onto, prefix_take, prefix_of_nil, upto_same, at_here, at_other}
+use Rattle.uc_folder.proofs.Lists.{prefix_refl, prefix_trans, prefix_take, prefix_of_nil, upto_same, at_here}
 use Rattle.uc_folder.proofs.Records.{first_take}
 use Rattle.uc_folder.proofs.Sound.{Sound, IsWhole, IsThere, IsLast, settled, Each}
-use Rattle.uc_folder.proofs.Holding.{Stands, IsRead, IsNew, IsOpen, IsCopy, IsOpening, IsAppended, FitsWriter, Attempt, FitsCheckpointer, Keeps}
-use Rattle.uc_folder.proofs.Opening.{whole_content, sound_firm}
+use Rattle.uc_folder.proofs.Holding.{IsRead, IsOpen, IsCopy, IsAppended, FitsWriter, Attempt, FitsCheckpointer, Keeps}
+use Rattle.uc_folder.proofs.Opening.{whole_content}
 use Rattle.uc_folder.proofs.Changes.{parts_grow, entry_sound}
 
 abbrev pub world : Device → Machine → Writer → Checkpointer → (ℕ → List Batch) → Batch → List Batch → World

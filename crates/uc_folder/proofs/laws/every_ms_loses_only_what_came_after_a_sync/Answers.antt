@@ -1,7 +1,6 @@
-use Rattle.std.proofs.Common.{◌≡◌, ℕ, true, List, ◌∷◌, ◌++◌, refl, sym, ap, ◌∙◌, subst}
+use Rattle.std.proofs.Common.{◌≡◌, ℕ, true, List, ◌∷◌, ◌++◌, refl, sym, subst}
 use Rattle.uc_folder.specs.declared.phases.Writer.{Writer}
-use Rattle.uc_folder.specs.declared.phases.Writer.TheVariants.{Ready, Appending}
-use Rattle.uc_folder.specs.Device.{Batch, Keep, crashed, recovered}
+use Rattle.uc_folder.specs.Device.{Keep, crashed, recovered}
 use Rattle.uc_folder.specs.Steps.{is_open, syncing}
 use Rattle.uc_folder.specs.Worlds.{World, Event, AskSync, Syncs, Done, IsPrefixOf, answered, are_beside, happens, run, start}
 use Rattle.uc_folder.proofs.Lists.{prefix_refl, prefix_trans}
