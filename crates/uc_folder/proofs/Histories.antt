@@ -1,6 +1,7 @@
 -- Every list of events keeps what holds; and what openings find after it.
 use Rattle.std.proofs.Common.{◌≡◌, ℕ, ◌≤◌, false, inl, List, [], ◌∷◌, ◌++◌, length, take, refl, sym, ap, ◌∙◌, subst, arith}
 use Rattle.std.specs.Prelude.{Some}
+use Rattle.std.specs.Prelude.{Option, Some, Result, Ok}
 use Rattle.std.proofs.lemmas.List.{take-append-le}
 use Rattle.uc_folder.specs.declared.machine.Machine.{Machine}
 use Rattle.uc_folder.specs.declared.phases.Writer.{Writer}
@@ -9,7 +10,13 @@ use Rattle.uc_folder.specs.declared.phases.Checkpointer.{Checkpointer}
 use Rattle.uc_folder.specs.declared.phases.Checkpointer.TheVariants.{Idle}
 use Rattle.uc_folder.specs.Device.{Batch, first_whole, content, File, Device, Keep, first_number, upto, crashed, recovered}
 use Rattle.uc_folder.specs.Steps.{next_write, next_sync, next_checkpoint}
-use Rattle.uc_folder.specs.Worlds.{World, IsPrefixOf, IsReadable, Outcome, Done, NotDone, PartDone, DoneUntold, Event, Submit, AskSync, AskSwitch, AskCheckpoint, Writes, Syncs, Checkpoints, Crash, Restart, Reread, reread, first_of, answered, acked_after, acked_then, happens, opens, start, run, submitted}
+use Rattle.uc_folder.specs.declared.listing.Base.{Base}
+use Rattle.uc_folder.specs.declared.listing.Listed.{Listed}
+use Rattle.uc_folder.specs.declared.listing.Found.{Found}
+use Rattle.uc_folder.specs.declared.listing.Missing.{Missing}
+use Rattle.uc_folder.specs.Listing.{IsListing, IsFoundIn}
+use Rattle.uc_folder.proofs.Names.{finds}
+use Rattle.uc_folder.specs.Worlds.{found, World, IsPrefixOf, IsReadable, Outcome, Done, NotDone, PartDone, DoneUntold, Event, Submit, AskSync, AskSwitch, AskCheckpoint, Writes, Syncs, Checkpoints, Crash, Restart, Reread, reread, first_of, answered, acked_after, acked_then, happens, opens, start, run, submitted}
 use Rattle.uc_folder.proofs.Lists.{prefix_refl, prefix_trans, prefix_under}
 use Rattle.uc_folder.proofs.Sound.{Sound, crash_sound}
 use Rattle.uc_folder.proofs.Opening.{j, read, sound_firm, opened_keeps, opened_sound, opened_reads, opened_prefix, opened_answered, opened_readable}
@@ -209,6 +216,9 @@ module _ (es : List Event) (logs bases : ℕ → Keep) where
   pub crash_readable : IsReadable (crashed logs bases w.device)
   crash_readable = finds_readable (crashed logs bases w.device) w.machine.log keeps.sure w.parts keeps.firm (crashed_sound w keeps logs bases) (marks_crashed w.device logs bases (always_marked es))
 
+  pub crash_finds : (bs : List Base) (ls : List Listed) → IsListing (crashed logs bases w.device) bs ls → (r : Result Found Missing) → IsFoundIn bs ls r → (f : Found) × (r ≡ Ok f) × (f ≡ found (crashed logs bases w.device) f.least f.top)
+  crash_finds bs ls is r is_found = finds (crashed logs bases w.device) w.machine.log keeps.sure w.parts keeps.firm (crashed_sound w keeps logs bases) crash_readable bs ls is r is_found
+
 -- by the end of the process
 module _ (es : List Event) where
   abbrev w' : World
@@ -249,3 +259,9 @@ module _ (es : List Event) where
 
   pub reread_readable : (keep : Keep) → IsReadable (reread keep w')
   reread_readable keep = finds_readable (reread keep w') w'.machine.log keeps'.sure w'.parts keeps'.firm (reread_is keep) (marks_reread w'.machine.log keep w'.device (always_marked es))
+
+  pub restart_finds : (bs : List Base) (ls : List Listed) → IsListing w'.device bs ls → (r : Result Found Missing) → IsFoundIn bs ls r → (f : Found) × (r ≡ Ok f) × (f ≡ found w'.device f.least f.top)
+  restart_finds bs ls is r is_found = finds w'.device w'.machine.log keeps'.sure w'.parts keeps'.firm keeps'.sound restart_readable bs ls is r is_found
+
+  pub reread_finds : (keep : Keep) (bs : List Base) (ls : List Listed) → IsListing (reread keep w') bs ls → (r : Result Found Missing) → IsFoundIn bs ls r → (f : Found) × (r ≡ Ok f) × (f ≡ found (reread keep w') f.least f.top)
+  reread_finds keep bs ls is r is_found = finds (reread keep w') w'.machine.log keeps'.sure w'.parts keeps'.firm (reread_is keep) (reread_readable keep) bs ls is r is_found

@@ -11,5 +11,6 @@ mod Switching
 mod Checkpointing
 mod Running
 mod Marks
+mod Names
 mod Histories
 mod Saying

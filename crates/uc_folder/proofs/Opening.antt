@@ -136,30 +136,31 @@ module _ (d : Device) (log sure : ℕ) (parts : ℕ → List Batch) (firm : List
   abbrev pub read : ℕ → List Batch
   read k = cond (ltb k n) (parts k) (content (d.logs k).now)
 
-  n_there : (n ≡ first_number) ⊎ (has_base n ≡ true)
+  pub n_there : (n ≡ first_number) ⊎ (has_base n ≡ true)
   n_there =
       ⊎_elim (λ (e : m ≡ 0). inl (omega (arith, e)))
       (λ (is : has_base m ≡ true).
       ⊎_elim (λ (e : m ≡ 0). inl (omega (arith, e))) (λ (ne : m ≡ 0 → ⊥). let e : m ≡ n = omega (arith, ne) in inr (subst (λ i. has_base i ≡ true) e is)) (cases_eq m 0))
       (highest_passes has_base d.names)
 
-  n_first : first_number ≤ n
+  pub n_first : first_number ≤ n
   n_first = omega arith
 
-  n_below : n ≤ log
+  pub n_below : n ≤ log
   n_below =
       let a = sound.first in
       let b = sound.reached in
       ⊎_elim (λ (e : n ≡ first_number). omega (arith, e, a, b)) (λ (is : has_base n ≡ true). base_below firm parts log n (d.bases n).now (sound.bases n).0 is) n_there
 
-  base_above : (k : ℕ) → k ≤ log → has_base k ≡ true → k ≤ n
-  base_above k le is =
+  pub base_above : (k : ℕ) → has_base k ≡ true → k ≤ n
+  base_above k is =
+      let le = base_below firm parts log k (d.bases k).now (sound.bases k).0 is in
       let top = sound.named in
       let above : k ≤ m = highest_above has_base d.names k (omega (arith, le, top)) is in
       omega (arith, above)
 
   sure_below : sure ≤ n
-  sure_below = ⊎_elim (λ (e : sure ≡ first_number). let a = n_first in omega (arith, e, a)) (λ (is : Each IsThere (d.bases sure)). base_above sure sound.reached (there_true (d.bases sure).now is.0)) sound.there
+  sure_below = ⊎_elim (λ (e : sure ≡ first_number). let a = n_first in omega (arith, e, a)) (λ (is : Each IsThere (d.bases sure)). base_above sure (there_true (d.bases sure).now is.0)) sound.there
 
   h_below : h ≤ log
   h_below =
@@ -169,6 +170,16 @@ module _ (d : Device) (log sure : ℕ) (parts : ℕ → List Batch) (firm : List
       (λ (lt : log < h). absurd (let no = unused_false (d.logs h).now (sound.later h lt).0 in let x : true ≡ false = sym is ∙ no in cc))
       (λ (le : h ≤ log). le) (cases_lt log h))
       (highest_passes has_log d.names)
+
+  pub h_is : (h ≡ 0) ⊎ (has_log h ≡ true)
+  h_is = highest_passes has_log d.names
+
+  -- no log after that has a batch
+  pub used_below : (k : ℕ) → has_log k ≡ true → k ≤ h
+  used_below k is =
+      ⊎_elim
+      (λ (lt : log < k). absurd (let no = unused_false (d.logs k).now (sound.later k lt).0 in let x : true ≡ false = sym is ∙ no in cc))
+      (λ (le : k ≤ log). let top = sound.named in highest_above has_log d.names k (omega (arith, le, top)) is) (cases_lt log k)
 
   abbrev pub j : ℕ
   j = max n h
@@ -268,8 +279,7 @@ module _ (d : Device) (log sure : ℕ) (parts : ℕ → List Batch) (firm : List
       ⊎_elim
       (λ (lt : j < k).
       let gone = gone_false (d.bases k).now (λ is.
-      let le = base_below firm parts log k (d.bases k).now (sound.bases k).0 is in
-      let above = base_above k le is in let c = n_j in absurd (omega (arith, above, c, lt))) in
+      let above = base_above k is in let c = n_j in absurd (omega (arith, above, c, lt))) in
       let a = sure_j in
       (gone_base k (d.bases k).now gone, all_weaker IsGone (IsBase firm read j k) (gone_base k) (d.bases k).before (sound.newer k (omega (arith, a, lt)) gone)))
       (λ (le : k ≤ j). (base_read k le (d.bases k).now (sound.bases k).0, all_weaker (IsBase firm parts log k) (IsBase firm read j k) (base_read k le) (d.bases k).before (sound.bases k).1))

@@ -1,7 +1,8 @@
 -- Lists of records: what is read of them, and what a crash leaves.
-use Rattle.std.proofs.Common.{◌≡◌, ℕ, zero, suc, Bool, true, false, cond, List, [], ◌∷◌, ◌++◌, length, take, drop, refl, ap, subst}
+use Rattle.std.proofs.Common.{◌≡◌, ℕ, zero, suc, Bool, true, false, cond, List, [], ◌∷◌, ◌++◌, length, take, drop, refl, ap, subst, ◌<◌, eq-eqb, ◌∙◌, arith, sym}
 use Rattle.std.proofs.lemmas.List.{take-append-drop}
-use Rattle.uc_folder.specs.Device.{Batch, Record, Whole, Torn, first_whole, whole_part, are_whole, left_of, rows_of}
+use Rattle.std.proofs.lemmas.Bool.{ne_eqb}
+use Rattle.uc_folder.specs.Device.{read_by_sequence, Batch, Record, Whole, Torn, first_whole, whole_part, are_whole, left_of, rows_of}
 use Rattle.uc_folder.specs.Worlds.{IsPrefixOf}
 use Rattle.uc_folder.proofs.Lists.{prefix_trans}
 
@@ -92,3 +93,19 @@ left_prefix rs ss whole n =
     first_under rs (left_of whole (take n ss)) ss
     (prefix_trans (first_whole (left_of whole (take n ss))) (first_whole (take n ss)) (first_whole ss) (first_left whole (take n ss))
     (subst (λ l. IsPrefixOf (first_whole (take n ss)) (first_whole l)) (take-append-drop n ss) (first_prefix (take n ss) (drop n ss))))
+
+-- ---- sequences
+
+none_after : (next place : ℕ) (rs : List Record) → next < place → read_by_sequence next place rs ≡ []
+none_after next place [] lt = refl
+none_after next place (Torn ∷ rs) lt = none_after next (suc place) rs (omega (arith, lt))
+none_after next place (Whole b mark ∷ rs) lt =
+    ap (λ t. cond t (b ∷ read_by_sequence (suc next) (suc place) rs) (read_by_sequence next (suc place) rs)) (ne_eqb place next (omega (arith, lt)))
+    ∙ none_after next (suc place) rs (omega (arith, lt))
+
+pub sequence_reads : (place : ℕ) (rs : List Record) → read_by_sequence place place rs ≡ first_whole rs
+sequence_reads place [] = refl
+sequence_reads place (Torn ∷ rs) = none_after place (suc place) rs (omega arith)
+sequence_reads place (Whole b mark ∷ rs) =
+    ap (λ t. cond t (b ∷ read_by_sequence (suc place) (suc place) rs) (read_by_sequence place (suc place) rs)) (eq-eqb place place refl)
+    ∙ ap (λ l. b ∷ l) (sequence_reads (suc place) rs)

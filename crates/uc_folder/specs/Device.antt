@@ -46,6 +46,14 @@ first_whole [] = []
 first_whole (Whole b mark ∷ rs) = b ∷ first_whole rs
 first_whole (Torn ∷ rs) = []
 
+-- What is read by one who passes over what is torn: of the records from a place on those whose sequence is the next one. A record's
+-- sequence is its place.
+abbrev pub read_by_sequence : ℕ → ℕ → List Record → List Batch
+read_by_sequence next place [] = []
+read_by_sequence next place (Whole b mark ∷ rs) =
+    if place == next then b ∷ read_by_sequence (suc next) (suc place) rs else read_by_sequence next (suc place) rs
+read_by_sequence next place (Torn ∷ rs) = read_by_sequence next (suc place) rs
+
 -- the records of these batches
 abbrev pub whole_part : List Record → List Record
 whole_part [] = []

@@ -2,9 +2,14 @@
 //! and however often the machine crashed and the process ended before.
 //!
 //! Proof steps: none does anything when it runs. Their contracts speak of definitions alone.
-ghost use Rattle.std.specs.Prelude.{◌≡◌, ℕ, true, List, [], ◌∷◌, ◌++◌, None};
+ghost use Rattle.std.specs.Prelude.{◌≡◌, ℕ, true, List, [], ◌∷◌, ◌++◌, None, Result, Ok};
+ghost use Rattle.uc_folder.specs.declared.listing.Base.{Base};
+ghost use Rattle.uc_folder.specs.declared.listing.Listed.{Listed};
+ghost use Rattle.uc_folder.specs.declared.listing.Found.{Found};
+ghost use Rattle.uc_folder.specs.declared.listing.Missing.{Missing};
+ghost use Rattle.uc_folder.specs.Listing.{IsListing, IsFoundIn};
 ghost use Rattle.uc_folder.specs.declared.phases.Writer.TheVariants.{Ready, Appending};
-ghost use Rattle.uc_folder.specs.Device.{Batch, Keep, crashed, recovered, content, upto};
+ghost use Rattle.uc_folder.specs.Device.{Batch, Record, first_whole, read_by_sequence, Keep, crashed, recovered, content, upto};
 ghost use Rattle.uc_folder.specs.Steps.{is_open};
 ghost use Rattle.uc_folder.specs.Worlds.{
   Event,
@@ -20,7 +25,7 @@ ghost use Rattle.uc_folder.specs.Worlds.{
   start,
   submitted,
   answered,
-  first_of,
+  first_of, found,
   are_beside,
   IsPrefixOf,
   IsReadable,
@@ -39,6 +44,12 @@ pub fn a_crash_loses_nothing_acknowledged()
     ensures goes_on { (events : List Event) (logs bases : ℕ → Keep) (least top : ℕ) →
         submitted (happens (run events start) (Crash logs bases least top)) ≡ recovered (crashed logs bases (run events start).device) }
     ensures stays { (events later : List Event) → IsPrefixOf (run events start).acked (run (events ++ later) start).acked }
+{}
+
+/// Each record has a sequence, which says its place in its log. So also one who passes over what is torn, and goes on looking, reads no
+/// batch after it as the next one.
+pub fn no_later_batch_is_read_as_the_next()
+    ensures { (place : ℕ) (records : List Record) → read_by_sequence place place records ≡ first_whole records }
 {}
 
 /// If only the process ends, an opening reads all that was answered, synced or not, also after a sync that failed.
@@ -61,6 +72,21 @@ pub fn a_log_read_from_the_device_loses_nothing_acknowledged()
         IsPrefixOf (run events start).acked (recovered (reread keep (run events start))) }
     ensures goes_on { (events : List Event) (keep : Keep) (least top : ℕ) →
         submitted (happens (run events start) (Reread keep least top)) ≡ recovered (reread keep (run events start)) }
+{}
+
+/// An opening that goes by the names which the folder lists isn't refused, and finds the files that the other laws speak of, after a crash
+/// and after the end of a process.
+pub fn an_opening_finds_its_files()
+    ensures crashed { (events : List Event) (logs bases : ℕ → Keep) (base_list : List Base) (log_list : List Listed) →
+        IsListing (crashed logs bases (run events start).device) base_list log_list →
+        (result : Result Found Missing) → IsFoundIn base_list log_list result →
+        (f : Found) × (result ≡ Ok f) × (f ≡ found (crashed logs bases (run events start).device) f.least f.top) }
+    ensures ended { (events : List Event) (base_list : List Base) (log_list : List Listed) →
+        IsListing (run events start).device base_list log_list → (result : Result Found Missing) → IsFoundIn base_list log_list result →
+        (f : Found) × (result ≡ Ok f) × (f ≡ found (run events start).device f.least f.top) }
+    ensures reread { (events : List Event) (keep : Keep) (base_list : List Base) (log_list : List Listed) →
+        IsListing (reread keep (run events start)) base_list log_list → (result : Result Found Missing) → IsFoundIn base_list log_list result →
+        (f : Found) × (result ≡ Ok f) × (f ≡ found (reread keep (run events start)) f.least f.top) }
 {}
 
 /// Under `Always` a write is answered once the machine counts it as synced. A crash at any later moment loses none of these.

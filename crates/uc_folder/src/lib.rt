@@ -19,6 +19,6 @@ mod machine;
 mod phases;
 
 pub use action::Action;
-pub use listing::{Found, Listed, Missing};
+pub use listing::{found_in, Base, Found, Listed, Missing};
 pub use machine::Machine;
 pub use phases::{Checkpointer, Writer};
