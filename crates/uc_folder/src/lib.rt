@@ -17,8 +17,10 @@ pub mod laws;
 mod listing;
 mod machine;
 mod phases;
+#[cfg(test)]
+mod tests;
 
 pub use action::Action;
-pub use listing::{found_in, Base, Found, Listed, Missing};
+pub use listing::{Base, Found, Listed, Missing, found_in};
 pub use machine::Machine;
 pub use phases::{Checkpointer, Writer};

@@ -106,12 +106,13 @@ fn past_in(number: u64, bases: &[Base]) -> u64
 fn log_in(base: u64, logs: &[Listed]) -> u64
     ensures { result ≡ listing.log_in base logs.now }
 {
-    logs.iter().fold(
-        base,
-        |most, log| {
-            if log.is_used { most.max(log.number) } else { most }
-        },
-    )
+    logs.iter().fold(base, |most, log| {
+        if log.is_used {
+            most.max(log.number)
+        } else {
+            most
+        }
+    })
 }
 
 /// Whether the log of a number is listed.
@@ -132,6 +133,8 @@ fn top_in(log: u64, logs: &[Listed]) -> u64
 fn least_in(base: u64, bases: &[Base], logs: &[Listed]) -> u64
     ensures { result ≡ listing.least_in base bases.now logs.now }
 {
-    let least = bases.iter().fold(base, |least, base| least.min(base.number));
+    let least = bases
+        .iter()
+        .fold(base, |least, base| least.min(base.number));
     logs.iter().fold(least, |least, log| least.min(log.number))
 }
