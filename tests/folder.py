@@ -96,7 +96,7 @@ PLANTS = (
     "a log isn't synced before the next one",
     "names aren't synced after the next log is made",
     "the log's number is used again",
-    "appends go on after one that failed",
+    "what a failed append left isn't cut off",
     "syncs go on after one that failed",
     "a base is named before it is synced",
     "a log goes before its base's name is synced",
@@ -200,10 +200,12 @@ def copied(file: Optional[File]) -> File:
     return File((), records[: len(first_whole(records))])
 
 
-def cut(file: File) -> File:
-    """A file that is cut in its place, and synced."""
-    whole = File((), file.records[: len(first_whole(file.records))], file.suspect)
-    return replace(whole, kept=file.kept[: len(whole.waiting)], waiting=whole.waiting[len(file.kept) :]) if file.suspect else File(whole.waiting)
+def cut(file: File, count: int) -> File:
+    """A file that has so many records in its place, which are synced."""
+    most = max(count, len(file.kept))
+    if file.suspect:
+        return replace(file, waiting=file.waiting[: most - len(file.kept)])
+    return replace(file, kept=file.records[:most], waiting=())
 
 
 def change_log(device: Device, number: int, change: Callable[[File], File]) -> Device:
@@ -238,7 +240,7 @@ def carried_out(world: World, action: Tuple) -> Device:
     if kind == "name copy":
         return replace(device, logs={**device.logs, number: old_log.stands_for(device.copy)})
     if kind == "cut log":
-        return change_log(device, number, cut)
+        return change_log(device, number, lambda file: cut(file, action[2]))
     if kind == "write base":
         rows = upto(world, number) + part(world, number)[: action[2]]
         return replace(device, partial=File((), tuple(Record(row, 0) for row in rows), False, action[2]))
@@ -256,7 +258,7 @@ def device_after(world: World, action: Tuple, outcome: str) -> Device:
         return device
     if action[0] == "append" and outcome == PART_DONE:
         return change_log(device, action[1], lambda file: appended(file, TORN))
-    if action[0] == "sync log":
+    if action[0] in ("sync log", "cut log"):
         return change_log(device, action[1], lambda file: replace(file, suspect=True))
     return device
 
@@ -318,8 +320,8 @@ def next_write(world: World) -> Tuple:
     return {
         "making": ("create log", log), "founding": ("sync names",), "naming": ("sync names",), "clearing": ("remove log", *world.writer[1:]),
         "setting aside": ("set aside", log), "copying": ("copy log", log), "sealing copy": ("sync copy",), "replacing": ("name copy", log),
-        "settling": ("sync names",), "cutting": ("cut log", log), "appending": ("append", log), "both": ("append", log),
-        "closing": ("sync log", log, world.count), "beginning": ("create log", log if again else log + 1), "entering": ("sync names",),
+        "settling": ("sync names",), "cutting": ("cut log", log, world.count), "mending": ("cut log", log, world.count),
+        "appending": ("append", log), "both": ("append", log), "closing": ("sync log", log, world.count), "beginning": ("create log", log if again else log + 1), "entering": ("sync names",),
     }.get(phase, ("nothing",))
 
 
@@ -329,8 +331,8 @@ def told_write(world: World, is_done: bool) -> World:
     if phase in ("ready", "syncing", "failed"):
         return world
     if not is_done:
-        goes_on = phase == "beginning" or phase == "appending" and is_planted("appends go on after one that failed")
-        return replace(world, writer=("ready",) if goes_on else ("failed",))
+        after = {"beginning": "ready", "appending": "mending"}
+        return replace(world, writer=(after.get(phase, "failed"),))
     if phase == "naming" or phase == "clearing":
         top = numbers[0] if phase == "naming" else numbers[0] - 1
         renewing = ("setting aside",)
@@ -344,6 +346,9 @@ def told_write(world: World, is_done: bool) -> World:
         world = replace(world, count=world.count + 1, writer=("ready",))
         early = is_planted("a batch is acknowledged before its sync")
         return replace(world, acked=confirmed(world, world.count)) if early else world
+    if phase == "mending":
+        parts = {**world.parts, world.log: part(world, world.log)[: world.count]}
+        return replace(world, writer=("ready",), parts=parts)
     if phase == "both":
         return replace(world, count=world.count + 1, writer=("syncing", *numbers))
     world = replace(world, writer=(AFTER[phase],))
@@ -360,7 +365,7 @@ def writes(world: World, outcome: str) -> World:
     device = device_after(world, next_write(world), outcome)
     skipped = {"closing": "a log isn't synced before the next one", "entering": "names aren't synced after the next log is made",
                "naming": "an opening removes before names are synced", "sealing copy": "a copy is named before it is synced",
-               "settling": "names aren't synced after the copy has its name"}
+               "settling": "names aren't synced after the copy has its name", "mending": "what a failed append left isn't cut off"}
     if world.writer[0] in skipped and is_planted(skipped[world.writer[0]]):
         device = world.device
     return replace(told_write(world, outcome == DONE), device=device)

@@ -1,20 +1,20 @@
 -- Appends and syncs of the log keep what holds.
-use Rattle.std.proofs.Common.{◌≡◌, ℕ, ◌+◌, ◌≤◌, List, [], ◌∷◌, ◌++◌, append_assoc, length, take, refl, sym, ap, ◌∙◌, subst, arith}
+use Rattle.std.proofs.Common.{false, ◌≡◌, ℕ, ◌+◌, ◌≤◌, List, [], ◌∷◌, ◌++◌, append_assoc, length, take, refl, sym, ap, ◌∙◌, subst, arith}
 use Rattle.std.specs.Prelude.{Some}
 use Rattle.std.specs.List.{AllByRecursion}
-use Rattle.std.proofs.lemmas.List.{append-nil, take-append-le, length-append, length-take}
+use Rattle.std.proofs.lemmas.List.{append-nil, take-append-le, length-append, length-take, take_at}
 use Rattle.uc_folder.specs.declared.machine.Machine.{Machine}
 use Rattle.uc_folder.specs.declared.phases.Writer.{Writer}
-use Rattle.uc_folder.specs.declared.phases.Writer.TheVariants.{Ready, Appending, Syncing, Both, Failed}
+use Rattle.uc_folder.specs.declared.phases.Writer.TheVariants.{Ready, Appending, Mending, Syncing, Both, Failed}
 use Rattle.uc_folder.specs.declared.phases.Checkpointer.{Checkpointer}
 use Rattle.uc_folder.specs.Device.{Batch, Record, Whole, Torn, first_whole, are_whole, File, Entry, Device, content, upto, appended, synced, changed, changed_name}
 use Rattle.uc_folder.specs.Worlds.{World, IsPrefixOf, Outcome, Done, NotDone, PartDone, DoneUntold, Writes, happens}
 use Rattle.uc_folder.proofs.Lists.{prefix_refl, prefix_trans, prefix_under, prefix_take}
-use Rattle.uc_folder.proofs.Records.{first_append, first_prefix, whole_append}
+use Rattle.uc_folder.proofs.Records.{first_append, first_prefix, whole_append, whole_length}
 use Rattle.uc_folder.proofs.Sound.{Sound, IsThere, IsLast, settled}
-use Rattle.uc_folder.proofs.Holding.{IsOpen, IsAppended, FitsWriter, Keeps}
+use Rattle.uc_folder.proofs.Holding.{IsOpen, IsAppended, FitsWriter, Keeps, IsMendable}
 use Rattle.uc_folder.proofs.Changes.{entry_sound, submitted_sound}
-use Rattle.uc_folder.proofs.Writing.{world, inside, fails, with_file, filed, last_of, here, here_before, take_counted, take_more, most, synced_file, synced_is, synced_all, synced_first, synced_more}
+use Rattle.uc_folder.proofs.Writing.{world, inside, fails, with_file, filed, last_of, here, here_before, take_more, most, synced_file, synced_is, synced_all, synced_first, synced_more, answered_in, waits}
 
 -- no more is on the device than the log has
 pub marked_count : (count synced : ℕ) (firm before part : List Batch) (e : Entry) → IsOpen count synced firm before part e → synced ≤ length part
@@ -80,38 +80,88 @@ module _ (d : Device) (m : Machine) (c : Checkpointer) (parts : ℕ → List Bat
       filed d m c parts batch acked count m.synced w v (appended record') is.2.file is.2.now is.2.named keeps
       (subst (λ l. IsPrefixOf l part) (sym (appended_all keeps.firm is)) (prefix_refl part), (last_of d m c parts batch acked w is.2.file is.2.now keeps).1) fits
 
+  -- what a failed append leaves may be cut off
+  mendable : (firm : List Batch) (is : IsAppended' firm) (e : Entry) (g : File) (rest : List Record) → e.now ≡ Some g → e.before ≡ [] → g.suspect ≡ false → g.kept ≡ is.2.file.kept → g.kept ++ g.waiting ≡ (is.2.file.kept ++ is.2.file.waiting) ++ rest →
+      IsMendable m.count m.synced firm before is.0 e
+  mendable firm is e g rest now named fresh kept all =
+      let f = is.2.file in
+      let whole = whole_length (f.kept ++ f.waiting) is.2.whole in
+      let read = ap length is.2.all in
+      let counted = is.2.counted in
+      let size = length-append f.kept f.waiting in
+      let same = ap length kept in
+      let first : take m.count (g.kept ++ g.waiting) ≡ f.kept ++ f.waiting = ap (take m.count) all ∙ take_at (f.kept ++ f.waiting) rest m.count (omega (arith, whole, read, counted)) in
+      let few = marked_count m.count m.synced firm before is.0 (d.logs log) is.2 in
+      record {
+        file = g;
+        now = now;
+        named = named;
+        fresh = fresh;
+        whole = ap are_whole first ∙ is.2.whole;
+        all = ap first_whole first ∙ is.2.all;
+        counted = counted;
+        enough = omega (arith, same, size, whole, read, counted);
+        marked = subst (λ l. m.synced ≤ length (first_whole l)) (sym kept) is.2.marked;
+        few = omega (arith, few, counted);
+        told = is.2.told;
+      }
+
+  torn_reads : (firm : List Batch) (is : IsAppended' firm) → first_whole (is.2.file.kept ++ (is.2.file.waiting ++ Torn ∷ [])) ≡ is.0
+  torn_reads firm is =
+      let f = is.2.file in
+      ap first_whole (sym (append_assoc f.kept f.waiting (Torn ∷ []))) ∙ (first_append (f.kept ++ f.waiting) (Torn ∷ []) is.2.whole ∙ (append-nil (first_whole (f.kept ++ f.waiting)) ∙ is.2.all))
+
   -- the batch may be there, and isn't answered
-  untold : (w : Writer) (keeps : Keeps (inside' w)) → IsAppended' keeps.firm → Keeps (world (file' (appended record')) m Failed c parts batch acked)
-  untold w keeps is =
-      let open' = appended_open keeps.firm is in
-      appends m.count w Failed keeps is
-      (subst (IsPrefixOf (take m.count part)) (sym (ap content open'.now ∙ open'.all)) (prefix_take m.count part))
+  untold : (w v : Writer) (keeps : Keeps (inside' w)) (is : IsAppended' keeps.firm) → FitsWriter (file' (appended record')) log m.count m.synced m.base keeps.firm before part batch v → Keeps (world (file' (appended record')) m v c parts batch acked)
+  untold w v keeps is fits = appends m.count w v keeps is fits
+
+  untold_failed : (firm : List Batch) (is : IsAppended' firm) → IsPrefixOf (take m.count part) (content ((file' (appended record')).logs log).now)
+  untold_failed firm is =
+      let open' = appended_open firm is in
+      subst (IsPrefixOf (take m.count part)) (sym (ap content open'.now ∙ open'.all)) (prefix_take m.count part)
+
+  untold_mends : (firm : List Batch) (is : IsAppended' firm) → FitsWriter (file' (appended record')) log m.count m.synced m.base firm before part batch Mending
+  untold_mends firm is =
+      let f = is.2.file in (
+        is.0,
+        is.1,
+        mendable firm is ((file' (appended record')).logs log) (appended record' f) (record' ∷ []) (here d m c parts batch acked (appended record') f is.2.now) (here_before d m c parts batch acked (appended record') ∙ is.2.named) is.2.fresh refl
+            (sym (append_assoc f.kept f.waiting (record' ∷ []))),
+      )
 
   -- a part of it is there
-  torn : (w : Writer) (keeps : Keeps (inside' w)) → IsAppended' keeps.firm → Keeps (world (file' (appended Torn)) m Failed c parts batch acked)
-  torn w keeps is =
+  torn : (w v : Writer) (keeps : Keeps (inside' w)) (is : IsAppended' keeps.firm) → FitsWriter (file' (appended Torn)) log m.count m.synced m.base keeps.firm before part batch v → Keeps (world (file' (appended Torn)) m v c parts batch acked)
+  torn w v keeps is fits =
       let f = is.2.file in
-      let front = is.0 in
-      let read : first_whole (f.kept ++ (f.waiting ++ Torn ∷ [])) ≡ front =
-      ap first_whole (sym (append_assoc f.kept f.waiting (Torn ∷ []))) ∙ (first_append (f.kept ++ f.waiting) (Torn ∷ []) is.2.whole ∙ (append-nil (first_whole (f.kept ++ f.waiting)) ∙ is.2.all)) in
-      let counted = is.2.counted in
-      let first : take m.count part ≡ front = ap (take m.count) (sym is.1) ∙ (take-append-le m.count front (batch ∷ []) (omega (arith, counted)) ∙ take_counted m.count front counted) in
-      filed d m c parts batch acked m.count m.synced w Failed (appended Torn) f is.2.now is.2.named keeps
-      (subst (λ l. IsPrefixOf l part) (sym read) (batch ∷ [], is.1), (last_of d m c parts batch acked w f is.2.now keeps).1)
-      (subst (λ l. IsPrefixOf l (content ((file' (appended Torn)).logs log).now)) (sym first)
-      (subst (IsPrefixOf front) (sym (ap content (here d m c parts batch acked (appended Torn) f is.2.now) ∙ read)) (prefix_refl front)))
+      filed d m c parts batch acked m.count m.synced w v (appended Torn) f is.2.now is.2.named keeps
+      (subst (λ l. IsPrefixOf l part) (sym (torn_reads keeps.firm is)) (batch ∷ [], is.1), (last_of d m c parts batch acked w f is.2.now keeps).1) fits
+
+  torn_mends : (firm : List Batch) (is : IsAppended' firm) → FitsWriter (file' (appended Torn)) log m.count m.synced m.base firm before part batch Mending
+  torn_mends firm is =
+      let f = is.2.file in (
+        is.0,
+        is.1,
+        mendable firm is ((file' (appended Torn)).logs log) (appended Torn f) (Torn ∷ []) (here d m c parts batch acked (appended Torn) f is.2.now) (here_before d m c parts batch acked (appended Torn) ∙ is.2.named) is.2.fresh refl
+            (sym (append_assoc f.kept f.waiting (Torn ∷ []))),
+      )
+
+  torn_failed : (firm : List Batch) (is : IsAppended' firm) → IsPrefixOf (take m.count part) (content ((file' (appended Torn)).logs log).now)
+  torn_failed firm is = answered_in (file' (appended Torn)) log m.count m.synced m.base firm before part batch Mending (torn_mends firm is)
+
+  none_mends : (firm : List Batch) (is : IsAppended' firm) → FitsWriter d log m.count m.synced m.base firm before part batch Mending
+  none_mends firm is = let f = is.2.file in (is.0, is.1, mendable firm is (d.logs log) f [] is.2.now is.2.named is.2.fresh refl (sym (append-nil (f.kept ++ f.waiting))))
 
   pub appending_keeps : (o : Outcome) → Keeps (inside' Appending) → Keeps (happens (inside' Appending) (Writes o))
   appending_keeps Done keeps = appends (m.count + 1) Appending Ready keeps keeps.writer (appended_open keeps.firm keeps.writer)
-  appending_keeps NotDone keeps = fails d m c parts batch acked Appending keeps
-  appending_keeps PartDone keeps = torn Appending keeps keeps.writer
-  appending_keeps DoneUntold keeps = untold Appending keeps keeps.writer
+  appending_keeps NotDone keeps = waits d m c parts batch acked Appending Mending keeps (none_mends keeps.firm keeps.writer)
+  appending_keeps PartDone keeps = torn Appending Mending keeps keeps.writer (torn_mends keeps.firm keeps.writer)
+  appending_keeps DoneUntold keeps = untold Appending Mending keeps keeps.writer (untold_mends keeps.firm keeps.writer)
 
   pub both_keeps : (n : ℕ) (o : Outcome) → Keeps (inside' (Both n)) → Keeps (happens (inside' (Both n)) (Writes o))
   both_keeps n Done keeps = let le = keeps.writer.2 in appends (m.count + 1) (Both n) (Syncing n) keeps keeps.writer.0 (appended_open keeps.firm keeps.writer.0, keeps.writer.1, omega (arith, le))
   both_keeps n NotDone keeps = fails d m c parts batch acked (Both n) keeps
-  both_keeps n PartDone keeps = torn (Both n) keeps keeps.writer.0
-  both_keeps n DoneUntold keeps = untold (Both n) keeps keeps.writer.0
+  both_keeps n PartDone keeps = torn (Both n) Failed keeps keeps.writer.0 (torn_failed keeps.firm keeps.writer.0)
+  both_keeps n DoneUntold keeps = untold (Both n) Failed keeps keeps.writer.0 (untold_failed keeps.firm keeps.writer.0)
 
   -- ---- a sync
 

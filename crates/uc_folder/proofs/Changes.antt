@@ -5,7 +5,7 @@ use Rattle.std.specs.List.{AllByRecursion}
 use Rattle.std.proofs.lemmas.Bool.{cases_eq, cases_lt}
 use Rattle.uc_folder.specs.Device.{Batch, first_whole, left_of, File, Entry, Device, Keep, first_number, upto, at, changed, changed_name, change_log, crashed_file, stands_for, name_log, name_base, sync_names}
 use Rattle.uc_folder.specs.Worlds.{IsPrefixOf}
-use Rattle.uc_folder.proofs.Lists.{prefix_refl, prefix_trans, prefix_onto, upto_same, at_all, at_here, at_other, all_weaker}
+use Rattle.uc_folder.proofs.Lists.{prefix_refl, prefix_trans, prefix_onto, upto_same, at_all, at_here, at_other, all_weaker, prefix_cancel}
 use Rattle.uc_folder.proofs.Records.{first_prefix}
 use Rattle.uc_folder.proofs.Sound.{IsWhole, IsBaseFile, IsBase, IsThere, IsGone, IsLog, IsUnused, IsLast, settled, Each, Sound, last_weaker, last_crashed}
 use Rattle.uc_folder.proofs.Opening.{sound_firm}
@@ -95,6 +95,51 @@ module _ (d : Device) (log sure : ℕ) (parts : ℕ → List Batch) (firm : List
         stands = subst (λ l. IsPrefixOf l more) (before log (omega arith)) (prefix_trans (upto parts log) firm more sound.stands grows);
         none = same 0 (let a = sound.first in let b = sound.reached in omega (arith, a, b)) ∙ sound.none;
       }
+
+  -- the last batch of the log is taken back, which isn't firm
+  pub shrunk_sound : (q : ℕ → List Batch) → ((k : ℕ) → k < log → q k ≡ parts k) → IsPrefixOf firm (upto parts log ++ q log) → IsLast firm (upto parts log) (q log) (d.logs log).now →
+      AllByRecursion (IsLast firm (upto parts log) (settled (d.logs log).now)) (d.logs log).before → Sound d log sure q firm
+  shrunk_sound q same all last spare = record {
+    bases = λ k. (base k (d.bases k).now (sound.bases k).0, all_weaker (IsBase firm parts log k) (IsBase firm q log k) (base k) (d.bases k).before (sound.bases k).1);
+    newer = sound.newer;
+    there = sound.there;
+    first = sound.first;
+    reached = sound.reached;
+    older = λ k l lt. subst (λ part. IsLog part (d.logs k).now × ((d.logs k).before ≡ [])) (sym (same k lt)) (sound.older k l lt);
+    last = subst (λ b. IsLast firm b (q log) (d.logs log).now) (before log (omega arith)) last;
+    spare = subst (λ b. AllByRecursion (IsLast firm b (settled (d.logs log).now)) (d.logs log).before) (before log (omega arith)) spare;
+    begun = sound.begun;
+    later = sound.later;
+    named = sound.named;
+    stands = subst (λ l. IsPrefixOf l firm) (before log (omega arith)) sound.stands;
+    none = same 0 (let a = sound.first in let b = sound.reached in omega (arith, a, b)) ∙ sound.none;
+  }
+    where
+      before : (k : ℕ) → k ≤ log → upto parts k ≡ upto q k
+      before k le = sym (upto_same q parts k (λ i lt. same i (omega (arith, lt, le))))
+
+      front : (k : ℕ) → k ≤ log → (xs : List Batch) → IsPrefixOf xs (parts k) → IsPrefixOf (upto parts k ++ xs) firm → IsPrefixOf xs (q k)
+      front k le xs begins firmly =
+          ⊎_elim
+          (λ (lt : k < log). subst (IsPrefixOf xs) (sym (same k lt)) begins)
+          (λ (ge : log ≤ k).
+          let e : log ≡ k = omega (arith, le, ge) in
+          subst (λ i. IsPrefixOf xs (q i)) e
+          (prefix_cancel (upto parts log) xs (q log) (prefix_trans (upto parts log ++ xs) firm (upto parts log ++ q log) (subst (λ i. IsPrefixOf (upto parts i ++ xs) firm) (sym e) firmly) all)))
+          (cases_lt k log)
+
+      base : (k : ℕ) (o : Option File) → IsBase firm parts log k o → IsBase firm q log k o
+      base k None is = tt
+      base k (Some f) is = (
+        is.0,
+        record {
+          front = is.1.front;
+          file = subst (λ b. IsWhole (b ++ is.1.front) f) (before k is.0) is.1.file;
+          past = is.1.past;
+          part = front k is.0 is.1.front is.1.part is.1.firm;
+          firm = subst (λ b. IsPrefixOf (b ++ is.1.front) firm) (before k is.0) is.1.firm;
+        },
+      )
 
   -- ---- the next log, and others after it
 

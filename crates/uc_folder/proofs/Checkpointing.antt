@@ -5,7 +5,7 @@ use Rattle.std.proofs.lemmas.List.{length-take-le}
 use Rattle.std.proofs.lemmas.Bool.{ltb-true}
 use Rattle.uc_folder.specs.declared.machine.Machine.{Machine}
 use Rattle.uc_folder.specs.declared.phases.Writer.{Writer}
-use Rattle.uc_folder.specs.declared.phases.Writer.TheVariants.{Making, Founding, Naming, Clearing, SettingAside, Copying, SealingCopy, Replacing, Settling, Ready, Appending, Syncing, Both, Closing, Beginning, Entering, Failed}
+use Rattle.uc_folder.specs.declared.phases.Writer.TheVariants.{Making, Founding, Naming, Clearing, SettingAside, Copying, SealingCopy, Replacing, Settling, Ready, Appending, Mending, Syncing, Both, Closing, Beginning, Entering, Failed}
 use Rattle.uc_folder.specs.declared.phases.Checkpointer.{Checkpointer}
 use Rattle.uc_folder.specs.declared.phases.Checkpointer.TheVariants.{Idle, Writing, Sealing, Renaming, Fixing, RemovingLog, RemovingBase}
 use Rattle.uc_folder.specs.Device.{Batch, File, Entry, Device, first_number, content, is_there, sealed, rows_of, stands_for, name_log, name_base, sync_names, write_partial, upto}
@@ -68,6 +68,24 @@ module _ (d e : Device) (log count synced base new : ℕ) (firm before part : Li
   writer_stays Settling fits = (fits.0, here ∙ fits.1, fits.2, fits.3, fits.4)
   writer_stays Ready fits = opened fits
   writer_stays Appending fits = appended fits
+  writer_stays Mending fits =
+      let is = fits.2 in (
+        fits.0,
+        fits.1,
+        record {
+          file = is.file;
+          now = here ∙ is.now;
+          named = s.named is.named;
+          fresh = is.fresh;
+          whole = is.whole;
+          all = is.all;
+          counted = is.counted;
+          enough = is.enough;
+          marked = is.marked;
+          few = is.few;
+          told = is.told;
+        },
+      )
   writer_stays (Syncing n) fits = (opened fits.0, fits.1, fits.2)
   writer_stays (Both n) fits = (appended fits.0, fits.1, fits.2)
   writer_stays Closing fits = opened fits

@@ -1,7 +1,7 @@
 -- Every list of events keeps what holds; and what openings find after it.
 use Rattle.std.proofs.Common.{◌≡◌, ℕ, ◌≤◌, false, inl, List, [], ◌∷◌, ◌++◌, length, take, refl, sym, ap, ◌∙◌, subst, arith}
 use Rattle.std.specs.Prelude.{Some}
-use Rattle.std.specs.Prelude.{Option, Some, Result, Ok}
+use Rattle.std.specs.Prelude.{Some, Result, Ok}
 use Rattle.std.proofs.lemmas.List.{take-append-le}
 use Rattle.uc_folder.specs.declared.machine.Machine.{Machine}
 use Rattle.uc_folder.specs.declared.phases.Writer.{Writer}

@@ -3,7 +3,7 @@ use Rattle.std.proofs.Common.{◌≡◌, ℕ, ◌+◌, ◌≤◌, ◌<◌, true,
 use Rattle.std.specs.Prelude.{⊤, Option, Some, None}
 use Rattle.uc_folder.specs.declared.machine.Machine.{Machine}
 use Rattle.uc_folder.specs.declared.phases.Writer.{Writer}
-use Rattle.uc_folder.specs.declared.phases.Writer.TheVariants.{Making, Founding, Naming, Clearing, SettingAside, Copying, SealingCopy, Replacing, Settling, Ready, Appending, Syncing, Both, Closing, Beginning, Entering, Failed}
+use Rattle.uc_folder.specs.declared.phases.Writer.TheVariants.{Making, Founding, Naming, Clearing, SettingAside, Copying, SealingCopy, Replacing, Settling, Ready, Appending, Mending, Syncing, Both, Closing, Beginning, Entering, Failed}
 use Rattle.uc_folder.specs.declared.phases.Checkpointer.{Checkpointer}
 use Rattle.uc_folder.specs.declared.phases.Checkpointer.TheVariants.{Idle, Writing, Sealing, Renaming, Fixing, RemovingLog, RemovingBase}
 use Rattle.uc_folder.specs.Device.{Batch, first_whole, are_whole, File, Entry, Device, first_number, is_there, content, upto}
@@ -53,6 +53,20 @@ IsOpening count part e = IsRead part e.now × (e.before ≡ []) × (count ≡ le
 abbrev pub IsAppended : ℕ → ℕ → List Batch → List Batch → List Batch → Batch → Entry → Type 0
 IsAppended count synced firm before part batch e = (front : List Batch) × (front ++ batch ∷ [] ≡ part) × IsOpen count synced firm before front e
 
+-- a log in which an append has failed: its first records are those of the batches before that one
+pub record IsMendable (count synced : ℕ) (firm before front : List Batch) (e : Entry) : Type 0 where
+  pub file : File
+  pub now : e.now ≡ Some file
+  pub named : e.before ≡ []
+  pub fresh : file.suspect ≡ false
+  pub whole : are_whole (take count (file.kept ++ file.waiting)) ≡ true
+  pub all : first_whole (take count (file.kept ++ file.waiting)) ≡ front
+  pub counted : count ≡ length front
+  pub enough : length file.kept ≤ count
+  pub marked : synced ≤ length (first_whole file.kept)
+  pub few : synced ≤ count
+  pub told : IsPrefixOf firm (before ++ take synced front)
+
 abbrev pub FitsWriter : Device → ℕ → ℕ → ℕ → ℕ → List Batch → List Batch → List Batch → Batch → Writer → Type 0
 FitsWriter d log count synced base firm before part batch Making = ((d.logs log).now ≡ None) × (part ≡ []) × (count ≡ 0) × (synced ≡ 0) × Stands d base × (base ≤ log)
 FitsWriter d log count synced base firm before part batch Founding = IsNew (d.logs log).now × (part ≡ []) × (count ≡ 0) × (synced ≡ 0)
@@ -65,6 +79,7 @@ FitsWriter d log count synced base firm before part batch Replacing = IsOpening 
 FitsWriter d log count synced base firm before part batch Settling = (f : File) × ((d.logs log).now ≡ Some f) × IsWhole part f × (f.suspect ≡ false) × (count ≡ length part)
 FitsWriter d log count synced base firm before part batch Ready = IsOpen count synced firm before part (d.logs log)
 FitsWriter d log count synced base firm before part batch Appending = IsAppended count synced firm before part batch (d.logs log)
+FitsWriter d log count synced base firm before part batch Mending = (front : List Batch) × (front ++ batch ∷ [] ≡ part) × IsMendable count synced firm before front (d.logs log)
 FitsWriter d log count synced base firm before part batch (Syncing n) = IsOpen count synced firm before part (d.logs log) × (synced ≤ n) × (n ≤ count)
 FitsWriter d log count synced base firm before part batch (Both n) = IsAppended count synced firm before part batch (d.logs log) × (synced ≤ n) × (n ≤ count)
 FitsWriter d log count synced base firm before part batch Closing = IsOpen count synced firm before part (d.logs log)

@@ -8,6 +8,7 @@ mod Writing
 mod Renewing
 mod Adding
 mod Switching
+mod Mending
 mod Checkpointing
 mod Running
 mod Marks

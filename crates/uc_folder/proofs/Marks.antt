@@ -1,11 +1,11 @@
 -- Marks tell no more than what is on the device: so what a crash leaves is never taken for damage.
 use Rattle.std.proofs.Common.{◌≡◌, ℕ, zero, suc, ◌≤◌, Bool, true, false, cond, not, ◌&&◌, ◌||◌, ltb, List, [], ◌∷◌, ◌++◌, append_assoc, length, take, refl, sym, ap, ◌∙◌, subst, arith}
-use Rattle.std.specs.Prelude.{⊤, Option, Some, None}
+use Rattle.std.specs.Prelude.{⊤, Option, Some, None, max}
 use Rattle.std.proofs.lemmas.Bool.{le-ltb, ltb-false}
 use Rattle.std.proofs.lemmas.List.{append-nil, length-append}
 use Rattle.uc_folder.specs.declared.action.Action.{Action}
-use Rattle.uc_folder.specs.declared.action.Action.TheVariants.{Nothing, CreateLog, Append, SyncLog, SyncNames, SetAside, CopyLog, SyncCopy, NameCopy, WriteBase, SyncBase, NameBase, RemoveLog, RemoveBase}
-use Rattle.uc_folder.specs.Device.{Batch, Record, Whole, Torn, first_whole, whole_part, are_whole, tell_more, are_damaged, records_of, left_of, File, Entry, Device, Keep, crashed, crashed_file, crashed_name, empty_file, appended, synced, suspected, sealed, copied, changed, changed_name, change_log, stands_for, name_log}
+use Rattle.uc_folder.specs.declared.action.Action.TheVariants.{Nothing, CreateLog, Append, SyncLog, CutLog, SyncNames, SetAside, CopyLog, SyncCopy, NameCopy, WriteBase, SyncBase, NameBase, RemoveLog, RemoveBase}
+use Rattle.uc_folder.specs.Device.{Batch, Record, Whole, Torn, first_whole, whole_part, are_whole, tell_more, are_damaged, records_of, left_of, File, Entry, Device, Keep, crashed, crashed_file, crashed_name, empty_file, appended, synced, suspected, sealed, copied, changed, changed_name, change_log, stands_for, name_log, cut}
 use Rattle.uc_folder.specs.Worlds.{IsPrefixOf, Outcome, Done, NotDone, PartDone, DoneUntold, carried_out, begun, failed, device_after}
 use Rattle.uc_folder.proofs.Lists.{at_all}
 use Rattle.uc_folder.proofs.Records.{first_prefix, part_first}
@@ -99,6 +99,19 @@ marked_synced n f is = by_test f.suspect refl
         subst (λ rs. tell_more (length (first_whole g.kept)) rs ≡ false) (sym (synced_all n f fresh))
         (tell_raised (length (first_whole f.kept)) (length (first_whole g.kept)) (f.kept ++ f.waiting) (length_prefix (first_whole f.kept) (first_whole g.kept) (synced_more n f fresh)) is))
 
+marked_cut : (n : ℕ) (f : File) → IsMarked (Some f) → IsMarked (Some (cut n f))
+marked_cut n f is = by_test f.suspect refl
+  where
+    by_test : (b : Bool) → f.suspect ≡ b → IsMarked (Some (cut n f))
+    by_test true e = subst (λ (t : Bool). IsMarked (Some (cond t f (record f { kept = (cut n (record f { suspect = false })).kept; waiting = [] })))) (sym e) is
+    by_test false fresh =
+        let g = synced_file n f fresh in
+        let m = length (first_whole g.kept) in
+        let h : File = record { kept = g.kept; waiting = []; suspect = f.suspect; past = f.past } in
+        let same : cut n f ≡ h = ap (λ (t : Bool). cond t f h) fresh in
+        let all = tell_raised (length (first_whole f.kept)) m (f.kept ++ f.waiting) (length_prefix (first_whole f.kept) (first_whole g.kept) (synced_more n f fresh)) is in
+        subst (λ x. IsMarked (Some x)) (sym same) (tell_join m g.kept [] (tell_taken m (max n (length f.kept)) (f.kept ++ f.waiting) all) refl)
+
 -- so no file is taken for a damaged one
 pub marked_whole : (o : Option File) → IsMarked o → are_damaged (records_of o) ≡ false
 marked_whole None is = refl
@@ -165,6 +178,7 @@ done_marked batch parts d (CreateLog k) fine are = marks_named k (Some empty_fil
 done_marked batch parts d (Append k mark) fine are =
     marks_changed k (appended (Whole batch mark)) d (λ f e is. marked_appended (Whole batch mark) f (let le = fine f e in ap (λ t. t || false) (le-ltb (length (first_whole f.kept)) mark le)) is) are
 done_marked batch parts d (SyncLog k n) fine are = marks_changed k (synced n) d (λ f e is. marked_synced n f is) are
+done_marked batch parts d (CutLog k n) fine are = marks_changed k (cut n) d (λ f e is. marked_cut n f is) are
 done_marked batch parts d SyncNames fine are = record { logs = λ k. ((are.logs k).0, tt); copy = are.copy }
 done_marked batch parts d (SetAside k) fine are = are
 done_marked batch parts d (CopyLog k) fine are = record { logs = are.logs; copy = copied_marked (d.logs k).now (are.logs k).0 }
@@ -180,11 +194,13 @@ done_marked batch parts d (RemoveBase k) fine are = record { logs = are.logs; co
 
 failed_marked : (d : Device) (a : Action) → AreMarked d → AreMarked (failed d a)
 failed_marked d (SyncLog k n) are = marks_changed k suspected d (λ f e is. is) are
+failed_marked d (CutLog k n) are = marks_changed k suspected d (λ f e is. is) are
 failed_marked d a are = are
 
 begun_marked : (d : Device) (a : Action) → AreMarked d → AreMarked (begun d a)
 begun_marked d (Append k mark) are = marks_changed k (appended Torn) d (λ f e is. marked_appended Torn f refl is) are
 begun_marked d (SyncLog k n) are = marks_changed k suspected d (λ f e is. is) are
+begun_marked d (CutLog k n) are = marks_changed k suspected d (λ f e is. is) are
 begun_marked d a are = are
 
 pub marks_after : (o : Outcome) (batch : Batch) (parts : ℕ → List Batch) (d : Device) (a : Action) → IsFine d a → AreMarked d → AreMarked (device_after o batch parts d a)

@@ -1,17 +1,17 @@
 -- What an opening finds by the names that a folder lists.
-use Rattle.std.proofs.Common.{◌≡◌, ℕ, ◌<◌, ◌≤◌, Bool, true, false, cond, eqb, eq-eqb, ◌&&◌, ◌||◌, ◌⊎◌, inl, inr, ⊎_elim, List, [], ◌∷◌, refl, sym, ap, ◌∙◌, subst, arith}
+use Rattle.std.proofs.Common.{◌≡◌, ℕ, ◌<◌, ◌≤◌, Bool, true, false, cond, eqb, eq-eqb, ◌&&◌, ◌||◌, ⊎_elim, List, [], ◌∷◌, refl, sym, ap, ◌∙◌, subst, arith}
 use Rattle.std.specs.Prelude.{Option, Some, None, Result, Ok, Err, fold, max}
 use Rattle.std.specs.List.{list_any}
-use Rattle.std.proofs.lemmas.Bool.{cases_lt, cases_Bool, eqb-true, and_parts, or_cases}
+use Rattle.std.proofs.lemmas.Bool.{cases_lt, eqb-true, and_parts, or_cases}
 use Rattle.uc_folder.specs.declared.listing.Base.{Base}
 use Rattle.uc_folder.specs.declared.listing.Listed.{Listed}
 use Rattle.uc_folder.specs.declared.listing.Found.{Found}
 use Rattle.uc_folder.specs.declared.listing.Missing.{Missing}
-use Rattle.uc_folder.specs.Device.{Batch, Device, File, first_number, is_there, is_used, newest_base, last_log, past_of}
-use Rattle.uc_folder.specs.Listing.{base_in, past_in, log_in, is_listed, top_in, least_in, found_of, IsFoundIn, IsListing}
+use Rattle.uc_folder.specs.Device.{Batch, Device, File, first_number, is_there, is_used, past_of}
+use Rattle.uc_folder.specs.Listing.{base_in, log_in, is_listed, found_of, IsFoundIn, IsListing}
 use Rattle.uc_folder.specs.Worlds.{IsReadable, is_intact, found}
 use Rattle.uc_folder.proofs.Sound.{Sound}
-use Rattle.uc_folder.proofs.Opening.{n, h, j, n_there, n_first, n_below, base_above, h_is, used_below}
+use Rattle.uc_folder.proofs.Opening.{n, h, j, n_there, n_first, base_above, h_is, used_below}
 
 -- no log that goes on is before the base's
 pub log_least : (base : ℕ) (logs : List Listed) → base ≤ log_in base logs

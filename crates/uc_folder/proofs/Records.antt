@@ -1,5 +1,5 @@
 -- Lists of records: what is read of them, and what a crash leaves.
-use Rattle.std.proofs.Common.{◌≡◌, ℕ, zero, suc, Bool, true, false, cond, List, [], ◌∷◌, ◌++◌, length, take, drop, refl, ap, subst, ◌<◌, eq-eqb, ◌∙◌, arith, sym}
+use Rattle.std.proofs.Common.{◌≡◌, ℕ, zero, suc, Bool, true, false, cond, List, [], ◌∷◌, ◌++◌, length, take, drop, refl, ap, subst, ◌<◌, eq-eqb, ◌∙◌, arith}
 use Rattle.std.proofs.lemmas.List.{take-append-drop}
 use Rattle.std.proofs.lemmas.Bool.{ne_eqb}
 use Rattle.uc_folder.specs.Device.{read_by_sequence, Batch, Record, Whole, Torn, first_whole, whole_part, are_whole, left_of, rows_of}

@@ -5,7 +5,7 @@ use Rattle.std.proofs.lemmas.List.{append-nil}
 use Rattle.std.proofs.lemmas.Bool.{ltb-true, leb-true, eqb-true, and_parts, or_cases}
 use Rattle.uc_folder.specs.declared.machine.Machine.{Machine}
 use Rattle.uc_folder.specs.declared.phases.Writer.{Writer}
-use Rattle.uc_folder.specs.declared.phases.Writer.TheVariants.{Making, Founding, Naming, Clearing, SettingAside, Copying, SealingCopy, Replacing, Settling, Ready, Appending, Syncing, Both, Closing, Beginning, Entering}
+use Rattle.uc_folder.specs.declared.phases.Writer.TheVariants.{Making, Founding, Naming, Clearing, SettingAside, Copying, SealingCopy, Replacing, Settling, Ready, Appending, Mending, Syncing, Both, Closing, Beginning, Entering}
 use Rattle.uc_folder.specs.declared.phases.Checkpointer.{Checkpointer}
 use Rattle.uc_folder.specs.declared.phases.Checkpointer.TheVariants.{Idle}
 use Rattle.uc_folder.specs.Device.{Batch, Device, upto, at}
@@ -18,6 +18,7 @@ use Rattle.uc_folder.proofs.Changes.{submitted_sound}
 use Rattle.uc_folder.proofs.Writing.{world, moved, waits}
 use Rattle.uc_folder.proofs.Renewing.{making_keeps, founding_keeps, naming_keeps, clearing_keeps, setting_keeps, copying_keeps, sealing_copy_keeps, replacing_keeps, settling_keeps}
 use Rattle.uc_folder.proofs.Adding.{marked_count, appending_keeps, both_keeps}
+use Rattle.uc_folder.proofs.Mending.{mending_keeps}
 use Rattle.uc_folder.proofs.Switching.{closing_keeps, beginning_keeps, entering_keeps}
 
 module _ (d : Device) (m : Machine) (parts : ℕ → List Batch) (batch : Batch) (acked : List Batch) where
@@ -40,6 +41,7 @@ module _ (d : Device) (m : Machine) (parts : ℕ → List Batch) (batch : Batch)
   writes_keep c Replacing o keeps = replacing_keeps d m c parts batch acked o keeps
   writes_keep c Settling o keeps = settling_keeps d m c parts batch acked o keeps
   writes_keep c Appending o keeps = appending_keeps d m c parts batch acked o keeps
+  writes_keep c Mending o keeps = mending_keeps d m c parts batch acked o keeps
   writes_keep c (Both n) o keeps = both_keeps d m c parts batch acked n o keeps
   writes_keep c Closing o keeps = closing_keeps d m c parts batch acked o keeps
   writes_keep c Beginning o keeps = beginning_keeps d m c parts batch acked o keeps

@@ -4,7 +4,7 @@ use Rattle.std.proofs.lemmas.Bool.{and_parts}
 use Rattle.std.proofs.lemmas.List.{append-nil, take-append-le}
 use Rattle.uc_folder.specs.declared.machine.Machine.{Machine}
 use Rattle.uc_folder.specs.declared.phases.Writer.{Writer}
-use Rattle.uc_folder.specs.declared.phases.Writer.TheVariants.{Making, Settling, Ready, Syncing, Both, Closing, Entering, Failed}
+use Rattle.uc_folder.specs.declared.phases.Writer.TheVariants.{Making, Settling, Ready, Syncing, Both, Closing, Entering, Failed, Mending}
 use Rattle.uc_folder.specs.declared.phases.Checkpointer.{Checkpointer}
 use Rattle.uc_folder.specs.Device.{Batch, Device, upto, at, crashed}
 use Rattle.uc_folder.specs.Steps.{is_open}
@@ -25,6 +25,12 @@ Says w = IsPrefixOf (first_of w.parts w.machine.log w.machine.synced) w.acked
 upto_at : (parts : ℕ → List Batch) (log : ℕ) (xs : List Batch) → upto (at log xs parts) log ≡ upto parts log
 upto_at parts log xs = upto_same (at log xs parts) parts log (λ k lt. at_other log xs parts k (omega (arith, lt)))
 
+take_twice : (a b : ℕ) (xs : List Batch) → a ≤ b → take a (take b xs) ≡ take a xs
+take_twice zero b xs le = refl
+take_twice (suc a) zero xs le = absurd (omega (arith, le))
+take_twice (suc a) (suc b) [] le = refl
+take_twice (suc a) (suc b) (x ∷ xs) le = ap (λ l. x ∷ l) (take_twice a b xs (omega (arith, le)))
+
 module _ (d : Device) (m : Machine) (c : Checkpointer) (parts : ℕ → List Batch) (batch : Batch) (acked : List Batch) where
   abbrev inside : Writer → World
   inside w = world d m w c parts batch acked
@@ -42,6 +48,18 @@ module _ (d : Device) (m : Machine) (c : Checkpointer) (parts : ℕ → List Bat
       subst (λ l. IsPrefixOf l acked) (sym (submitted_same b (marked_count m.count m.synced keeps.firm (upto parts m.log) (parts m.log) (d.logs m.log) keeps.writer.0))) says
   says_submitted b w keeps says = says
 
+  -- the batch that is cut off wasn't acknowledged
+  cut_off : Keeps (inside Mending) → Says (inside Mending) → Says (happens (inside Mending) (Writes Done))
+  cut_off keeps says =
+      let is = keeps.writer.2 in
+      let front : List Batch = keeps.writer.0 in
+      let few = is.few in
+      let own = take m.count (parts m.log) in
+      let same : first_of (at m.log own parts) m.log m.synced ≡ first_of parts m.log m.synced =
+      ap (λ l. l ++ take m.synced (at m.log own parts m.log)) (upto_at parts m.log own)
+      ∙ ap (λ l. upto parts m.log ++ l) (ap (take m.synced) (at_here m.log own parts) ∙ take_twice m.synced m.count (parts m.log) few) in
+      subst (λ l. IsPrefixOf l acked) (sym same) says
+
   -- all of the log before is acknowledged
   entered : Keeps (inside Entering) → Says (inside Entering) → Says (happens (inside Entering) (Writes Done))
   entered keeps says =
@@ -58,6 +76,7 @@ module _ (d : Device) (m : Machine) (c : Checkpointer) (parts : ℕ → List Bat
   says_written Settling Done keeps says = prefix_refl (first_of parts m.log m.count)
   says_written Closing Done keeps says = prefix_refl (first_of parts m.log m.count)
   says_written Entering Done keeps says = entered keeps says
+  says_written Mending Done keeps says = cut_off keeps says
   says_written Making NotDone keeps says = says
   says_written Making PartDone keeps says = says
   says_written Making DoneUntold keeps says = says

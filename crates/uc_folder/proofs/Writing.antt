@@ -5,7 +5,7 @@ use Rattle.std.specs.List.{AllByRecursion}
 use Rattle.std.proofs.lemmas.List.{take-append-le, take-append-drop, length-append}
 use Rattle.uc_folder.specs.declared.machine.Machine.{Machine}
 use Rattle.uc_folder.specs.declared.phases.Writer.{Writer}
-use Rattle.uc_folder.specs.declared.phases.Writer.TheVariants.{Making, Founding, Naming, Clearing, SettingAside, Copying, SealingCopy, Replacing, Settling, Ready, Appending, Syncing, Both, Closing, Beginning, Entering, Failed}
+use Rattle.uc_folder.specs.declared.phases.Writer.TheVariants.{Making, Founding, Naming, Clearing, SettingAside, Copying, SealingCopy, Replacing, Settling, Ready, Appending, Mending, Syncing, Both, Closing, Beginning, Entering, Failed}
 use Rattle.uc_folder.specs.declared.phases.Checkpointer.{Checkpointer}
 use Rattle.uc_folder.specs.declared.phases.Checkpointer.TheVariants.{Idle, Writing, Sealing, Renaming, Fixing, RemovingLog, RemovingBase}
 use Rattle.uc_folder.specs.Device.{Batch, first_whole, File, Entry, Device, first_number, content, upto, at, synced, changed, changed_name, change_log}
@@ -13,7 +13,7 @@ use Rattle.uc_folder.specs.Worlds.{World, IsPrefixOf, first_of}
 use Rattle.uc_folder.proofs.Lists.{prefix_refl, prefix_trans, prefix_take, prefix_of_nil, upto_same, at_here}
 use Rattle.uc_folder.proofs.Records.{first_take}
 use Rattle.uc_folder.proofs.Sound.{Sound, IsWhole, IsThere, IsLast, settled, Each}
-use Rattle.uc_folder.proofs.Holding.{IsRead, IsOpen, IsCopy, IsAppended, FitsWriter, Attempt, FitsCheckpointer, Keeps}
+use Rattle.uc_folder.proofs.Holding.{IsRead, IsOpen, IsCopy, IsAppended, IsMendable, FitsWriter, Attempt, FitsCheckpointer, Keeps}
 use Rattle.uc_folder.proofs.Opening.{whole_content}
 use Rattle.uc_folder.proofs.Changes.{parts_grow, entry_sound}
 
@@ -60,19 +60,24 @@ attempt_moves log next base p q firm more n past le same part grows is =
     let rows : first_of p n past ≡ first_of q n past = ap (λ l. l ++ take past (p n)) before ∙ ap (λ l. upto q n ++ l) first in
     (record { from = is.from; to = omega (arith, to, le); size = omega (arith, size, len, all); firmly = subst (λ l. IsPrefixOf l more) rows (prefix_trans (first_of p n past) firm more is.firmly grows) }, rows)
 
+pub checkpointer_moves : (d e : Device) (log next base sure : ℕ) (p q : ℕ → List Batch) (firm more : List Batch) (c : Checkpointer) → e.partial ≡ d.partial → ((k : ℕ) → (e.bases k).now ≡ (d.bases k).now) →
+    ((n past : ℕ) → Attempt log base p firm n past → Attempt next base q more n past × (first_of p n past ≡ first_of q n past)) → FitsCheckpointer d log base sure p firm c → FitsCheckpointer e next base sure q more c
+checkpointer_moves d e log next base sure p q firm more Idle partial bases moves fits = tt
+checkpointer_moves d e log next base sure p q firm more (Writing n past) partial bases moves fits = (moves n past fits).0
+checkpointer_moves d e log next base sure p q firm more (Sealing n past) partial bases moves fits =
+    let both = moves n past fits.0 in
+    (both.0, subst (IsCopy (first_of q n past)) (sym partial) (subst (λ xs. IsCopy xs d.partial) both.1 fits.1), ap (λ (f : File). f.past) partial ∙ fits.2)
+checkpointer_moves d e log next base sure p q firm more (Renaming n past) partial bases moves fits =
+    let both = moves n past fits.0 in
+    (both.0, subst (IsWhole (first_of q n past)) (sym partial) (subst (λ xs. IsWhole xs d.partial) both.1 fits.1), ap (λ (f : File). f.past) partial ∙ fits.2)
+checkpointer_moves d e log next base sure p q firm more (Fixing n past) partial bases moves fits = ((moves n past fits.0).0, subst IsThere (sym (bases n)) fits.1)
+checkpointer_moves d e log next base sure p q firm more (RemovingLog k) partial bases moves fits = fits
+checkpointer_moves d e log next base sure p q firm more (RemovingBase k) partial bases moves fits = fits
+
 pub checkpointer_stays : (d e : Device) (log next base sure : ℕ) (p q : ℕ → List Batch) (firm more : List Batch) (c : Checkpointer) → log ≤ next → e.partial ≡ d.partial → ((k : ℕ) → (e.bases k).now ≡ (d.bases k).now) → ((k : ℕ) → k < log → q k ≡ p k) → IsPrefixOf (p log) (q log) →
     IsPrefixOf firm more → FitsCheckpointer d log base sure p firm c → FitsCheckpointer e next base sure q more c
-checkpointer_stays d e log next base sure p q firm more Idle le partial bases same part grows fits = tt
-checkpointer_stays d e log next base sure p q firm more (Writing n past) le partial bases same part grows fits = (attempt_moves log next base p q firm more n past le same part grows fits).0
-checkpointer_stays d e log next base sure p q firm more (Sealing n past) le partial bases same part grows fits =
-    let both = attempt_moves log next base p q firm more n past le same part grows fits.0 in
-    (both.0, subst (IsCopy (first_of q n past)) (sym partial) (subst (λ xs. IsCopy xs d.partial) both.1 fits.1), ap (λ (f : File). f.past) partial ∙ fits.2)
-checkpointer_stays d e log next base sure p q firm more (Renaming n past) le partial bases same part grows fits =
-    let both = attempt_moves log next base p q firm more n past le same part grows fits.0 in
-    (both.0, subst (IsWhole (first_of q n past)) (sym partial) (subst (λ xs. IsWhole xs d.partial) both.1 fits.1), ap (λ (f : File). f.past) partial ∙ fits.2)
-checkpointer_stays d e log next base sure p q firm more (Fixing n past) le partial bases same part grows fits = ((attempt_moves log next base p q firm more n past le same part grows fits.0).0, subst IsThere (sym (bases n)) fits.1)
-checkpointer_stays d e log next base sure p q firm more (RemovingLog k) le partial bases same part grows fits = fits
-checkpointer_stays d e log next base sure p q firm more (RemovingBase k) le partial bases same part grows fits = fits
+checkpointer_stays d e log next base sure p q firm more c le partial bases same part grows fits =
+    checkpointer_moves d e log next base sure p q firm more c partial bases (λ n past is. attempt_moves log next base p q firm more n past le same part grows is) fits
 
 -- ---- the log
 
@@ -101,6 +106,14 @@ appended_answered count synced firm before part batch e is =
     let first : take count part ≡ front = ap (take count) (sym is.1) ∙ (take-append-le count front (batch ∷ []) (omega (arith, counted)) ∙ take_counted count front counted) in
     subst (λ l. IsPrefixOf l (content e.now)) (sym first) (subst (IsPrefixOf front) (sym (open_content count synced firm before front e is.2)) (prefix_refl front))
 
+mendable_answered : (count synced : ℕ) (firm before part : List Batch) (batch : Batch) (e : Entry) (front : List Batch) → front ++ batch ∷ [] ≡ part → IsMendable count synced firm before front e → IsPrefixOf (take count part) (content e.now)
+mendable_answered count synced firm before part batch e front all is =
+    let counted = is.counted in
+    let records = is.file.kept ++ is.file.waiting in
+    let first : take count part ≡ front = ap (take count) (sym all) ∙ (take-append-le count front (batch ∷ []) (omega (arith, counted)) ∙ take_counted count front counted) in
+    let read : front ≡ take count (first_whole records) = sym is.all ∙ first_take count records in
+    subst (λ l. IsPrefixOf l (content e.now)) (sym (first ∙ read)) (subst (IsPrefixOf (take count (first_whole records))) (sym (ap content is.now)) (prefix_take count (first_whole records)))
+
 pub answered_in : (d : Device) (log count synced base : ℕ) (firm before part : List Batch) (batch : Batch) (w : Writer) → FitsWriter d log count synced base firm before part batch w → IsPrefixOf (take count part) (content (d.logs log).now)
 answered_in d log count synced base firm before part batch Making fits = none_answered count part (content (d.logs log).now) fits.1
 answered_in d log count synced base firm before part batch Founding fits = none_answered count part (content (d.logs log).now) fits.1
@@ -114,6 +127,7 @@ answered_in d log count synced base firm before part batch Settling fits =
     subst (IsPrefixOf (take count part)) (sym (ap content fits.1 ∙ whole_content part fits.0 fits.2)) (prefix_take count part)
 answered_in d log count synced base firm before part batch Ready fits = open_answered count count synced firm before part (d.logs log) fits
 answered_in d log count synced base firm before part batch Appending fits = appended_answered count synced firm before part batch (d.logs log) fits
+answered_in d log count synced base firm before part batch Mending fits = mendable_answered count synced firm before part batch (d.logs log) fits.0 fits.1 fits.2
 answered_in d log count synced base firm before part batch (Syncing n) fits = open_answered count count synced firm before part (d.logs log) fits.0
 answered_in d log count synced base firm before part batch (Both n) fits = appended_answered count synced firm before part batch (d.logs log) fits.0
 answered_in d log count synced base firm before part batch Closing fits = open_answered count count synced firm before part (d.logs log) fits

@@ -185,6 +185,13 @@ synced n f =
       waiting = drop (max n (length f.kept)) (f.kept ++ f.waiting);
     }
 
+-- What stands after a number of records is cut off, and the others are synced. A cut that fails is done or isn't, in memory as on the
+-- device.
+abbrev pub cut : ℕ → File → File
+cut n f =
+    if f.suspect then f
+    else record f { kept = take (max n (length f.kept)) (f.kept ++ f.waiting); waiting = [] }
+
 abbrev pub suspected : File → File
 suspected f = record f { suspect = true }
 

@@ -3,11 +3,11 @@ use Rattle.std.specs.Prelude.{ℕ, ◌+◌, Bool, true, false, nat_lt, nat_le, �
 use Rattle.uc_folder.specs.declared.machine.Machine.{Machine}
 use Rattle.uc_folder.specs.declared.listing.Found.{Found}
 use Rattle.uc_folder.specs.declared.phases.Writer.{Writer}
-use Rattle.uc_folder.specs.declared.phases.Writer.TheVariants.{Making, Founding, Naming, Clearing, SettingAside, Copying, SealingCopy, Replacing, Settling, Ready, Appending, Syncing, Both, Closing, Beginning, Entering, Failed}
+use Rattle.uc_folder.specs.declared.phases.Writer.TheVariants.{Making, Founding, Naming, Clearing, SettingAside, Copying, SealingCopy, Replacing, Settling, Ready, Appending, Mending, Syncing, Both, Closing, Beginning, Entering, Failed}
 use Rattle.uc_folder.specs.declared.phases.Checkpointer.{Checkpointer}
 use Rattle.uc_folder.specs.declared.phases.Checkpointer.TheVariants.{Idle, Writing, Sealing, Renaming, Fixing, RemovingLog, RemovingBase}
 use Rattle.uc_folder.specs.declared.action.Action.{Action}
-use Rattle.uc_folder.specs.declared.action.Action.TheVariants.{Nothing, CreateLog, Append, SyncLog, SyncNames, SetAside, CopyLog, SyncCopy, NameCopy, WriteBase, SyncBase, NameBase, RemoveLog, RemoveBase}
+use Rattle.uc_folder.specs.declared.action.Action.TheVariants.{Nothing, CreateLog, Append, SyncLog, CutLog, SyncNames, SetAside, CopyLog, SyncCopy, NameCopy, WriteBase, SyncBase, NameBase, RemoveLog, RemoveBase}
 
 -- ---- the writer
 
@@ -23,6 +23,7 @@ next_write Replacing log count synced = NameCopy log
 next_write Settling log count synced = SyncNames
 next_write Ready log count synced = Nothing
 next_write Appending log count synced = Append log synced
+next_write Mending log count synced = CutLog log count
 next_write (Syncing n) log count synced = Nothing
 next_write (Both n) log count synced = Append log synced
 next_write Closing log count synced = SyncLog log count
@@ -34,7 +35,8 @@ next_write Failed log count synced = Nothing
 abbrev pub clearing_after : ℕ → ℕ → Writer
 clearing_after k top = if nat_lt k top then Clearing (k + 1) top else SettingAside
 
--- What the writer does after an operation that was done, or wasn't. After one refusal it goes on: that the next log can't be made.
+-- What the writer does after an operation that was done, or wasn't. After two refusals it goes on: that a batch can't be appended, if
+-- what is left of it can be cut off, and that the next log can't be made.
 abbrev pub writer_after : Writer → Bool → ℕ → Writer
 writer_after Making true log = Founding
 writer_after Founding true log = Ready
@@ -47,6 +49,8 @@ writer_after Replacing true log = Settling
 writer_after Settling true log = Ready
 writer_after Ready is_done log = Ready
 writer_after Appending true log = Ready
+writer_after Appending false log = Mending
+writer_after Mending true log = Ready
 writer_after (Syncing n) is_done log = Syncing n
 writer_after (Both n) true log = Syncing n
 writer_after Closing true log = Beginning

@@ -1,12 +1,12 @@
 -- The machine and the device together, over every list of events.
 use Rattle.std.specs.Prelude.{take, min, length, ◌≡◌, ℕ, ◌+◌, ◌≤◌, ◌<◌, Bool, true, false, ◌&&◌, List, [], ◌∷◌, ◌++◌, Option, Some, None, nat_lt, if◌then◌else◌}
-use Rattle.uc_folder.specs.Device.{Batch, Whole, Torn, File, Device, Keep, first_number, crashed, crashed_file, empty_file, appended, synced, suspected, sealed, copied, rows_of, at, change_log, name_log, name_base, sync_names, write_copy, write_partial, records_of, content, are_whole, are_damaged, is_there, past_of, newest_base, last_log, upto}
+use Rattle.uc_folder.specs.Device.{Batch, Whole, Torn, File, Device, Keep, first_number, crashed, crashed_file, empty_file, appended, synced, cut, suspected, sealed, copied, rows_of, at, change_log, name_log, name_base, sync_names, write_copy, write_partial, records_of, content, are_whole, are_damaged, is_there, past_of, newest_base, last_log, upto}
 use Rattle.uc_folder.specs.declared.machine.Machine.{Machine}
 use Rattle.uc_folder.specs.declared.listing.Found.{Found}
 use Rattle.uc_folder.specs.declared.phases.Writer.{Writer}
-use Rattle.uc_folder.specs.declared.phases.Writer.TheVariants.{Settling, Ready, Syncing, Both, Closing, Entering}
+use Rattle.uc_folder.specs.declared.phases.Writer.TheVariants.{Settling, Ready, Mending, Syncing, Both, Closing, Entering}
 use Rattle.uc_folder.specs.declared.action.Action.{Action}
-use Rattle.uc_folder.specs.declared.action.Action.TheVariants.{Nothing, CreateLog, Append, SyncLog, SyncNames, SetAside, CopyLog, SyncCopy, NameCopy, WriteBase, SyncBase, NameBase, RemoveLog, RemoveBase}
+use Rattle.uc_folder.specs.declared.action.Action.TheVariants.{Nothing, CreateLog, Append, SyncLog, CutLog, SyncNames, SetAside, CopyLog, SyncCopy, NameCopy, WriteBase, SyncBase, NameBase, RemoveLog, RemoveBase}
 use Rattle.uc_folder.specs.Steps.{next_write, told_write, next_sync, told_sync, next_checkpoint, told_checkpoint, submitting, syncing, switching, may_begin, checkpointing, opened}
 
 -- The folder and its machine; the batches that were submitted for each log, the one that was submitted last, and all that were
@@ -48,6 +48,7 @@ carried_out batch parts d Nothing = d
 carried_out batch parts d (CreateLog k) = name_log k (Some empty_file) d
 carried_out batch parts d (Append k mark) = change_log k (appended (Whole batch mark)) d
 carried_out batch parts d (SyncLog k n) = change_log k (synced n) d
+carried_out batch parts d (CutLog k n) = change_log k (cut n) d
 carried_out batch parts d SyncNames = sync_names d
 carried_out batch parts d (SetAside k) = d
 carried_out batch parts d (CopyLog k) = write_copy (copied (d.logs k).now) d
@@ -64,10 +65,12 @@ carried_out batch parts d (RemoveBase k) = name_base k None d
 abbrev pub begun : Device → Action → Device
 begun d (Append k mark) = change_log k (appended Torn) d
 begun d (SyncLog k n) = change_log k suspected d
+begun d (CutLog k n) = change_log k suspected d
 begun d _ = d
 
 abbrev pub failed : Device → Action → Device
 failed d (SyncLog k n) = change_log k suspected d
+failed d (CutLog k n) = change_log k suspected d
 failed d _ = d
 
 abbrev pub device_after : Outcome → Batch → (ℕ → List Batch) → Device → Action → Device
@@ -111,10 +114,11 @@ batch_with Ready b old = b
 batch_with (Syncing n) b old = b
 batch_with w b old = old
 
--- nothing was submitted for the log that is entered
-abbrev pub parts_after : Writer → Bool → ℕ → (ℕ → List Batch) → ℕ → List Batch
-parts_after Entering true log parts = at (log + 1) [] parts
-parts_after w done log parts = parts
+-- A batch that was cut off isn't submitted any more: it was refused. And nothing was submitted for the log that is entered.
+abbrev pub parts_after : Writer → Bool → ℕ → ℕ → (ℕ → List Batch) → ℕ → List Batch
+parts_after Mending true log count parts = at log (take count (parts log)) parts
+parts_after Entering true log count parts = at (log + 1) [] parts
+parts_after w done log count parts = parts
 
 -- what is acknowledged as synced after an operation of the writer: all that is in a log which it has put on the device
 abbrev pub acked_after : Writer → Bool → List Batch → List Batch → List Batch
@@ -169,7 +173,7 @@ happens w (AskCheckpoint n past) = record w {
 happens w (Writes outcome) = record {
   device = device_after outcome w.batch w.parts w.device (next_write w.machine.writer w.machine.log w.machine.count w.machine.synced);
   machine = told_write w.machine (is_done outcome);
-  parts = parts_after w.machine.writer (is_done outcome) w.machine.log w.parts;
+  parts = parts_after w.machine.writer (is_done outcome) w.machine.log w.machine.count w.parts;
   batch = w.batch;
   acked = acked_after w.machine.writer (is_done outcome) (first_of w.parts w.machine.log w.machine.count) w.acked;
 }

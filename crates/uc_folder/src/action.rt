@@ -11,6 +11,8 @@ pub enum Action {
     Append(u64, u64),
     /// Syncs the log of a number. As many of its records as given were there when this was asked for.
     SyncLog(u64, u64),
+    /// Cuts off what the log of a number has after as many records as given, and syncs it.
+    CutLog(u64, u64),
     /// Syncs the folder's names.
     SyncNames,
     /// Keeps the bytes after the batches of a log that are read, in a file that nothing reads.

@@ -82,6 +82,7 @@ impl Machine {
             Writer::SealingCopy => Action::SyncCopy,
             Writer::Replacing => Action::NameCopy(self.log),
             Writer::Appending | Writer::Both(_) => Action::Append(self.log, self.synced),
+            Writer::Mending => Action::CutLog(self.log, self.count),
             Writer::Closing => Action::SyncLog(self.log, self.count),
             Writer::Beginning => Action::CreateLog(self.log + 1),
             Writer::Ready | Writer::Syncing(_) | Writer::Failed => Action::Nothing,
@@ -115,6 +116,8 @@ impl Machine {
                 self.writer = Writer::Ready;
                 self.count += 1;
             }
+            (Writer::Appending, false) => self.writer = Writer::Mending,
+            (Writer::Mending, true) => self.writer = Writer::Ready,
             (Writer::Both(synced), true) => {
                 self.writer = Writer::Syncing(synced);
                 self.count += 1;

@@ -25,6 +25,8 @@ pub enum Writer {
     Ready,
     /// A batch is appended.
     Appending,
+    /// What a failed append left is cut off: the batch isn't there then.
+    Mending,
     /// The log is synced, up to a number of records.
     Syncing(u64),
     /// Both: a batch is appended beside a sync up to a number of records.

@@ -1,4 +1,4 @@
-use Rattle.std.proofs.Common.{◌≡◌, ◌<◌, ◌≤◌, sym, ap, ◌∙◌, subst, arith}
+use Rattle.std.proofs.Common.{◌≡◌, ◌≤◌, sym, ap, ◌∙◌, subst, arith}
 use Rattle.uc_folder.specs.Device.{first_number}
 use Rattle.uc_folder.specs.Listing as listing
 use Rattle.uc_folder.proofs.Names.{log_least, greatest_least}
