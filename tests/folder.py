@@ -66,7 +66,7 @@ class Device:
 
 
 class Place(NamedTuple):
-    """How far a base goes: the logs before a number, and this many batches of that one."""
+    """The reach of a base: the logs before a number, and some batches of that one."""
 
     number: int
     past: int
@@ -118,7 +118,7 @@ def is_planted(name: str) -> bool:
     return planted == name
 
 
-# ---- what is read
+# ---- reading
 
 
 def first_whole(records: Records) -> Tuple[int, ...]:
@@ -188,7 +188,7 @@ def appended(file: File, record: Optional[Record]) -> File:
 
 
 def synced(file: File, count: int) -> File:
-    """A file of which at least so many records are on the device."""
+    """A file of which at least a number of records are on the device."""
     if file.suspect:
         return file
     most = max(count, len(file.kept))
@@ -201,7 +201,7 @@ def copied(file: Optional[File]) -> File:
 
 
 def cut(file: File, count: int) -> File:
-    """A file that has so many records in its place, which are synced."""
+    """A file that keeps a number of records, which are synced."""
     most = max(count, len(file.kept))
     if file.suspect:
         return replace(file, waiting=file.waiting[: most - len(file.kept)])
@@ -305,7 +305,7 @@ def submitted(world: World) -> Tuple[int, ...]:
 
 
 def confirmed(world: World, count: int) -> Tuple[int, ...]:
-    """What older logs have, and the first batches of the present one."""
+    """The batches of older logs, and the first ones of the present log."""
     return upto(world, world.log) + part(world, world.log)[:count]
 
 

@@ -74,7 +74,7 @@ def asked(world: World, draw: random.Random) -> World:
 
 
 def step(world: World, draw: random.Random) -> World:
-    """What happens next."""
+    """The world after one event."""
     kind, outcome = draw.random(), draw.choices((DONE, NOT_DONE, PART_DONE, DONE_UNTOLD), (12, 1, 1, 1))[0]
     phase, is_idle = world.writer[0], world.checkpointer == ("idle",)
     if kind < 0.015 or phase == "failed":

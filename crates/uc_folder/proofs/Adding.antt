@@ -80,7 +80,7 @@ module _ (d : Device) (m : Machine) (c : Checkpointer) (parts : ℕ → List Bat
       filed d m c parts batch acked count m.synced w v (appended record') is.2.file is.2.now is.2.named keeps
       (subst (λ l. IsPrefixOf l part) (sym (appended_all keeps.firm is)) (prefix_refl part), (last_of d m c parts batch acked w is.2.file is.2.now keeps).1) fits
 
-  -- what a failed append leaves may be cut off
+  -- the rest that a failed append leaves may be cut off
   mendable : (firm : List Batch) (is : IsAppended' firm) (e : Entry) (g : File) (rest : List Record) → e.now ≡ Some g → e.before ≡ [] → g.suspect ≡ false → g.kept ≡ is.2.file.kept → g.kept ++ g.waiting ≡ (is.2.file.kept ++ is.2.file.waiting) ++ rest →
       IsMendable m.count m.synced firm before is.0 e
   mendable firm is e g rest now named fresh kept all =
@@ -181,7 +181,7 @@ module _ (d : Device) (m : Machine) (c : Checkpointer) (parts : ℕ → List Bat
     pub synced_kept : first_whole g.kept ≡ take (most n f is.fresh) own
     synced_kept = synced_first n f is.fresh ∙ ap (take (most n f is.fresh)) is.all
 
-    -- so many batches are on the device
+    -- the first batches are on the device
     pub synced_enough : IsPrefixOf (take n own) (first_whole g.kept)
     synced_enough = subst (IsPrefixOf (take n own)) (sym synced_kept) (take_more n (most n f is.fresh) own (omega arith))
 
@@ -201,7 +201,7 @@ module _ (d : Device) (m : Machine) (c : Checkpointer) (parts : ℕ → List Bat
           told = prefix_refl (before ++ take n own);
         }
 
-    -- what was firm is there, and what was read
+    -- all that was firm is there, and all that was read
     synced_last : IsLast firm before part (d.logs log).now → IsPrefixOf own part → IsLast firm before part (Some (synced n f))
     synced_last last le =
         subst (λ x. IsLast firm before part (Some x)) (sym (synced_is n f is.fresh)) (

@@ -277,7 +277,7 @@ module _ (d : Device) (log sure : ℕ) (parts : ℕ → List Batch) (firm : List
     none = sound.none;
   }
 
-  -- ---- what isn't needed
+  -- ---- removals
 
   pub log_removed_sound : (n : ℕ) → n < sure → Sound (name_log n None d) log sure parts firm
   log_removed_sound n lt = record {

@@ -180,7 +180,7 @@ module _ (d : Device) (m : Machine) (w : Writer) (parts : ℕ → List Batch) (b
   names_spare : (new : ℕ) → (Stands d m.base → Stands d new) → (m.base ≤ log → new ≤ log) → Spares d (sync_names d) log m.base new
   names_spare new stands below = record { same = λ k le. refl; named = λ e. refl; copy = refl; top = omega arith; stands = stands; below = below }
 
-  -- what is removed is below the newest base
+  -- all that is removed is below the newest base
   removes : (e : Device) (least base sure : ℕ) (firm : List Batch) → sure ≡ base → FitsCheckpointer e log base sure parts firm (removing_from least base)
   removes e least base sure firm same = by_test (ltb least base) refl
     where
@@ -202,7 +202,7 @@ module _ (d : Device) (m : Machine) (w : Writer) (parts : ℕ → List Batch) (b
   fixing_keeps n past DoneUntold keeps =
       steps (sync_names d) m.base m.least m.tried m.past keeps.sure (Fixing n past) Idle (names_spare m.base (λ s. s) (λ l. l)) keeps (named_sound d log keeps.sure parts keeps.firm keeps.sound) keeps.under tt
 
-  -- ---- what isn't needed
+  -- ---- removals
 
   log_removed : (k : ℕ) (v : Checkpointer) (keeps : Keeps (inside (RemovingLog k))) → FitsCheckpointer (name_log k None d) log m.base keeps.sure parts keeps.firm v → Keeps (world (name_log k None d) m w v parts batch acked)
   log_removed k v keeps fits =

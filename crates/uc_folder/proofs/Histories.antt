@@ -78,12 +78,12 @@ start_keeps = record {
 pub always_keeps : (es : List Event) → Keeps (run es start)
 always_keeps es = run_keeps es start start_keeps
 
--- ---- what is acknowledged stays
+-- ---- acknowledged batches stay
 
 all_counted : (firm before part acked : List Batch) (count : ℕ) → count ≡ length part → IsPrefixOf firm (before ++ part) → IsPrefixOf acked firm → IsPrefixOf acked (before ++ take count part)
 all_counted firm before part acked count counted all has = subst (λ l. IsPrefixOf acked (before ++ l)) (sym (take_counted count part counted)) (prefix_trans acked firm (before ++ part) has all)
 
--- what wasn't told as done acknowledges nothing
+-- an operation that wasn't told as done acknowledges nothing
 none_written : (w : Writer) (all acked : List Batch) → IsPrefixOf acked (acked_after w false all acked)
 none_written Settling all acked = prefix_refl acked
 none_written w all acked = prefix_refl acked
@@ -173,7 +173,7 @@ run_marked (e ∷ es) w keeps are = run_marked es (happens w e) (happens_keeps w
 pub always_marked : (es : List Event) → AreMarked (run es start).device
 always_marked es = run_marked es start start_keeps (record { logs = λ k. (tt, tt); copy = refl })
 
--- ---- what an opening finds
+-- ---- openings
 
 module _ (d : Device) (log sure : ℕ) (parts : ℕ → List Batch) (firm : List Batch) (sound : Sound d log sure parts firm) where
   pub finds_reads : (m : Machine) (batch : Batch) (acked : List Batch) (least top : ℕ) → submitted (opens least top (record { device = d; machine = m; parts = parts; batch = batch; acked = acked })) ≡ recovered d

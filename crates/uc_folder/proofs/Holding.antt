@@ -1,4 +1,4 @@
--- What holds of the machine and its folder between any two events.
+-- The machine and its folder between any two events.
 use Rattle.std.proofs.Common.{◌≡◌, ℕ, ◌+◌, ◌≤◌, ◌<◌, true, false, ◌⊎◌, List, [], ◌∷◌, ◌++◌, length, take}
 use Rattle.std.specs.Prelude.{⊤, Option, Some, None}
 use Rattle.uc_folder.specs.declared.machine.Machine.{Machine}

@@ -30,7 +30,7 @@ pub prefix_of_nil : (xs : List Batch) → IsPrefixOf xs [] → xs ≡ []
 prefix_of_nil [] p = refl
 prefix_of_nil (x ∷ xs) p = let e = p.1 in cc
 
--- ---- what logs have together
+-- ---- logs together
 
 pub upto_same : (p q : ℕ → List Batch) (n : ℕ) → ((k : ℕ) → k < n → p k ≡ q k) → upto p n ≡ upto q n
 upto_same p q zero same = refl
@@ -94,7 +94,7 @@ highest_above t (suc n) k le e = by_test (λ le'. highest_above t n k le' e) (t 
         (λ (ne : k ≡ suc n → ⊥). below (omega (arith, ne, le)))
         (cases_eq k (suc n))
 
--- ---- what holds of each element
+-- ---- facts of each element
 
 pub all_at : {A : Type 0} (P : A → Type 0) (xs : List A) (i : ℕ) (d : A) → P d → AllByRecursion P xs → P (get_or xs i d)
 all_at P [] i d here all = here

@@ -166,7 +166,7 @@ copied_marked (Some f) is =
 sealed_marked : (f : File) → IsCopyMarked f → IsCopyMarked (sealed f)
 sealed_marked f is = subst (λ rs. tell_more (length (first_whole rs)) rs ≡ false) (sym (append-nil (f.kept ++ f.waiting))) is
 
--- what an operation asks
+-- the condition of an operation
 abbrev pub IsFine : Device → Action → Type 0
 IsFine d (Append k mark) = (f : File) → (d.logs k).now ≡ Some f → mark ≤ length (first_whole f.kept)
 IsFine d (NameCopy k) = d.copy.waiting ≡ []

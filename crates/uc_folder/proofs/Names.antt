@@ -1,4 +1,4 @@
--- What an opening finds by the names that a folder lists.
+-- Openings by the names that a folder lists find the files that are read.
 use Rattle.std.proofs.Common.{◌≡◌, ℕ, ◌<◌, ◌≤◌, Bool, true, false, cond, eqb, eq-eqb, ◌&&◌, ◌||◌, ⊎_elim, List, [], ◌∷◌, refl, sym, ap, ◌∙◌, subst, arith}
 use Rattle.std.specs.Prelude.{Option, Some, None, Result, Ok, Err, fold, max}
 use Rattle.std.specs.List.{list_any}
@@ -87,7 +87,7 @@ log_most a m (l ∷ ls) le all = by_test l.is_used refl (λ b. log_most b m ls) 
         rest (max a l.number) (omega (arith, le, here)) others
     by_test false e rest others = rest a le others
 
--- ---- what is found
+-- ---- openings
 
 intact_there : (o : Option File) → is_intact o ≡ true → is_there o ≡ true
 intact_there None e = absurd (cc)

@@ -1,4 +1,4 @@
--- What an opening finds in a folder, and that it may go on there.
+-- An opening finds a folder in which it may go on.
 use Rattle.std.proofs.Common.{◌≡◌, ℕ, zero, suc, ◌<◌, ◌≤◌, Bool, true, false, cond, not, eqb, eq-eqb, ltb, ◌⊎◌, inl, inr, ⊎_elim, List, [], ◌∷◌, ◌++◌, append_assoc, length, drop, refl, sym, ap, ◌∙◌, subst, arith}
 use Rattle.std.specs.Prelude.{Option, Some, None, max}
 use Rattle.std.specs.List.{AllByRecursion}
@@ -38,7 +38,7 @@ base_below : (firm : List Batch) (parts : ℕ → List Batch) (log k : ℕ) (o :
 base_below firm parts log k None is e = absurd (cc)
 base_below firm parts log k (Some f) is e = is.0
 
--- what a base has
+-- the batches of a base
 pub record Fronted (before part : List Batch) (o : Option File) : Type 0 where
   pub front : List Batch
   pub all : content o ≡ before ++ front
@@ -83,7 +83,7 @@ pub settled_content : (o : Option File) → IsPrefixOf (settled o) (content o)
 settled_content None = ([], refl)
 settled_content (Some f) = first_prefix f.kept f.waiting
 
--- what stood for a log of which nothing is read
+-- a file that stood for a log of which nothing is read
 spare_unused : (firm before own : List Batch) → own ≡ [] → (o : Option File) → IsLast firm before own o → IsUnused o
 spare_unused firm before own e None is = tt
 spare_unused firm before own e (Some f) is = prefix_of_nil (first_whole (f.kept ++ f.waiting)) (subst (IsPrefixOf (first_whole (f.kept ++ f.waiting))) e is.0)
@@ -244,7 +244,7 @@ module _ (d : Device) (log sure : ℕ) (parts : ℕ → List Batch) (firm : List
   same_or_below P same below =
       ⊎_elim (λ (lt : j < log). below lt) (λ (le : log ≤ j). let e : log ≡ j = let a = j_below in omega (arith, a, le) in subst P e same) (cases_lt j log)
 
-  -- what a base has of its log is there
+  -- the batches that a base has of its log are there
   front_read : (k : ℕ) → k ≤ log → (front : List Batch) → IsPrefixOf front (parts k) → IsPrefixOf (upto parts k ++ front) firm → IsPrefixOf front (read k)
   front_read k le front begins firmly =
       ⊎_elim
@@ -347,7 +347,7 @@ module _ (d : Device) (log sure : ℕ) (parts : ℕ → List Batch) (firm : List
     checkpointer = tt;
   }
 
-  -- ---- what is read
+  -- ---- reading
 
   after_none : (i : ℕ) → i ≤ n → upto (after_base d) i ≡ []
   after_none i le = upto_empty (after_base d) 0 i (omega arith) (λ k l lt. ap (λ b. cond b [] (cond (eqb k n) (drop (past_of (d.bases k).now) (content (d.logs k).now)) (content (d.logs k).now))) (lt-ltb k n (omega (arith, lt, le))))
@@ -396,7 +396,7 @@ module _ (d : Device) (log sure : ℕ) (parts : ℕ → List Batch) (firm : List
       subst (λ l. IsPrefixOf l (upto parts log ++ parts log)) (sym (upto_read (suc j) (omega (arith, lt))))
       (prefix_onto (upto parts (suc j)) (upto parts log) (parts log) (upto_more parts (suc j) log (omega (arith, lt)))))
 
-  -- what the present log has is read, and all before it
+  -- the present log is read, and all before it
   pub opened_answered : (xs : List Batch) → IsPrefixOf xs (content (d.logs log).now) → IsPrefixOf (upto parts log ++ xs) (upto read j ++ read j)
   opened_answered xs has =
       same_or_below (λ i. IsPrefixOf (upto parts log ++ xs) (upto read i ++ read i))

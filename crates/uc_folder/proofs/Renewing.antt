@@ -39,7 +39,7 @@ module _ (d : Device) (m : Machine) (c : Checkpointer) (parts : ℕ → List Bat
   abbrev inside' : Writer → World
   inside' w = inside d m c parts batch acked w
 
-  -- what is known of another folder, of which the log's entry is the same
+  -- the same for another folder
   abbrev FitsAt : Device → List Batch → Writer → Type 0
   FitsAt e firm w = FitsWriter e log m.count m.synced m.base firm (upto parts log) part batch w
 

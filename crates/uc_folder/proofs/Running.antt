@@ -51,7 +51,7 @@ module _ (d : Device) (m : Machine) (parts : ℕ → List Batch) (batch : Batch)
   writes_keep c w PartDone keeps = keeps
   writes_keep c w DoneUntold keeps = keeps
 
-  -- ---- what is asked
+  -- ---- requests
 
   -- a batch is submitted
   takes : (b : Batch) (w v : Writer) (c : Checkpointer) (keeps : Keeps (inside w c)) → FitsWriter d log m.count m.synced m.base keeps.firm (upto (at log (parts log ++ b ∷ []) parts) log) (at log (parts log ++ b ∷ []) parts log) b v →
@@ -67,7 +67,7 @@ module _ (d : Device) (m : Machine) (parts : ℕ → List Batch) (batch : Batch)
       keeps.sound.spare)
       keeps.acked_is fits
 
-  -- what is known of the log is known where a batch was submitted
+  -- the same is known of the log where a batch was submitted
   open_before : (b : Batch) (firm : List Batch) → IsOpen m.count m.synced firm (upto parts log) (parts log) (d.logs log) → IsOpen m.count m.synced firm (upto (at log (parts log ++ b ∷ []) parts) log) (parts log) (d.logs log)
   open_before b firm is =
       subst (λ l. IsOpen m.count m.synced firm l (parts log) (d.logs log)) (sym (upto_same (at log (parts log ++ b ∷ []) parts) parts log (λ k lt. at_other log (parts log ++ b ∷ []) parts k (omega (arith, lt))))) is

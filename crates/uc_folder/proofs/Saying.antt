@@ -1,4 +1,4 @@
--- What the machine says may be acknowledged is acknowledged, and a sync covers what was appended before it.
+-- All is acknowledged that the machine counts as synced, and a sync covers all that was appended before it.
 use Rattle.std.proofs.Common.{◌≡◌, ℕ, zero, suc, ◌+◌, ◌≤◌, true, List, [], ◌∷◌, ◌++◌, length, take, refl, sym, ap, ◌∙◌, subst, arith}
 use Rattle.std.proofs.lemmas.Bool.{and_parts}
 use Rattle.std.proofs.lemmas.List.{append-nil, take-append-le}
@@ -18,7 +18,7 @@ use Rattle.uc_folder.proofs.Writing.{world, take_counted}
 use Rattle.uc_folder.proofs.Adding.{marked_count}
 use Rattle.uc_folder.proofs.Histories.{crashed_sound, happens_keeps, start_keeps}
 
--- what the machine counts as synced is among what was acknowledged
+-- all that the machine counts as synced was acknowledged
 abbrev pub Says : World → Type 0
 Says w = IsPrefixOf (first_of w.parts w.machine.log w.machine.synced) w.acked
 

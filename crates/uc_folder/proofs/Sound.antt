@@ -1,4 +1,4 @@
--- What holds of the folder between any two operations, whatever the machine does: a crash leaves what can be opened.
+-- The folder between any two operations, whatever the machine does: a crash leaves one that can be opened.
 use Rattle.std.proofs.Common.{length, ◌≡◌, ℕ, ◌<◌, ◌≤◌, true, ◌⊎◌, inl, inr, ⊎_elim, List, [], ◌∷◌, ◌++◌, get_or, take, refl, sym, ap, ◌∙◌, subst}
 use Rattle.std.specs.Prelude.{⊤, Option, Some, None}
 use Rattle.std.specs.List.{AllByRecursion}
@@ -8,7 +8,7 @@ use Rattle.uc_folder.specs.Worlds.{IsPrefixOf}
 use Rattle.uc_folder.proofs.Lists.{prefix_trans, prefix_under, prefix_of_nil, all_at, all_weaker}
 use Rattle.uc_folder.proofs.Records.{first_prefix, left_prefix, take_none}
 
--- ---- what a name may stand for
+-- ---- the files of a name
 
 -- a file has just these batches, all on the device
 pub record IsWhole (xs : List Batch) (f : File) : Type 0 where
@@ -52,7 +52,7 @@ abbrev pub IsLast : List Batch → List Batch → List Batch → Option File →
 IsLast firm before part None = IsPrefixOf firm before
 IsLast firm before part (Some f) = IsPrefixOf (first_whole (f.kept ++ f.waiting)) part × IsPrefixOf firm (before ++ first_whole f.kept)
 
--- what is read of a file after each crash
+-- the batches that are read of a file after each crash
 abbrev pub settled : Option File → List Batch
 settled None = []
 settled (Some f) = first_whole f.kept
@@ -80,7 +80,7 @@ pub record Sound (d : Device) (log sure : ℕ) (parts : ℕ → List Batch) (fir
 
 -- ---- a crash
 
--- what holds of each file that a name may stand for, and stays if a crash takes from it, holds of what a crash leaves
+-- a fact of each file that a name may stand for, which stays if a crash takes from it, holds of the file that a crash leaves
 pub each_crashed : (P : Option File → Type 0) → ((keep : Keep) (o : Option File) → P o → P (crashed_name keep o)) → (keep : Keep) (e : Entry) → Each P e → Each P (crashed_entry keep e)
 each_crashed P stays keep e each = (stays keep (get_or (e.now ∷ e.before) keep.which e.now) (all_at P (e.now ∷ e.before) keep.which e.now each.0 (each.0, each.1)), tt)
 
@@ -129,7 +129,7 @@ pub settled_part : (firm before part : List Batch) (o : Option File) → IsLast 
 settled_part firm before part None is = (part, refl)
 settled_part firm before part (Some f) is = prefix_trans (first_whole f.kept) (first_whole (f.kept ++ f.waiting)) part (first_prefix f.kept f.waiting) is.0
 
--- what a log may have been before may also be what it is
+-- a file that a log may have been before may also be the log
 pub last_each : (firm before part : List Batch) (e : Entry) → IsLast firm before part e.now → AllByRecursion (IsLast firm before (settled e.now)) e.before → Each (IsLast firm before part) e
 last_each firm before part e now spare =
     (now, all_weaker (IsLast firm before (settled e.now)) (IsLast firm before part) (last_weaker firm before (settled e.now) part (settled_part firm before part e.now now)) e.before spare)

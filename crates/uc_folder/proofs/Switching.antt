@@ -54,7 +54,7 @@ module _ (d : Device) (m : Machine) (c : Checkpointer) (parts : ℕ → List Bat
       (last_of (file' (synced n)) m c parts batch acked Failed is'.file is'.now done)
       (subst (IsPrefixOf (take m.count part)) (sym (ap content (here (file' (synced n)) m c parts batch acked suspected is'.file is'.now) ∙ is'.all)) le)
 
-  -- what was answered, where a batch is under way
+  -- the batches that were answered, where another one is under way
   front_counted : (firm : List Batch) (is : IsAppended m.count m.synced firm before part batch (d.logs log)) (n : ℕ) → n ≤ m.count → take n part ≡ take n is.0
   front_counted firm is n le = let counted = is.2.counted in ap (take n) (sym is.1) ∙ take-append-le n is.0 (batch ∷ []) (omega (arith, counted, le))
 

@@ -1,4 +1,4 @@
--- What the writer's steps have in common: another phase, and another folder.
+-- The writer's steps have this in common: another phase, and another folder.
 use Rattle.std.proofs.Common.{◌≡◌, ℕ, zero, suc, ◌<◌, ◌≤◌, Bool, false, cond, List, [], ◌∷◌, ◌++◌, length, take, drop, refl, sym, ap, ◌∙◌, subst, arith}
 use Rattle.std.specs.Prelude.{Option, Some, None, max}
 use Rattle.std.specs.List.{AllByRecursion}
@@ -88,7 +88,7 @@ read_file part (Some f) is = (f, refl, is)
 pub open_content : (count synced : ℕ) (firm before part : List Batch) (e : Entry) → IsOpen count synced firm before part e → content e.now ≡ part
 open_content count synced firm before part e is = ap content is.now ∙ is.all
 
--- what was appended is read, in each phase
+-- all that was appended is read, in each phase
 none_answered : (n : ℕ) (part xs : List Batch) → part ≡ [] → IsPrefixOf (take n part) xs
 none_answered n part xs e = subst (λ l. IsPrefixOf l xs) (sym (prefix_of_nil (take n part) (subst (IsPrefixOf (take n part)) e (prefix_take n part)))) (xs, refl)
 
@@ -155,7 +155,7 @@ module _ (d : Device) (m : Machine) (c : Checkpointer) (parts : ℕ → List Bat
     checkpointer = checkpointer_stays d e m.log over m.base keeps.sure parts q keeps.firm more c le partial bases same part grows keeps.checkpointer;
   }
 
-  -- what is firm stays
+  -- all that is firm stays
   pub stepped : (e : Device) (count synced : ℕ) (w v : Writer) → e.partial ≡ d.partial → ((k : ℕ) → (e.bases k).now ≡ (d.bases k).now) → (keeps : Keeps (inside w)) → Sound e m.log keeps.sure parts keeps.firm →
       FitsWriter e m.log count synced m.base keeps.firm (upto parts m.log) (parts m.log) batch v → Keeps (world e (record m { count = count; synced = synced }) v c parts batch acked)
   stepped e count synced w v partial bases keeps sound fits =

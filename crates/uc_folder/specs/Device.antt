@@ -38,7 +38,7 @@ pub record Device : Type 0 where
 abbrev pub first_number : ℕ
 first_number = 1
 
--- ---- what is read
+-- ---- reading
 
 -- The batches that are read: those before the first record that isn't whole. What stands after it isn't read.
 abbrev pub first_whole : List Record → List Batch
@@ -46,8 +46,8 @@ first_whole [] = []
 first_whole (Whole b mark ∷ rs) = b ∷ first_whole rs
 first_whole (Torn ∷ rs) = []
 
--- What is read by one who passes over what is torn: of the records from a place on those whose sequence is the next one. A record's
--- sequence is its place.
+-- A reader that passes over torn records: from a place on it reads those whose sequence is the next one. A record's sequence is its
+-- place.
 abbrev pub read_by_sequence : ℕ → ℕ → List Record → List Batch
 read_by_sequence next place [] = []
 read_by_sequence next place (Whole b mark ∷ rs) =
@@ -114,24 +114,24 @@ abbrev pub upto : (ℕ → List Batch) → ℕ → List Batch
 upto parts zero = []
 upto parts (suc n) = upto parts n ++ parts n
 
--- how many batches of the log of its number a base has
+-- the number of batches that a base has of the log of its number
 abbrev pub past_of : Option File → ℕ
 past_of None = 0
 past_of (Some f) = f.past
 
--- what the log of a number has and the newest base hasn't
+-- the batches of a log that the newest base hasn't
 abbrev pub after_base : Device → ℕ → List Batch
 after_base d k =
     if nat_lt k (newest_base d) then []
     else (if k == newest_base d then drop (past_of (d.bases k).now) (content (d.logs k).now) else content (d.logs k).now)
 
--- what an opening reads: the newest base, and the logs from its number on
+-- the batches that an opening reads: those of the newest base, and of the logs from its number on
 abbrev pub recovered : Device → List Batch
 recovered d = content (d.bases (newest_base d)).now ++ upto (after_base d) (suc (last_log d))
 
 -- ---- a crash
 
--- What a crash keeps of a name: which of the files that it stood for; how many of the records that wait in that one, and which of
+-- The choice of a crash for a name: which of the files is left that it stood for; how many of the records that wait in it, and which of
 -- those whole.
 pub record Keep : Type 0 where
   pub which : ℕ
@@ -185,7 +185,7 @@ synced n f =
       waiting = drop (max n (length f.kept)) (f.kept ++ f.waiting);
     }
 
--- What stands after a number of records is cut off, and the others are synced. A cut that fails is done or isn't, in memory as on the
+-- The records after a number of them are cut off, and the others are synced. A cut that fails is done or isn't, in memory as on the
 -- device.
 abbrev pub cut : ℕ → File → File
 cut n f =

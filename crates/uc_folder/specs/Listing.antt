@@ -1,4 +1,4 @@
--- What an opening does with the names that a folder lists.
+-- The names that a folder lists, and the files that an opening reads by them.
 use Rattle.std.specs.Prelude.{ℕ, ◌≡◌, ◌≤◌, ◌<◌, Bool, true, false, List, Option, Some, None, Result, Ok, Err, fold, ◌==◌, ◌&&◌, max, min, if◌then◌else◌}
 use Rattle.std.specs.List.{list_any}
 use Rattle.uc_folder.specs.declared.listing.Base.{Base}
@@ -40,8 +40,8 @@ found_of bases logs = record {
   top = top_in (log_in (base_in bases) logs) logs;
 }
 
--- What an opening finds, where each log from the base's number on is listed up to the one that goes on; or which one isn't. Only the
--- first log may be missing, where no batch is.
+-- The result of an opening by names: each log from the base's number on is listed, up to the one that goes on; or one isn't. Only the first
+-- log may be missing, where no batch is.
 abbrev pub IsFoundIn : List Base → List Listed → Result Found Missing → Type 0
 IsFoundIn bases logs (Ok f) =
     (f ≡ found_of bases logs) × ((k : ℕ) → f.base ≤ k → k < f.log → is_listed k logs ≡ true) × (first_number < f.log → f.is_there ≡ true)

@@ -35,8 +35,8 @@ next_write Failed log count synced = Nothing
 abbrev pub clearing_after : ℕ → ℕ → Writer
 clearing_after k top = if nat_lt k top then Clearing (k + 1) top else SettingAside
 
--- What the writer does after an operation that was done, or wasn't. After two refusals it goes on: that a batch can't be appended, if
--- what is left of it can be cut off, and that the next log can't be made.
+-- The writer's phase after an operation that was done, or wasn't. After two refusals it goes on: that a batch can't be appended, if the
+-- rest of it can be cut off, and that the next log can't be made.
 abbrev pub writer_after : Writer → Bool → ℕ → Writer
 writer_after Making true log = Founding
 writer_after Founding true log = Ready
@@ -64,21 +64,21 @@ abbrev pub log_after : Writer → Bool → ℕ → ℕ
 log_after Entering true log = log + 1
 log_after _ _ log = log
 
--- how many batches were appended to it
+-- the number of batches that were appended to it
 abbrev pub count_after : Writer → Bool → ℕ → ℕ
 count_after Appending true count = count + 1
 count_after (Both n) true count = count + 1
 count_after Entering true count = 0
 count_after _ _ count = count
 
--- how many of them are on the device for certain
+-- the number of them that are on the device for certain
 abbrev pub synced_after : Writer → Bool → ℕ → ℕ → ℕ
 synced_after Settling true count synced = count
 synced_after Closing true count synced = count
 synced_after Entering true count synced = 0
 synced_after _ _ count synced = synced
 
--- what is removed that a base has: the logs and the bases before it, from a number on
+-- the removal of logs and bases before a base, from a number on
 abbrev pub removing_from : ℕ → ℕ → Checkpointer
 removing_from k base = if nat_lt k base then RemovingLog k else Idle
 
@@ -172,7 +172,7 @@ told_checkpoint m is_done = record m {
   checkpointer = checkpointer_after m.checkpointer is_done m.least m.base;
 }
 
--- ---- what it is asked for
+-- ---- requests
 
 -- a batch is to be appended
 abbrev pub submitting : Writer → Writer
@@ -180,7 +180,7 @@ submitting Ready = Appending
 submitting (Syncing n) = Both n
 submitting w = w
 
--- what was appended is to be synced
+-- all that was appended is to be synced
 abbrev pub syncing : Writer → ℕ → Writer
 syncing Ready count = Syncing count
 syncing Appending count = Both count
@@ -218,7 +218,7 @@ checkpointing c may n new = c
 
 -- ---- an opening
 
--- what an opening found, and how many batches the log has that goes on
+-- the machine of the files that an opening found, and of a number of batches in the log that goes on
 abbrev pub opened : Found → ℕ → Machine
 opened f count = record {
   log = f.log;

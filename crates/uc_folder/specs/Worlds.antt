@@ -21,7 +21,7 @@ pub record World : Type 0 where
 abbrev pub submitted : World → List Batch
 submitted w = upto w.parts w.machine.log ++ w.parts w.machine.log
 
--- what older logs have, and the first batches of the present one
+-- the batches of older logs, and the first ones of the present log
 abbrev pub first_of : (ℕ → List Batch) → ℕ → ℕ → List Batch
 first_of parts log n = upto parts log ++ take n (parts log)
 
@@ -31,7 +31,7 @@ answered w = first_of w.parts w.machine.log w.machine.count
 
 -- ---- an operation
 
--- How an operation went. One that failed may have done nothing, a part, or all.
+-- The outcome of an operation. One that failed may have done nothing, a part, or all.
 pub data Outcome : Type 0 where
   Done : Outcome
   NotDone : Outcome
@@ -60,8 +60,8 @@ carried_out batch parts d (NameBase n past) = name_base n (Some d.partial) d
 carried_out batch parts d (RemoveLog k) = name_log k None d
 carried_out batch parts d (RemoveBase k) = name_base k None d
 
--- What a part of an operation does, or one that failed. A record may be torn. A sync of a log leaves it suspect. Of any other sync that
--- was done which a crash may keep anyway, and a file with a temporary name isn't read.
+-- An operation that was done in part, or failed. A record may be torn. A sync of a log leaves it suspect. A crash
+-- may keep a part of any other sync anyway, and a file with a temporary name isn't read.
 abbrev pub begun : Device → Action → Device
 begun d (Append k mark) = change_log k (appended Torn) d
 begun d (SyncLog k n) = change_log k suspected d
@@ -81,6 +81,9 @@ device_after DoneUntold batch parts d a = failed (carried_out batch parts d a) a
 
 -- ---- events
 
+-- Each operation takes effect at one moment. The writer and the checkpointer work side by side, so a sync of names that is done covers the
+-- names that were there when it began, and it stands in the list there; one that fails stands where it ends.
+
 pub data Event : Type 0 where
   -- a batch is submitted
   Submit : Batch → Event
@@ -88,7 +91,7 @@ pub data Event : Type 0 where
   AskSync : Event
   -- the next log is to go on
   AskSwitch : Event
-  -- a base is to be made of the logs before a number, and of so many batches of the log of that number
+  -- a base is to be made of the logs before a number, and of some batches of the log of that number
   AskCheckpoint : ℕ → ℕ → Event
   -- the writer's next operation is carried out
   Writes : Outcome → Event
@@ -120,7 +123,7 @@ parts_after Mending true log count parts = at log (take count (parts log)) parts
 parts_after Entering true log count parts = at (log + 1) [] parts
 parts_after w done log count parts = parts
 
--- what is acknowledged as synced after an operation of the writer: all that is in a log which it has put on the device
+-- the batches acknowledged as synced after an operation of the writer: all, once it has put the log on the device
 abbrev pub acked_after : Writer → Bool → List Batch → List Batch → List Batch
 acked_after Settling true all acked = all
 acked_after Closing true all acked = all
@@ -132,7 +135,7 @@ acked_then (Syncing n) true parts log acked = first_of parts log n
 acked_then (Both n) true parts log acked = first_of parts log n
 acked_then w done parts log acked = acked
 
--- what an opening finds by the names that are listed
+-- the result of an opening by the names that are listed
 abbrev pub found : Device → ℕ → ℕ → Found
 found d least top = record {
   base = newest_base d;
@@ -202,7 +205,7 @@ abbrev pub run : List Event → World → World
 run [] w = w
 run (e ∷ es) w = run es (happens w e)
 
--- ---- what is said of it
+-- ---- laws
 
 abbrev pub IsPrefixOf : List Batch → List Batch → Type 0
 IsPrefixOf xs ys = (rest : List Batch) × (xs ++ rest ≡ ys)

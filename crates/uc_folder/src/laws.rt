@@ -1,4 +1,4 @@
-//! What holds of a folder for every list of events, from a folder without a file on: whatever is asked for, however each operation goes,
+//! Laws of a folder for every list of events, from a folder without a file on: whatever is asked for, however each operation goes,
 //! and however often the machine crashed and the process ended before.
 //!
 //! Proof steps: none does anything when it runs. Their contracts speak of definitions alone.
@@ -83,10 +83,12 @@ pub fn an_opening_finds_its_files()
         (result : Result Found Missing) → IsFoundIn base_list log_list result →
         (f : Found) × (result ≡ Ok f) × (f ≡ found (crashed logs bases (run events start).device) f.least f.top) }
     ensures ended { (events : List Event) (base_list : List Base) (log_list : List Listed) →
-        IsListing (run events start).device base_list log_list → (result : Result Found Missing) → IsFoundIn base_list log_list result →
+        IsListing (run events start).device base_list log_list →
+        (result : Result Found Missing) → IsFoundIn base_list log_list result →
         (f : Found) × (result ≡ Ok f) × (f ≡ found (run events start).device f.least f.top) }
     ensures reread { (events : List Event) (keep : Keep) (base_list : List Base) (log_list : List Listed) →
-        IsListing (reread keep (run events start)) base_list log_list → (result : Result Found Missing) → IsFoundIn base_list log_list result →
+        IsListing (reread keep (run events start)) base_list log_list →
+        (result : Result Found Missing) → IsFoundIn base_list log_list result →
         (f : Found) × (result ≡ Ok f) × (f ≡ found (reread keep (run events start)) f.least f.top) }
 {}
 
@@ -118,7 +120,8 @@ pub fn every_ms_loses_only_what_came_after_a_sync()
 /// there, and of that log the first batches. A switch of the log syncs it.
 pub fn never_loses_only_the_end_of_a_log()
     ensures older { (events : List Event) (logs bases : ℕ → Keep) →
-        IsPrefixOf (upto (run events start).parts (run events start).machine.log) (recovered (crashed logs bases (run events start).device)) }
+        IsPrefixOf (upto (run events start).parts (run events start).machine.log)
+        (recovered (crashed logs bases (run events start).device)) }
     ensures prefix { (events : List Event) (logs bases : ℕ → Keep) →
         IsPrefixOf (recovered (crashed logs bases (run events start).device)) (submitted (run events start)) }
     ensures readable { (events : List Event) (logs bases : ℕ → Keep) → IsReadable (crashed logs bases (run events start).device) }

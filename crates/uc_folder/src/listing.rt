@@ -11,7 +11,7 @@ const FIRST: u64 = 1;
 pub struct Base {
     /// Its number.
     pub number: u64,
-    /// How many batches of the log of that number it has.
+    /// The number of batches that it has of the log of that number.
     pub past: u64,
 }
 
@@ -29,7 +29,7 @@ pub struct Listed {
 pub struct Found {
     /// The number of the newest base; that of the first log if there is none.
     pub base: u64,
-    /// How many batches of the log of that number it has.
+    /// The number of batches that it has of the log of that number.
     pub past: u64,
     /// The least number of a log or a base. All below the base's are removed.
     pub least: u64,
@@ -89,7 +89,7 @@ fn base_in(bases: &[Base]) -> u64
     bases.iter().fold(FIRST, |most, base| most.max(base.number))
 }
 
-/// How many batches of the log of its number a base has. Of several the one counts that has most.
+/// The number of batches that a base has of the log of its number. Of several bases the one counts that has most.
 fn past_in(number: u64, bases: &[Base]) -> u64
     ensures { result ≡ listing.past_in number bases.now }
 {

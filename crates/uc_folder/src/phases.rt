@@ -11,7 +11,7 @@ pub enum Writer {
     Naming(u64),
     /// The log of a number is removed, which has no batch. Those after it follow, up to another number.
     Clearing(u64, u64),
-    /// What the log has after its batches is set aside.
+    /// The bytes that the log has after its batches are set aside.
     SettingAside,
     /// Its batches are written to a new file.
     Copying,
@@ -25,7 +25,7 @@ pub enum Writer {
     Ready,
     /// A batch is appended.
     Appending,
-    /// What a failed append left is cut off: the batch isn't there then.
+    /// The rest that a failed append left is cut off: the batch isn't there then.
     Mending,
     /// The log is synced, up to a number of records.
     Syncing(u64),

@@ -62,7 +62,7 @@ fn shrink(machine: &mut Machine) -> [Action; 7] {
     ]
 }
 
-/// What an opening finds of a folder with nothing in it.
+/// The result of an opening of a folder with nothing in it.
 fn empty() -> Found {
     Found {
         base: 1,
@@ -107,7 +107,7 @@ fn a_log_grows_and_a_base_lets_it_go(rt: HostRuntime) {
     assert!(rt; machine.is_open());
 }
 
-/// What an opening finds of a base and three logs, the last of which has no batch; or the number that it gives of one that is missing.
+/// The result of an opening of a base and three logs, the last of which has no batch.
 fn listed(numbers: [u64; 3]) -> Result<Found, Missing> {
     let bases = [Base { number: 4, past: 7 }, Base { number: 4, past: 9 }];
     let [first, second, third] = numbers;
