@@ -1,6 +1,6 @@
 -- Openings by the names that a folder lists find the files that are read.
 use Rattle.std.proofs.Common.{◌≡◌, ℕ, ◌<◌, ◌≤◌, Bool, true, false, cond, eqb, eq-eqb, ◌&&◌, ◌||◌, ⊎_elim, List, [], ◌∷◌, refl, sym, ap, ◌∙◌, subst, arith}
-use Rattle.std.specs.Prelude.{Option, Some, None, Result, Ok, Err, fold, max}
+use Rattle.std.specs.Prelude.{Option, Some, None, Result, Ok, Err, fold, max, min}
 use Rattle.std.specs.List.{list_any}
 use Rattle.std.proofs.lemmas.Bool.{cases_lt, eqb-true, and_parts, or_cases}
 use Rattle.uc_folder.specs.declared.listing.Base.{Base}
@@ -24,7 +24,7 @@ log_least base (l ∷ ls) = by_test (log_least (max base l.number) ls) (log_leas
 
 -- ---- the greatest number of a base
 
-abbrev has_number : ℕ → List Base → Bool
+abbrev pub has_number : ℕ → List Base → Bool
 has_number k bases = list_any (λ (b : Base). eqb b.number k) bases
 
 abbrev pub greatest : ℕ → List Base → ℕ
@@ -149,3 +149,53 @@ module _ (d : Device) (log sure : ℕ) (parts : ℕ → List Batch) (firm : List
       let more = is_found.2 in
       let e = sym is_found.3 ∙ listed m.0 (omega (arith, base, from)) (omega (arith, all, to)) (omega (arith, all, more)) in
       absurd (let x : false ≡ true = e in cc)
+
+-- ---- removals
+
+abbrev pub greatest_log : ℕ → List Listed → ℕ
+greatest_log a logs = fold (λ most (l : Listed). max most l.number) a logs
+
+abbrev pub least_base : ℕ → List Base → ℕ
+least_base a bases = fold (λ least (b : Base). min least b.number) a bases
+
+abbrev pub least_log : ℕ → List Listed → ℕ
+least_log a logs = fold (λ least (l : Listed). min least l.number) a logs
+
+top_least : (a : ℕ) (logs : List Listed) → a ≤ greatest_log a logs
+top_least a [] = omega arith
+top_least a (l ∷ ls) = let le = top_least (max a l.number) ls in omega (arith, le)
+
+pub top_above : (a k : ℕ) (logs : List Listed) → is_listed k logs ≡ true → k ≤ greatest_log a logs
+top_above a k [] e = absurd (cc)
+top_above a k (l ∷ ls) e =
+    ⊎_elim
+    (λ (here : eqb l.number k ≡ true). let same = eqb-true l.number k here in let le = top_least (max a l.number) ls in omega (arith, same, le))
+    (λ (there : is_listed k ls ≡ true). top_above (max a l.number) k ls there)
+    (or_cases (eqb l.number k) (is_listed k ls) e)
+
+log_below : (a : ℕ) (logs : List Listed) → least_log a logs ≤ a
+log_below a [] = omega arith
+log_below a (l ∷ ls) = let le = log_below (min a l.number) ls in omega (arith, le)
+
+base_below' : (a : ℕ) (bases : List Base) → least_base a bases ≤ a
+base_below' a [] = omega arith
+base_below' a (b ∷ bs) = let le = base_below' (min a b.number) bs in omega (arith, le)
+
+pub least_of_logs : (a k : ℕ) (logs : List Listed) → is_listed k logs ≡ true → least_log a logs ≤ k
+least_of_logs a k [] e = absurd (cc)
+least_of_logs a k (l ∷ ls) e =
+    ⊎_elim
+    (λ (here : eqb l.number k ≡ true). let same = eqb-true l.number k here in let le = log_below (min a l.number) ls in omega (arith, same, le))
+    (λ (there : is_listed k ls ≡ true). least_of_logs (min a l.number) k ls there)
+    (or_cases (eqb l.number k) (is_listed k ls) e)
+
+least_of_bases' : (a k : ℕ) (bases : List Base) → has_number k bases ≡ true → least_base a bases ≤ k
+least_of_bases' a k [] e = absurd (cc)
+least_of_bases' a k (b ∷ bs) e =
+    ⊎_elim
+    (λ (here : eqb b.number k ≡ true). let same = eqb-true b.number k here in let le = base_below' (min a b.number) bs in omega (arith, same, le))
+    (λ (there : has_number k bs ≡ true). least_of_bases' (min a b.number) k bs there)
+    (or_cases (eqb b.number k) (has_number k bs) e)
+
+pub least_of_bases : (a k : ℕ) (bases : List Base) (logs : List Listed) → has_number k bases ≡ true → least_log (least_base a bases) logs ≤ k
+least_of_bases a k bases logs e = let one = least_of_bases' a k bases e in let two = log_below (least_base a bases) logs in omega (arith, one, two)

@@ -2,12 +2,13 @@
 //! and however often the machine crashed and the process ended before.
 //!
 //! Proof steps: none does anything when it runs. Their contracts speak of definitions alone.
-ghost use Rattle.std.specs.Prelude.{◌≡◌, ℕ, true, List, [], ◌∷◌, ◌++◌, None, Result, Ok};
+ghost use Rattle.std.specs.Prelude.{◌≡◌, ◌==◌, ◌≤◌, ℕ, true, List, [], ◌∷◌, ◌++◌, None, Result, Ok};
 ghost use Rattle.uc_folder.specs.declared.listing.Base.{Base};
 ghost use Rattle.uc_folder.specs.declared.listing.Listed.{Listed};
 ghost use Rattle.uc_folder.specs.declared.listing.Found.{Found};
 ghost use Rattle.uc_folder.specs.declared.listing.Missing.{Missing};
-ghost use Rattle.uc_folder.specs.Listing.{IsListing, IsFoundIn};
+ghost use Rattle.uc_folder.specs.Listing.{IsListing, IsFoundIn, found_of, is_listed};
+ghost use Rattle.std.specs.List.{list_any};
 ghost use Rattle.uc_folder.specs.declared.phases.Writer.TheVariants.{Ready, Appending};
 ghost use Rattle.uc_folder.specs.Device.{Batch, Record, first_whole, read_by_sequence, Keep, crashed, recovered, content, upto};
 ghost use Rattle.uc_folder.specs.Steps.{is_open};
@@ -90,6 +91,16 @@ pub fn an_opening_finds_its_files()
         IsListing (reread keep (run events start)) base_list log_list →
         (result : Result Found Missing) → IsFoundIn base_list log_list result →
         (f : Found) × (result ≡ Ok f) × (f ≡ found (reread keep (run events start)) f.least f.top) }
+{}
+
+/// Of the logs and bases that are listed, an opening removes those from the least number on that the newest base has, and the logs after
+/// the one that goes on, up to the greatest number. No listed file is below or above these.
+pub fn removals_reach_all_listed_files()
+    ensures least_log { (bases : List Base) (logs : List Listed) (k : ℕ) →
+        is_listed k logs ≡ true → (found_of bases logs).least ≤ k }
+    ensures least_base { (bases : List Base) (logs : List Listed) (k : ℕ) →
+        list_any (λ (b : Base). b.number == k) bases ≡ true → (found_of bases logs).least ≤ k }
+    ensures top { (bases : List Base) (logs : List Listed) (k : ℕ) → is_listed k logs ≡ true → k ≤ (found_of bases logs).top }
 {}
 
 /// Under `Always` a write is answered once the machine counts it as synced. A crash at any later moment loses none of these.
