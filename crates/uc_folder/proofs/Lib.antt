@@ -1,0 +1,17 @@
+mod Lists
+mod Records
+mod Sound
+mod Holding
+mod Opening
+mod Changes
+mod Writing
+mod Renewing
+mod Adding
+mod Switching
+mod Mending
+mod Checkpointing
+mod Running
+mod Marks
+mod Names
+mod Histories
+mod Saying

@@ -1,0 +1,188 @@
+-- Syncs of the log, and going on in the next one, keep what holds.
+use Rattle.std.proofs.Common.{◌≡◌, ℕ, ◌+◌, ◌≤◌, List, [], ◌∷◌, ◌++◌, length, take, refl, sym, ap, ◌∙◌, subst, arith}
+use Rattle.std.specs.Prelude.{Some}
+use Rattle.std.proofs.lemmas.List.{take-append-le, take_all, drop_all}
+use Rattle.uc_folder.specs.declared.machine.Machine.{Machine}
+use Rattle.uc_folder.specs.declared.phases.Writer.{Writer}
+use Rattle.uc_folder.specs.declared.phases.Writer.TheVariants.{Ready, Appending, Syncing, Both, Closing, Beginning, Entering, Failed}
+use Rattle.uc_folder.specs.declared.phases.Checkpointer.{Checkpointer}
+use Rattle.uc_folder.specs.Device.{Batch, first_whole, are_whole, File, Entry, Device, content, upto, at, empty_file, synced, suspected, stands_for, change_log, name_log, sync_names}
+use Rattle.uc_folder.specs.Worlds.{World, IsPrefixOf, first_of, Outcome, Done, NotDone, PartDone, DoneUntold, Writes, Syncs, happens}
+use Rattle.uc_folder.proofs.Lists.{prefix_refl, prefix_trans, prefix_take, at_here, at_other}
+use Rattle.uc_folder.proofs.Records.{whole_front, whole_length}
+use Rattle.uc_folder.proofs.Sound.{Sound, IsWhole, IsThere, IsLog, IsLast}
+use Rattle.uc_folder.proofs.Holding.{IsNew, IsOpen, IsAppended, FitsWriter, Keeps}
+use Rattle.uc_folder.proofs.Opening.{sound_firm}
+use Rattle.uc_folder.proofs.Changes.{later_sound, switched_sound, named_sound}
+use Rattle.uc_folder.proofs.Writing.{world, inside, moved, stepped, waits, fails, with_file, filed, last_of, here, answered_in, most, synced_file, synced_all, synced_first}
+use Rattle.uc_folder.proofs.Adding.{marked_count, synced_open, synced_sound, synced_firmly, synced_grows}
+use Rattle.uc_folder.proofs.Renewing.{empty_new}
+
+module _ (d : Device) (m : Machine) (c : Checkpointer) (parts : ℕ → List Batch) (batch : Batch) (acked : List Batch) where
+  abbrev log : ℕ
+  log = m.log
+
+  abbrev part : List Batch
+  part = parts m.log
+
+  abbrev before : List Batch
+  before = upto parts m.log
+
+  abbrev inside' : Writer → World
+  inside' w = inside d m c parts batch acked w
+
+  abbrev file' : (File → File) → Device
+  file' change = with_file d m c parts batch acked change
+
+  -- ---- a sync that failed
+
+  -- nothing is different, but that the file is suspect
+  suspects : (w : Writer) (own : List Batch) (count : ℕ) (keeps : Keeps (inside' w)) → IsOpen count m.synced keeps.firm before own (d.logs log) → IsPrefixOf (take m.count part) own → Keeps (world (file' suspected) m Failed c parts batch acked)
+  suspects w own count keeps is le =
+      filed d m c parts batch acked m.count m.synced w Failed suspected is.file is.now is.named keeps (last_of d m c parts batch acked w is.file is.now keeps)
+      (subst (IsPrefixOf (take m.count part)) (sym (ap content (here d m c parts batch acked suspected is.file is.now) ∙ is.all)) le)
+
+  -- it may be done all the same
+  suspects_after : (w : Writer) (n : ℕ) (own : List Batch) (keeps : Keeps (inside' w)) → IsOpen m.count m.synced keeps.firm before own (d.logs log) → IsPrefixOf own part → IsPrefixOf (take m.count part) own → (n ≤ m.count) → (m.synced ≤ n) →
+      Keeps (world (change_log log suspected (file' (synced n))) m Failed c parts batch acked)
+  suspects_after w n own keeps is begins le to from =
+      let is' = synced_open d m c parts batch acked n own keeps.firm is from to in
+      let done : Keeps (world (file' (synced n)) m Failed c parts batch acked) =
+      stepped d m c parts batch acked (file' (synced n)) m.count m.synced w Failed refl (λ k. refl) keeps (synced_sound d m c parts batch acked n own keeps.firm is keeps.sure keeps.sound begins)
+      (subst (IsPrefixOf (take m.count part)) (sym (ap content is'.now ∙ is'.all)) le) in
+      filed (file' (synced n)) m c parts batch acked m.count m.synced Failed Failed suspected is'.file is'.now is'.named done
+      (last_of (file' (synced n)) m c parts batch acked Failed is'.file is'.now done)
+      (subst (IsPrefixOf (take m.count part)) (sym (ap content (here (file' (synced n)) m c parts batch acked suspected is'.file is'.now) ∙ is'.all)) le)
+
+  -- the batches that were answered, where another one is under way
+  front_counted : (firm : List Batch) (is : IsAppended m.count m.synced firm before part batch (d.logs log)) (n : ℕ) → n ≤ m.count → take n part ≡ take n is.0
+  front_counted firm is n le = let counted = is.2.counted in ap (take n) (sym is.1) ∙ take-append-le n is.0 (batch ∷ []) (omega (arith, counted, le))
+
+  front_answered : (firm : List Batch) (is : IsAppended m.count m.synced firm before part batch (d.logs log)) → IsPrefixOf (take m.count part) is.0
+  front_answered firm is = subst (λ l. IsPrefixOf l is.0) (sym (front_counted firm is m.count (omega arith))) (prefix_take m.count is.0)
+
+  -- ---- a sync beside which batches are appended
+
+  pub syncing_keeps : (n : ℕ) (o : Outcome) → Keeps (inside' (Syncing n)) → Keeps (happens (inside' (Syncing n)) (Syncs o))
+  syncing_keeps n Done keeps =
+      let is = keeps.writer.0 in
+      let from = keeps.writer.1 in
+      let more = first_of parts log n in
+      moved d m c parts batch acked (file' (synced n)) log m.count n parts batch more more (Syncing n) Ready refl (λ k. refl) (omega arith) (λ k lt. refl) (prefix_refl part) keeps
+      (synced_grows d m c parts batch acked n part keeps.firm is from)
+      (synced_firmly d m c parts batch acked n part keeps.firm is keeps.sure keeps.sound (prefix_refl part) from (prefix_take n part))
+      (prefix_refl more) (synced_open d m c parts batch acked n part keeps.firm is from keeps.writer.2)
+  syncing_keeps n NotDone keeps = suspects (Syncing n) part m.count keeps keeps.writer.0 (prefix_take m.count part)
+  syncing_keeps n PartDone keeps = suspects (Syncing n) part m.count keeps keeps.writer.0 (prefix_take m.count part)
+  syncing_keeps n DoneUntold keeps = suspects_after (Syncing n) n part keeps keeps.writer.0 (prefix_refl part) (prefix_take m.count part) keeps.writer.2 keeps.writer.1
+
+  pub both_syncs : (n : ℕ) (o : Outcome) → Keeps (inside' (Both n)) → Keeps (happens (inside' (Both n)) (Syncs o))
+  both_syncs n Done keeps =
+      let is = keeps.writer.0 in
+      let own : List Batch = is.0 in
+      let from = keeps.writer.1 in
+      let more = first_of parts log n in
+      let same : before ++ take n own ≡ more = ap (λ l. before ++ l) (sym (front_counted keeps.firm is n keeps.writer.2)) in
+      let begins : IsPrefixOf own part = (batch ∷ [], is.1) in
+      moved d m c parts batch acked (file' (synced n)) log m.count n parts batch more more (Both n) Appending refl (λ k. refl) (omega arith) (λ k lt. refl) (prefix_refl part) keeps
+      (subst (IsPrefixOf keeps.firm) same (synced_grows d m c parts batch acked n own keeps.firm is.2 from))
+      (subst (λ l. Sound (file' (synced n)) log keeps.sure parts l) same
+      (synced_firmly d m c parts batch acked n own keeps.firm is.2 keeps.sure keeps.sound begins from (prefix_trans (take n own) own part (prefix_take n own) begins)))
+      (prefix_refl more)
+      (own, is.1, subst (λ l. IsOpen m.count n l before own ((file' (synced n)).logs log)) same (synced_open d m c parts batch acked n own keeps.firm is.2 from keeps.writer.2))
+  both_syncs n NotDone keeps = suspects (Both n) keeps.writer.0.0 m.count keeps keeps.writer.0.2 (front_answered keeps.firm keeps.writer.0)
+  both_syncs n PartDone keeps = suspects (Both n) keeps.writer.0.0 m.count keeps keeps.writer.0.2 (front_answered keeps.firm keeps.writer.0)
+  both_syncs n DoneUntold keeps =
+      let is = keeps.writer.0 in suspects_after (Both n) n is.0 keeps is.2 (batch ∷ [], is.1) (front_answered keeps.firm is) keeps.writer.2 keeps.writer.1
+
+  pub syncs_keep : (w : Writer) (o : Outcome) → Keeps (inside' w) → Keeps (happens (inside' w) (Syncs o))
+  syncs_keep (Syncing n) o keeps = syncing_keeps n o keeps
+  syncs_keep (Both n) o keeps = both_syncs n o keeps
+  syncs_keep w Done keeps = keeps
+  syncs_keep w NotDone keeps = keeps
+  syncs_keep w PartDone keeps = keeps
+  syncs_keep w DoneUntold keeps = keeps
+
+  -- ---- the next log
+
+  -- the whole log is on the device
+  closed : (firm : List Batch) (is : IsOpen m.count m.synced firm before part (d.logs log)) → IsWhole part (synced_file m.count is.file is.fresh)
+  closed firm is =
+      let f = is.file in
+      let g = synced_file m.count f is.fresh in
+      let counted = is.counted in
+      let size = whole_length (f.kept ++ f.waiting) is.whole in
+      let all = ap length is.all in
+      record {
+        kept = synced_first m.count f is.fresh ∙ (ap (take (most m.count f is.fresh)) is.all ∙ take_all (most m.count f is.fresh) part (omega (arith, counted)));
+        whole = whole_front g.kept g.waiting (ap are_whole (synced_all m.count f is.fresh) ∙ is.whole);
+        waiting = drop_all (most m.count f is.fresh) (f.kept ++ f.waiting) (omega (arith, counted, size, all));
+      }
+
+  few_synced : (firm : List Batch) → IsOpen m.count m.synced firm before part (d.logs log) → m.synced ≤ m.count
+  few_synced firm is = let le = marked_count m.count m.synced firm before part (d.logs log) is in let counted = is.counted in omega (arith, le, counted)
+
+  pub closing_keeps : (o : Outcome) → Keeps (inside' Closing) → Keeps (happens (inside' Closing) (Writes o))
+  closing_keeps Done keeps =
+      let is = keeps.writer in
+      let from = few_synced keeps.firm is in
+      let more = first_of parts log m.count in
+      moved d m c parts batch acked (file' (synced m.count)) log m.count m.count parts batch more more Closing Beginning refl (λ k. refl) (omega arith) (λ k lt. refl) (prefix_refl part) keeps
+      (synced_grows d m c parts batch acked m.count part keeps.firm is from)
+      (synced_firmly d m c parts batch acked m.count part keeps.firm is keeps.sure keeps.sound (prefix_refl part) from (prefix_take m.count part))
+      (prefix_refl more) (synced_open d m c parts batch acked m.count part keeps.firm is from (omega arith), closed keeps.firm is, refl)
+  closing_keeps NotDone keeps = suspects Closing part m.count keeps keeps.writer (prefix_take m.count part)
+  closing_keeps PartDone keeps = suspects Closing part m.count keeps keeps.writer (prefix_take m.count part)
+  closing_keeps DoneUntold keeps = suspects_after Closing m.count part keeps keeps.writer (prefix_refl part) (prefix_take m.count part) (omega arith) (few_synced keeps.firm keeps.writer)
+
+  beginning : (v : Writer) (keeps : Keeps (inside' Beginning)) → (((is : IsOpen m.count m.synced keeps.firm before part ((name_log (log + 1) (Some empty_file) d).logs log)) × IsWhole part is.file × (m.synced ≡ m.count)) → FitsWriter (name_log (log + 1) (Some empty_file) d) log m.count m.synced m.base keeps.firm before part batch v) →
+      Keeps (world (name_log (log + 1) (Some empty_file) d) m v c parts batch acked)
+  beginning v keeps fits =
+      stepped d m c parts batch acked (name_log (log + 1) (Some empty_file) d) m.count m.synced Beginning v refl (λ k. refl) keeps (later_sound d log keeps.sure parts keeps.firm keeps.sound (log + 1) (Some empty_file) (omega arith) refl)
+      (fits (subst (λ (e : Entry). (is : IsOpen m.count m.synced keeps.firm before part e) × IsWhole part is.file × (m.synced ≡ m.count)) (sym (at_other (log + 1) (stands_for (Some empty_file) (d.logs (log + 1))) d.logs log (omega arith))) keeps.writer))
+
+  pub beginning_keeps : (o : Outcome) → Keeps (inside' Beginning) → Keeps (happens (inside' Beginning) (Writes o))
+  beginning_keeps Done keeps =
+      beginning Entering keeps (λ is. (
+        is.0,
+        is.1,
+        is.2,
+        subst (λ (e : Entry). IsNew e.now) (sym (at_here (log + 1) (stands_for (Some empty_file) (d.logs (log + 1))) d.logs)) (empty_new (d.logs (log + 1))),
+        omega arith,
+      ))
+  beginning_keeps NotDone keeps = waits d m c parts batch acked Beginning Ready keeps keeps.writer.0
+  beginning_keeps PartDone keeps = waits d m c parts batch acked Beginning Ready keeps keeps.writer.0
+  beginning_keeps DoneUntold keeps = beginning Ready keeps (λ is. is.0)
+
+  pub entering_keeps : (o : Outcome) → Keeps (inside' Entering) → Keeps (happens (inside' Entering) (Writes o))
+  entering_keeps Done keeps =
+      let is = keeps.writer.0 in
+      let new = keeps.writer.3 in
+      let next : ℕ = log + 1 in
+      let q = at next [] parts in
+      let more = before ++ part in
+      let none : new.file.kept ++ new.file.waiting ≡ [] = ap (λ l. l ++ new.file.waiting) new.kept ∙ new.waiting in
+      let empty : q next ≡ [] = at_here next [] parts in
+      let grows = sound_firm d log keeps.sure parts keeps.firm keeps.sound in
+      let sound = switched_sound (sync_names d) log keeps.sure parts keeps.firm (named_sound d log keeps.sure parts keeps.firm keeps.sound) next (omega arith) (subst (IsLog part) (sym is.now) keeps.writer.1) refl
+      (subst IsThere (sym new.now) tt, tt) keeps.writer.4 in
+      let last = subst (IsLast more (upto q next) (q next)) new.now sound.last in
+      moved d m c parts batch acked (sync_names d) next 0 0 q batch acked more Entering Ready refl (λ k. refl) (omega arith) (λ k lt. at_other next [] parts k (omega (arith, lt)))
+      (subst (IsPrefixOf part) (sym (at_other next [] parts log (omega arith))) (prefix_refl part)) keeps grows sound
+      (prefix_trans acked keeps.firm more keeps.acked_is grows)
+      (record {
+        file = new.file;
+        now = new.now;
+        named = refl;
+        whole = ap are_whole none;
+        all = ap first_whole none ∙ sym empty;
+        fresh = new.fresh;
+        counted = ap length (sym empty);
+        marked = omega arith;
+        told = subst (λ l. IsPrefixOf more (upto q next ++ l)) (ap first_whole new.kept) last.1;
+      })
+  entering_keeps NotDone keeps = fails d m c parts batch acked Entering keeps
+  entering_keeps PartDone keeps = fails d m c parts batch acked Entering keeps
+  entering_keeps DoneUntold keeps =
+      stepped d m c parts batch acked (sync_names d) m.count m.synced Entering Failed refl (λ k. refl) keeps (named_sound d log keeps.sure parts keeps.firm keeps.sound)
+      (answered_in d log m.count m.synced m.base keeps.firm before part batch Entering keeps.writer)

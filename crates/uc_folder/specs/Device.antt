@@ -1,0 +1,250 @@
+-- The device below a folder: what its files and names are, what the operations on them do, and what a crash keeps.
+use Rattle.std.specs.Prelude.{ℕ, zero, suc, Bool, true, false, not, ◌&&◌, ◌||◌, List, [], ◌∷◌, ◌++◌, length, take, drop, Option, Some, None, slice_index_or, nat_lt, ◌==◌, max, if◌then◌else◌}
+
+-- a batch, as its bytes
+abbrev pub Batch : Type 0
+Batch = List ℕ
+
+-- A record of a log. A whole one has a batch, and a mark: how many records of its log were on the device for certain when it was
+-- written. Of a torn one a part is there, or zeros, or older bytes.
+pub data Record : Type 0 where
+  Whole : Batch → ℕ → Record
+  Torn : Record
+
+-- A file: the records that are on the device, and those that wait for a sync. It is suspect once a sync of it failed: then what
+-- waits can still be read, but no sync puts it on the device. A base has, besides the logs before its number, the first `past`
+-- batches of the log of its number.
+pub record File : Type 0 where
+  pub kept : List Record
+  pub waiting : List Record
+  pub suspect : Bool
+  pub past : ℕ
+
+-- the file of a name, and what the name stood for before, since the names were synced
+pub record Entry : Type 0 where
+  pub now : Option File
+  pub before : List (Option File)
+
+-- A folder: the logs and bases by their numbers, two files with temporary names, the copy of a log and a base that is written, and
+-- a number that none of a log or base exceeds.
+pub record Device : Type 0 where
+  pub logs : ℕ → Entry
+  pub bases : ℕ → Entry
+  pub copy : File
+  pub partial : File
+  pub names : ℕ
+
+-- the first number of a log
+abbrev pub first_number : ℕ
+first_number = 1
+
+-- ---- reading
+
+-- The batches that are read: those before the first record that isn't whole. What stands after it isn't read.
+abbrev pub first_whole : List Record → List Batch
+first_whole [] = []
+first_whole (Whole b mark ∷ rs) = b ∷ first_whole rs
+first_whole (Torn ∷ rs) = []
+
+-- A reader that passes over torn records: from a place on it reads those whose sequence is the next one. A record's sequence is its
+-- place.
+abbrev pub read_by_sequence : ℕ → ℕ → List Record → List Batch
+read_by_sequence next place [] = []
+read_by_sequence next place (Whole b mark ∷ rs) =
+    if place == next then b ∷ read_by_sequence (suc next) (suc place) rs else read_by_sequence next (suc place) rs
+read_by_sequence next place (Torn ∷ rs) = read_by_sequence next (suc place) rs
+
+-- the records of these batches
+abbrev pub whole_part : List Record → List Record
+whole_part [] = []
+whole_part (Whole b mark ∷ rs) = Whole b mark ∷ whole_part rs
+whole_part (Torn ∷ rs) = []
+
+-- whether no record is torn
+abbrev pub are_whole : List Record → Bool
+are_whole [] = true
+are_whole (Whole b mark ∷ rs) = are_whole rs
+are_whole (Torn ∷ rs) = false
+
+-- whether a record says that more than a number of records were on the device
+abbrev pub tell_more : ℕ → List Record → Bool
+tell_more n [] = false
+tell_more n (Whole b mark ∷ rs) = nat_lt n mark || tell_more n rs
+tell_more n (Torn ∷ rs) = tell_more n rs
+
+-- Damage, which no crash leaves: the first record that isn't whole was on the device, as another record says.
+abbrev pub are_damaged : List Record → Bool
+are_damaged rs = not (are_whole rs) && tell_more (length (first_whole rs)) rs
+
+abbrev pub records_of : Option File → List Record
+records_of None = []
+records_of (Some f) = f.kept ++ f.waiting
+
+abbrev pub content : Option File → List Batch
+content o = first_whole (records_of o)
+
+-- whether a name stands for a file
+abbrev pub is_there : Option File → Bool
+is_there None = false
+is_there (Some f) = true
+
+abbrev pub is_empty : List Batch → Bool
+is_empty [] = true
+is_empty (b ∷ bs) = false
+
+-- whether a log has a batch
+abbrev pub is_used : Option File → Bool
+is_used o = not (is_empty (content o))
+
+-- the highest number up to one that passes, or 0
+abbrev pub highest : (ℕ → Bool) → ℕ → ℕ
+highest passes zero = zero
+highest passes (suc n) = if passes (suc n) then suc n else highest passes n
+
+-- the number of the newest base, or that of the first log if there is none
+abbrev pub newest_base : Device → ℕ
+newest_base d = max first_number (highest (λ n. is_there (d.bases n).now) d.names)
+
+-- the log that goes on: the last one that has a batch, and none before the base's
+abbrev pub last_log : Device → ℕ
+last_log d = max (newest_base d) (highest (λ n. is_used (d.logs n).now) d.names)
+
+-- the batches of the numbers below one
+abbrev pub upto : (ℕ → List Batch) → ℕ → List Batch
+upto parts zero = []
+upto parts (suc n) = upto parts n ++ parts n
+
+-- the number of batches that a base has of the log of its number
+abbrev pub past_of : Option File → ℕ
+past_of None = 0
+past_of (Some f) = f.past
+
+-- the batches of a log that the newest base hasn't
+abbrev pub after_base : Device → ℕ → List Batch
+after_base d k =
+    if nat_lt k (newest_base d) then []
+    else (if k == newest_base d then drop (past_of (d.bases k).now) (content (d.logs k).now) else content (d.logs k).now)
+
+-- the batches that an opening reads: those of the newest base, and of the logs from its number on
+abbrev pub recovered : Device → List Batch
+recovered d = content (d.bases (newest_base d)).now ++ upto (after_base d) (suc (last_log d))
+
+-- ---- a crash
+
+-- The choice of a crash for a name: which of the files is left that it stood for; how many of the records that wait in it, and which of
+-- those whole.
+pub record Keep : Type 0 where
+  pub which : ℕ
+  pub count : ℕ
+  pub whole : ℕ → Bool
+
+-- of these records any are left whole, and the others are torn
+abbrev pub left_of : (ℕ → Bool) → List Record → List Record
+left_of whole [] = []
+left_of whole (r ∷ rs) = (if whole 0 then r else Torn) ∷ left_of (λ k. whole (suc k)) rs
+
+abbrev pub crashed_file : Keep → File → File
+crashed_file keep f = record {
+  kept = f.kept ++ left_of keep.whole (take keep.count f.waiting);
+  waiting = [];
+  suspect = false;
+  past = f.past;
+}
+
+abbrev pub crashed_name : Keep → Option File → Option File
+crashed_name keep None = None
+crashed_name keep (Some f) = Some (crashed_file keep f)
+
+abbrev pub crashed_entry : Keep → Entry → Entry
+crashed_entry keep e = record { now = crashed_name keep (slice_index_or (e.now ∷ e.before) keep.which e.now); before = [] }
+
+abbrev pub empty_file : File
+empty_file = record { kept = []; waiting = []; suspect = false; past = 0 }
+
+-- the folder after a crash that keeps this of each log and of each base
+abbrev pub crashed : (ℕ → Keep) → (ℕ → Keep) → Device → Device
+crashed logs bases d = record {
+  logs = λ k. crashed_entry (logs k) (d.logs k);
+  bases = λ k. crashed_entry (bases k) (d.bases k);
+  copy = empty_file;
+  partial = empty_file;
+  names = d.names;
+}
+
+-- ---- operations on a file
+
+abbrev pub appended : Record → File → File
+appended r f = record f { waiting = f.waiting ++ r ∷ [] }
+
+-- A sync that is done. At least a number of records are on the device then: those that were there when it began.
+abbrev pub synced : ℕ → File → File
+synced n f =
+    if f.suspect then f
+    else record f {
+      kept = take (max n (length f.kept)) (f.kept ++ f.waiting);
+      waiting = drop (max n (length f.kept)) (f.kept ++ f.waiting);
+    }
+
+-- The records after a number of them are cut off, and the others are synced. A cut that fails is done or isn't, in memory as on the
+-- device.
+abbrev pub cut : ℕ → File → File
+cut n f =
+    if f.suspect then f
+    else record f { kept = take (max n (length f.kept)) (f.kept ++ f.waiting); waiting = [] }
+
+abbrev pub suspected : File → File
+suspected f = record f { suspect = true }
+
+-- all of a file with a temporary name is on the device
+abbrev pub sealed : File → File
+sealed f = record f { kept = f.kept ++ f.waiting; waiting = [] }
+
+-- a new file that has what is read of another one
+abbrev pub copied : Option File → File
+copied o = record { kept = []; waiting = whole_part (records_of o); suspect = false; past = 0 }
+
+-- the records of rows
+abbrev pub rows_of : List Batch → List Record
+rows_of [] = []
+rows_of (b ∷ bs) = Whole b 0 ∷ rows_of bs
+
+-- ---- operations on names
+
+-- a map that has this at one number
+abbrev pub at : {A : Type 0} → ℕ → A → (ℕ → A) → ℕ → A
+at n x f k = if k == n then x else f k
+
+abbrev pub changed_name : (File → File) → Option File → Option File
+changed_name change None = None
+changed_name change (Some f) = Some (change f)
+
+-- the file of a name is changed
+abbrev pub changed : (File → File) → Entry → Entry
+changed change e = record e { now = changed_name change e.now }
+
+-- the name stands for something else, or for nothing
+abbrev pub stands_for : Option File → Entry → Entry
+stands_for o e = record { now = o; before = e.now ∷ e.before }
+
+-- the name is on the device
+abbrev pub named : Entry → Entry
+named e = record e { before = [] }
+
+abbrev pub change_log : ℕ → (File → File) → Device → Device
+change_log n change d = record d { logs = at n (changed change (d.logs n)) d.logs }
+
+-- the name of a log stands for another file
+abbrev pub name_log : ℕ → Option File → Device → Device
+name_log n o d = record d { logs = at n (stands_for o (d.logs n)) d.logs; names = max d.names n }
+
+abbrev pub name_base : ℕ → Option File → Device → Device
+name_base n o d = record d { bases = at n (stands_for o (d.bases n)) d.bases }
+
+abbrev pub sync_names : Device → Device
+sync_names d = record d { logs = λ k. named (d.logs k); bases = λ k. named (d.bases k) }
+
+abbrev pub write_copy : File → Device → Device
+write_copy f d = record d { copy = f }
+
+abbrev pub write_partial : File → Device → Device
+write_partial f d = record d { partial = f }

@@ -1,0 +1,298 @@
+//! [`Machine`]: which file operation comes next, and what follows from how it went.
+ghost use Rattle.std.specs.Prelude.{◌≡◌, ◌<◌, ◌^◌};
+ghost use Rattle.uc_folder.specs.Steps.{
+  next_write,
+  told_write,
+  next_sync,
+  told_sync,
+  next_checkpoint,
+  told_checkpoint,
+  submitting,
+  syncing,
+  switching,
+  may_begin,
+  checkpointing,
+  opened,
+  is_open,
+  clearing_after,
+  removing_from,
+};
+
+use crate::action::Action;
+use crate::listing::Found;
+use crate::phases::{Checkpointer, Writer};
+
+/// The state of a folder that is open.
+#[derive(Debug, Clone, Copy, PartialEq, Eq)]
+pub struct Machine {
+    /// The number of the log that is written.
+    pub log: u64,
+    /// The number of batches that it has.
+    pub count: u64,
+    /// The number of these that may be acknowledged as synced. All batches of older logs may.
+    pub synced: u64,
+    /// The number of the newest base whose name is on the device for certain; that of the first log if there is none.
+    pub base: u64,
+    /// No log or base has a number below this one.
+    pub least: u64,
+    /// The number of the newest base that may have its name.
+    pub tried: u64,
+    /// The number of batches of the log of that number that it has.
+    pub past: u64,
+    /// The phase of the writer.
+    pub writer: Writer,
+    /// The phase of the checkpointer.
+    pub checkpointer: Checkpointer,
+}
+
+impl Machine {
+    /// The machine of a folder in which an opening found some files, and the number of batches that it read of the log that goes on.
+    pub fn open(found: Found, count: u64) -> Machine
+        ensures { result ≡ opened found count }
+    {
+        Machine {
+            log: found.log,
+            count,
+            synced: 0,
+            base: found.base,
+            least: found.least,
+            tried: found.base,
+            past: found.past,
+            writer: if found.is_there {
+                Writer::Naming(found.top)
+            } else {
+                Writer::Making
+            },
+            checkpointer: Checkpointer::Idle,
+        }
+    }
+
+    /// The writer's next operation.
+    pub fn next_write(&self) -> Action
+        requires { self.now.log < 2 ^ 63 }
+        ensures { result ≡ next_write self.now.writer self.now.log self.now.count self.now.synced }
+    {
+        match self.writer {
+            Writer::Making => Action::CreateLog(self.log),
+            Writer::Founding | Writer::Naming(_) | Writer::Settling | Writer::Entering =>
+                Action::SyncNames,
+            Writer::Clearing(number, _) => Action::RemoveLog(number),
+            Writer::SettingAside => Action::SetAside(self.log),
+            Writer::Copying => Action::CopyLog(self.log),
+            Writer::SealingCopy => Action::SyncCopy,
+            Writer::Replacing => Action::NameCopy(self.log),
+            Writer::Appending | Writer::Both(_) => Action::Append(self.log, self.synced),
+            Writer::Mending => Action::CutLog(self.log, self.count),
+            Writer::Closing => Action::SyncLog(self.log, self.count),
+            Writer::Beginning => Action::CreateLog(self.log + 1),
+            Writer::Ready | Writer::Syncing(_) | Writer::Failed => Action::Nothing,
+        }
+    }
+
+    /// Learns how the writer's operation went: done, or refused in any way.
+    pub fn told_write(&mut self, is_done: bool)
+        requires log_small { self.old.log < 2 ^ 63 }
+        requires count_small { self.old.count < 2 ^ 63 }
+        ensures { self.new ≡ told_write self.old is_done }
+    {
+        match (self.writer, is_done) {
+            (Writer::Making, true) => self.writer = Writer::Founding,
+            (Writer::Founding, true) => self.writer = Writer::Ready,
+            (Writer::Naming(top), true) => {
+                self.writer = clearing_after(self.log, top);
+                self.checkpointer = removing_from(self.least, self.base);
+            }
+            (Writer::Clearing(number, top), true) => self.writer = clearing_after(number, top),
+            (Writer::SettingAside, true) => self.writer = Writer::Copying,
+            (Writer::Copying, true) => self.writer = Writer::SealingCopy,
+            (Writer::SealingCopy, true) => self.writer = Writer::Replacing,
+            (Writer::Replacing, true) => self.writer = Writer::Settling,
+            (Writer::Settling, true) => {
+                self.writer = Writer::Ready;
+                self.synced = self.count;
+            }
+            (Writer::Ready | Writer::Syncing(_), _) => {}
+            (Writer::Appending, true) => {
+                self.writer = Writer::Ready;
+                self.count += 1;
+            }
+            (Writer::Appending, false) => self.writer = Writer::Mending,
+            (Writer::Mending, true) => self.writer = Writer::Ready,
+            (Writer::Both(synced), true) => {
+                self.writer = Writer::Syncing(synced);
+                self.count += 1;
+            }
+            (Writer::Closing, true) => {
+                self.writer = Writer::Beginning;
+                self.synced = self.count;
+            }
+            (Writer::Beginning, true) => self.writer = Writer::Entering,
+            (Writer::Beginning, false) => self.writer = Writer::Ready,
+            (Writer::Entering, true) => {
+                self.writer = Writer::Ready;
+                self.log += 1;
+                self.count = 0;
+                self.synced = 0;
+            }
+            _ => self.writer = Writer::Failed,
+        }
+    }
+
+    /// The sync of the log that is under way. A batch may be appended beside it.
+    pub fn next_sync(&self) -> Action
+        ensures { result ≡ next_sync self.now.writer self.now.log }
+    {
+        match self.writer {
+            Writer::Syncing(count) | Writer::Both(count) => Action::SyncLog(self.log, count),
+            _ => Action::Nothing,
+        }
+    }
+
+    /// Learns how that sync went.
+    pub fn told_sync(&mut self, is_done: bool)
+        ensures { self.new ≡ told_sync self.old is_done }
+    {
+        match (self.writer, is_done) {
+            (Writer::Syncing(count), true) => {
+                self.writer = Writer::Ready;
+                self.synced = count;
+            }
+            (Writer::Both(count), true) => {
+                self.writer = Writer::Appending;
+                self.synced = count;
+            }
+            (Writer::Syncing(_) | Writer::Both(_), false) => self.writer = Writer::Failed,
+            _ => {}
+        }
+    }
+
+    /// The checkpointer's next operation.
+    pub fn next_checkpoint(&self) -> Action
+        ensures { result ≡ next_checkpoint self.now.checkpointer }
+    {
+        match self.checkpointer {
+            Checkpointer::Idle => Action::Nothing,
+            Checkpointer::Writing(number, past) => Action::WriteBase(number, past),
+            Checkpointer::Sealing(_, _) => Action::SyncBase,
+            Checkpointer::Renaming(number, past) => Action::NameBase(number, past),
+            Checkpointer::Fixing(_, _) => Action::SyncNames,
+            Checkpointer::RemovingLog(number) => Action::RemoveLog(number),
+            Checkpointer::RemovingBase(number) => Action::RemoveBase(number),
+        }
+    }
+
+    /// Learns how the checkpointer's operation went.
+    pub fn told_checkpoint(&mut self, is_done: bool)
+        ensures { self.new ≡ told_checkpoint self.old is_done }
+    {
+        if let Checkpointer::Renaming(number, past) = self.checkpointer {
+            self.tried = number;
+            self.past = past;
+        }
+        match (self.checkpointer, is_done) {
+            (Checkpointer::Writing(number, past), true) => {
+                self.checkpointer = Checkpointer::Sealing(number, past);
+            }
+            (Checkpointer::Sealing(number, past), true) => {
+                self.checkpointer = Checkpointer::Renaming(number, past);
+            }
+            (Checkpointer::Renaming(number, past), true) => {
+                self.checkpointer = Checkpointer::Fixing(number, past);
+            }
+            (Checkpointer::Fixing(number, _), true) => {
+                self.base = number;
+                self.checkpointer = removing_from(self.least, number);
+            }
+            (Checkpointer::RemovingLog(number), true) => {
+                self.checkpointer = Checkpointer::RemovingBase(number);
+            }
+            (Checkpointer::RemovingBase(number), true) => {
+                self.checkpointer = Checkpointer::Idle;
+                if number < self.base {
+                    self.least = number + 1;
+                    self.checkpointer = removing_from(number + 1, self.base);
+                }
+            }
+            _ => self.checkpointer = Checkpointer::Idle,
+        }
+    }
+
+    /// A batch is submitted: it is what the writer appends next. Nothing changes unless the writer may take it.
+    pub fn submit(&mut self)
+        ensures { self.new ≡ record self.old { writer = submitting self.old.writer } }
+    {
+        match self.writer {
+            Writer::Ready => self.writer = Writer::Appending,
+            Writer::Syncing(count) => self.writer = Writer::Both(count),
+            _ => {}
+        }
+    }
+
+    /// All that was appended is to be on the device. Nothing changes while a sync is under way.
+    pub fn ask_sync(&mut self)
+        ensures { self.new ≡ record self.old { writer = syncing self.old.writer self.old.count } }
+    {
+        match self.writer {
+            Writer::Ready => self.writer = Writer::Syncing(self.count),
+            Writer::Appending => self.writer = Writer::Both(self.count),
+            _ => {}
+        }
+    }
+
+    /// The next log is to go on. Nothing changes unless the writer is ready.
+    pub fn ask_switch(&mut self)
+        ensures { self.new ≡ record self.old { writer = switching self.old.writer } }
+    {
+        if let Writer::Ready = self.writer {
+            self.writer = Writer::Closing;
+        }
+    }
+
+    /// A base is to be made of the logs before a number, and of some batches of the log of that number: no more than it has. Nothing
+    /// changes unless the folder is open, no base is under way, none has as much, and all of it is in older logs.
+    pub fn ask_checkpoint(&mut self, number: u64, past: u64)
+        ensures { self.new ≡ record self.old {
+          checkpointer = checkpointing self.old.checkpointer (may_begin self.old number past) number past;
+        } }
+    {
+        let may_begin = self.is_open()
+            && (self.tried < number || self.tried == number && self.past < past)
+            && self.base <= number
+            && (number < self.log || number == self.log && past == 0);
+        if let (Checkpointer::Idle, true) = (self.checkpointer, may_begin) {
+            self.checkpointer = Checkpointer::Writing(number, past);
+        }
+    }
+
+    /// Whether batches may be submitted now or soon.
+    pub fn is_open(&self) -> bool
+        ensures { result ≡ is_open self.now.writer }
+    {
+        matches!(
+            self.writer,
+            Writer::Ready | Writer::Appending | Writer::Syncing(_) | Writer::Both(_)
+        )
+    }
+}
+
+/// The writer's phase after the name of a number was removed, or none was, where others may follow up to another number.
+fn clearing_after(number: u64, top: u64) -> Writer
+    ensures { result ≡ clearing_after number top }
+{
+    if number < top {
+        Writer::Clearing(number + 1, top)
+    } else {
+        Writer::SettingAside
+    }
+}
+
+/// The checkpointer's phase where logs and bases are removed, from a number up to that of a base.
+fn removing_from(number: u64, base: u64) -> Checkpointer
+    ensures { result ≡ removing_from number base }
+{
+    if number < base {
+        Checkpointer::RemovingLog(number)
+    } else {
+        Checkpointer::Idle
+    }
+}

@@ -1,0 +1,143 @@
+//! One course of a folder, and listings.
+use crate::{Action, Base, Found, Listed, Machine, Missing, found_in};
+
+/// The writer's next operation, which is done.
+fn written(machine: &mut Machine) -> Action {
+    if machine.log > 9 || machine.count > 9 {
+        return Action::Nothing;
+    }
+    let action = machine.next_write();
+    machine.told_write(true);
+    action
+}
+
+/// The sync that is under way, which is done.
+fn synced(machine: &mut Machine) -> Action {
+    let action = machine.next_sync();
+    machine.told_sync(true);
+    action
+}
+
+/// The checkpointer's next operation, which is done.
+fn checkpointed(machine: &mut Machine) -> Action {
+    let action = machine.next_checkpoint();
+    machine.told_checkpoint(true);
+    action
+}
+
+/// A batch is appended beside a sync of the one before it, in a new folder. Then the next log goes on.
+fn grow(machine: &mut Machine) -> [Action; 8] {
+    let made = written(machine);
+    let named = written(machine);
+    machine.submit();
+    let first = written(machine);
+    machine.ask_sync();
+    machine.submit();
+    let done = synced(machine);
+    let second = written(machine);
+    machine.ask_switch();
+    [
+        made,
+        named,
+        first,
+        done,
+        second,
+        written(machine),
+        written(machine),
+        written(machine),
+    ]
+}
+
+/// A base is made of the log before the present one.
+fn shrink(machine: &mut Machine) -> [Action; 7] {
+    machine.ask_checkpoint(2, 0);
+    [
+        checkpointed(machine),
+        checkpointed(machine),
+        checkpointed(machine),
+        checkpointed(machine),
+        checkpointed(machine),
+        checkpointed(machine),
+        checkpointed(machine),
+    ]
+}
+
+/// The result of an opening of a folder with nothing in it.
+fn empty() -> Found {
+    Found {
+        base: 1,
+        past: 0,
+        least: 1,
+        log: 1,
+        is_there: false,
+        top: 1,
+    }
+}
+
+#[test]
+fn a_log_grows_and_a_base_lets_it_go(rt: HostRuntime) {
+    let mut machine = Machine::open(empty(), 0);
+    let grown = grow(&mut machine);
+    assert_eq!(rt;
+        grown,
+        [
+            Action::CreateLog(1),
+            Action::SyncNames,
+            Action::Append(1, 0),
+            Action::SyncLog(1, 1),
+            Action::Append(1, 1),
+            Action::SyncLog(1, 2),
+            Action::CreateLog(2),
+            Action::SyncNames,
+        ]
+    );
+    let shrunk = shrink(&mut machine);
+    assert_eq!(rt;
+        shrunk,
+        [
+            Action::WriteBase(2, 0),
+            Action::SyncBase,
+            Action::NameBase(2, 0),
+            Action::SyncNames,
+            Action::RemoveLog(1),
+            Action::RemoveBase(1),
+            Action::Nothing,
+        ]
+    );
+    assert!(rt; machine.is_open());
+}
+
+/// The result of an opening of a base and three logs, the last of which has no batch.
+fn listed(numbers: [u64; 3]) -> Result<Found, Missing> {
+    let bases = [Base { number: 4, past: 7 }, Base { number: 4, past: 9 }];
+    let [first, second, third] = numbers;
+    let logs = [
+        Listed {
+            number: first,
+            is_used: true,
+        },
+        Listed {
+            number: third,
+            is_used: false,
+        },
+        Listed {
+            number: second,
+            is_used: true,
+        },
+    ];
+    found_in(&bases, &logs)
+}
+
+#[test]
+fn an_opening_finds_the_newest_base_and_its_logs(rt: HostRuntime) {
+    let found = Found {
+        base: 4,
+        past: 9,
+        least: 4,
+        log: 5,
+        is_there: true,
+        top: 6,
+    };
+    assert_eq!(rt; listed([4, 5, 6]), Ok(found));
+    assert_eq!(rt; listed([4, 6, 7]), Err(Missing(5)));
+}
