@@ -11,13 +11,15 @@
 //! The second and the third law stand on a premise: bytes that nobody wrote at an offset don't pass as a batch there. Checksums and
 //! sequences make that so, but for chance, and for older bytes of the same log at the same offset.
 //!
-//! Tests: `tests/worlds.py`.
+//! Tests: its own.
 #![tactic(auto)]
 
 mod laws;
 mod mark;
 mod search;
 mod telling;
+#[cfg(test)]
+mod tests;
 
 pub use laws::{batches_that_are_read_were_written, crash_is_no_damage, synced_batches_are_read};
 pub use mark::{mark_bytes, mark_of};
