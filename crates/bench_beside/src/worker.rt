@@ -1,0 +1,48 @@
+//! [`Worker`]: who compacts in a store that threads share.
+ghost use Rattle.std.specs.Prelude.{◌≡◌, IfSome};
+ghost use Rattle.std.proofs.Props.{props};
+
+use uc_oper::Counter;
+use uc_share::{Name, Reader, Seat};
+
+/// A reader of a store of counters.
+pub(crate) type Reads<N> = Reader<Counter, N>;
+
+/// A reader of a store, and a seat there, unless a claim has it.
+pub(crate) struct Worker<N: Name> {
+    pub(crate) reader: Reads<N>,
+    seat: Option<Seat>,
+    ghost free: { IfSome seat (λ seat. seat.table ≡ N.table) } by { Prim.hlevel props },
+}
+
+impl<N: Name> Drop for Worker<N> {
+    fn drop(self) {
+        let Worker { reader: _, seat: _ } = self;
+    }
+}
+
+impl<N: Name> Worker<N> {
+    /// A reader and a seat.
+    pub(crate) fn of(reader: Reads<N>, seat: Seat) -> Worker<N>
+        requires { seat.table ≡ N.table }
+    {
+        Worker {
+            reader,
+            seat: Some(seat),
+        }
+    }
+
+    /// The seat, if it is free.
+    pub(crate) fn take_seat(&mut self) -> Option<Seat>
+        ensures { IfSome result (λ seat. seat.table ≡ N.table) }
+    {
+        self.seat.take()
+    }
+
+    /// The seat is free again.
+    pub(crate) fn put_seat(&mut self, seat: Seat)
+        requires { seat.table ≡ N.table }
+    {
+        self.seat = Some(seat);
+    }
+}
