@@ -1,4 +1,4 @@
-// What `bench_shared fed` does, by RocksDB: one thread writes batches beside one compaction at a time and two readers.
+// What `bench/beside fed` does, by RocksDB: one thread writes batches beside one compaction at a time and two readers.
 
 #pragma once
 

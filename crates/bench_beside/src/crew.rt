@@ -88,17 +88,27 @@ fn actors_of<N: Name>(
     Some(actors)
 }
 
+/// Puts together what the one at a place and all behind it did.
+fn put_together(told: &mut Vec<Told>, first: usize) -> Option<()> {
+    let second = told.len().min(first.saturating_add(1));
+    for other in told.split_off(second).ok()? {
+        told.last_mut()?.join(other).ok()?;
+    }
+    Some(())
+}
+
 /// A store, and what is done to it.
 fn bench_of<'x, N: Name, W: Wait + Drop, R: Clock>(
     rt: &'x R,
     alloc: Global,
     store: &'x Store<Counter, N, W>,
     plan: Plan,
-    (queries, batches): (&'x [Query], &'x [Writes]),
+    given: (&'x [Query], &'x [Writes]),
 ) -> Option<Bench<'x, N, W, R>>
     requires table { store.now.table ≡ N.table }
     requires keeps { N.keeps_stay ≡ false }
 {
+    let (queries, batches) = given;
     let phase = match plan.mode {
         Mode::Beside | Mode::Times => WAITING,
         _ => CHANGING,
@@ -122,9 +132,11 @@ where
     W: Wait + Drop + Send,
     R: Threads + Wait + Clock + Sync,
 {
-    /// What all did, at once; and then, if there are queries, those who answer them once more.
+    /// What all did, at once, who asks or pins put together; and then, if there are queries, those who answer them once more.
     fn play(&self, actors: Vec<Actor<N>>, readers: &mut Vec<Reads<N>>) -> Option<Vec<Told>> {
         let mut told = self.act_at_once(actors)?;
+        let feeders = usize::from(self.plan.mode == Mode::Fed);
+        put_together(&mut told, self.plan.workers.saturating_add(feeders))?;
         if !self.queries.is_empty() {
             let last = self.act(batch_of(readers, self.plan.readers)?);
             told.push(last).ok()?;

@@ -3,7 +3,7 @@
 //! `bench_beside MODE READERS WORKERS ROUNDS MEMTABLE STORES LOOKUPS SCANS KEYS SIZE COUNT` reads a log of counters from standard input
 //! (`Mode` and `Plan` in `bench.rt`). A store begins with the log; in the mode `fed` it is empty at first, and the log's first COUNT
 //! batches of SIZE writes are fed. It prints the runs and points with which a store opens, and then a line of each who works there,
-//! compactors and installers first (`told.rt`). What the same one did in several stores is put together.
+//! compactors and installers first (`told.rt`). What readers of a kind did is put together, and what was done in several stores.
 //!
 //! `bench_beside claims THREADS LAYOUT ROUNDS` prints the nanoseconds, and how many takes won (`claims.rt`).
 //!

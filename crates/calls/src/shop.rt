@@ -35,7 +35,7 @@ impl<O: Operator> Drop for Shop<O> {
 }
 
 /// Who works for a store.
-fn workers(call: &mut Input<'_>) -> Workers {
+pub(crate) fn workers(call: &mut Input<'_>) -> Workers {
     match call.number() {
         0 => Workers::Alone,
         1 => Workers::Threads,

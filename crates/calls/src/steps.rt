@@ -5,6 +5,7 @@ use crate::lists::{self, name, rising};
 use crate::out::Out;
 use crate::owner::{Held, abandon, claim, held_under};
 use crate::replies::write_reply;
+use crate::shop;
 use crate::store_reads::{answer, apart, ask, merge};
 use crate::talk::Halt;
 use crate::versions::{self, stretch};
@@ -159,7 +160,7 @@ pub(crate) fn step<O: Operator + Sync>(
         19 => versions::refuse(alloc, store.version(), call, out)?,
         21 => lists::play(rt, alloc, store, call, out)?,
         22 => merge::<O>(rt, alloc, store.version(), call, out)?,
-        24 => out.number(settle(rt, alloc, store, workers)?),
+        24 => out.number(settle(rt, alloc, store, shop::workers(call))?),
         _ => {
             let reply = reply(rt, alloc, store, claims, (kind, workers), call)?;
             write_reply(alloc, out, &reply)?;
