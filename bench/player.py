@@ -1,4 +1,4 @@
-"""What the scripts share that clock calls of the libraries by the player, crates/calls: stories of calls, and how they are measured.
+"""Calls of the libraries by the clock, for the scripts of the benchmarks: stories that the player crates/calls makes.
 
 The player makes the calls of a story (tests/play.py), and says how long those took that are clocked: the library's work alone, and
 not how a call is spelled. It is crates/calls/out/calls, which `rt run` in crates/calls builds, or the one that CALLS names.
@@ -50,7 +50,7 @@ def fail(why: str) -> None:
 
 
 def run(calls: bytes) -> Tuple[bytes, int]:
-    """What the player prints, and the most memory that it held, in KiB."""
+    """Runs the player. Returns its output, and the most memory that it held, in KiB."""
     with tempfile.TemporaryFile() as given, tempfile.TemporaryFile() as said:
         given.write(calls)
         given.seek(0)
@@ -121,7 +121,7 @@ def with_answer(checksum: int, answer: Answer) -> int:
 
 
 class Look(NamedTuple):
-    """How many runs a store has, and how many points and bytes they have together."""
+    """The number of a store's runs, and of their points and bytes together."""
 
     runs: int
     points: int
@@ -183,7 +183,7 @@ KINDS_BY_BYTE = {ord("p"): 0, ord("d"): 1, ord("m"): 2, ord("r"): 3}
 
 
 def ops_in(data: bytes) -> Iterator[Op]:
-    """Changes as the baselines write them: of each a byte for its kind and two texts, each after its length of 4 bytes, low byte first."""
+    """Changes as the baselines write them: a byte for the kind and two texts, each after its length of 4 bytes, low byte first."""
     place = 0
     while place < len(data):
         kind, length = struct.unpack_from("<BI", data, place)

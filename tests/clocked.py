@@ -29,7 +29,7 @@ def same(story: Story, where: str, clocked: Reply, plain: Reply) -> None:
 
 
 def both(story: Story, where: str, kind: int, *values, times: int = 1) -> None:
-    """Makes a call that changes nothing with a clock, so many times, and without one."""
+    """Makes a call that changes nothing with a clock, `times` times, and without one."""
     clocked = story.clock(kind, *values, times=times)
     same(story, where, clocked, story.call(kind, *values))
 

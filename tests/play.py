@@ -12,7 +12,7 @@ Each request for memory that a call makes can be refused (`refuse=True`): the pr
 request refused after the other, until it has an answer, and looks each time at all that it has. Each of these answers has to be
 either want of memory, with all as it was before, or the right one. `faults/refuse.c` refuses the requests, which needs glibc.
 
-A call that is added by `clock` is made as often as is said. Its reply has the last answer, and the nanoseconds of them all.
+A call that is added by `clock` is made once or several times. Its reply has the last answer, and the nanoseconds of them all.
 """
 
 import mmap
@@ -261,7 +261,7 @@ class Story:
         return reply
 
     def clock(self, kind: int, *values: Union[Value, Raw], times: int = 1, name: str = "") -> Reply:
-        """Adds a call that is clocked, and made so many times."""
+        """Adds a call that is clocked, and made `times` times."""
         parts = (value.spelling if isinstance(value, Raw) else spelled(value) for value in values)
         reply = Reply(name or f"call {kind}")
         self.frames.append(Frame(CLOCKED, number(kind) + b"".join(parts), reply, times))

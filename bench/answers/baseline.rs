@@ -1,4 +1,4 @@
-//! What `ours` does, in plain Rust with a `BTreeMap` of values, to measure it against.
+//! The work of `ours` in plain Rust with a `BTreeMap` of values, to measure it against.
 //!
 //!     baseline answers|hot|deleted|shared [--one-batch] [--threads N]
 //!     baseline operands
@@ -31,7 +31,7 @@ const KEYS: u64 = 300_000;
 const HOT_KEYS: u64 = 1_000;
 const LOOKUPS: usize = 20_000;
 const SCANS: usize = 500;
-/// How many times as many queries `shared` has, which are those of `bench/shared`.
+/// The factor by which `shared` has more queries, which are those of `bench/shared`.
 const TIMES: usize = 10;
 const MOST_ROWS: u64 = 50;
 

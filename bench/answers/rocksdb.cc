@@ -1,4 +1,4 @@
-// What `ours` does, by RocksDB in its memory environment: a log of counters is recovered and compacted as
+// The work of `ours` by RocksDB in its memory environment: a log of counters is recovered and compacted as
 // universal compaction does, and a workload's queries are answered by one thread.
 //
 //     rocksdb answers|hot|deleted [--memtable N] [--trigger N] [--uncompacted]

@@ -67,7 +67,7 @@ fn digits(number: u64) -> [u8; 10] {
     digits
 }
 
-/// The write after so many others: its kind and its texts.
+/// The write after `before` others: its kind and its texts.
 fn write_after(load: Load, before: u64, random: u64) -> (Kind, Vec<u8>, Vec<u8>) {
     let all = load.runs * load.writes;
     let number = (before + 1).to_le_bytes().to_vec();

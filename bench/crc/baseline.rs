@@ -19,7 +19,7 @@ fn generated(size: usize) -> Vec<u8> {
         .collect()
 }
 
-/// The checksum, summed so many times.
+/// The checksum, summed `rounds` times.
 fn summed(bytes: &[u8], rounds: u32) -> u32 {
     let mut checksum = 0;
     for _ in 0..rounds {

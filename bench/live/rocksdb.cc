@@ -1,4 +1,4 @@
-// What `ours` does, by RocksDB in its memory environment: batches are written to a store that is empty at first.
+// The work of `ours` by RocksDB in its memory environment: batches are written to a store that is empty at first.
 //
 //     rocksdb live|feeds|written|fed SIZE COUNT
 //

@@ -1,4 +1,4 @@
-// What `bench/beside batch` does, by RocksDB in its memory environment: a log of counters is recovered and not compacted, and then a
+// The work of `bench/beside batch` by RocksDB in its memory environment: a log of counters is recovered and not compacted, and then a
 // batch of queries, or single lookups, are answered while its background compactions run.
 //
 //     rocksdb beside THREADS COMPACTIONS

@@ -1,4 +1,4 @@
-//! [`Bench`]: a store that threads share, and [`Actor`]: who does something there, in a thread of its own.
+//! [`Bench`]: a store that threads share, and [`Actor`]: one that uses it in a thread of its own.
 use crate::told::Told;
 use crate::worker::{Reads, Worker};
 use std::alloc::Global;
@@ -12,14 +12,14 @@ use uc_oper::Counter;
 use uc_query_read::Query;
 use uc_share::{Name, Store};
 
-/// The phases of a store: nobody changes it yet, somebody does, and all are to stop.
+/// The phases of a measurement: the store doesn't change yet, it changes, and all actors are to stop.
 pub(crate) const WAITING: u64 = 0;
 
 pub(crate) const CHANGING: u64 = 1;
 
 pub(crate) const STOPPED: u64 = 2;
 
-/// What is measured.
+/// The ways to use a store that are measured.
 #[derive(Clone, Copy, PartialEq, Eq)]
 pub(crate) enum Mode {
     /// A batch beside compactors, and once more after them.
@@ -51,30 +51,30 @@ impl Mode {
     }
 }
 
-/// What is done to stores.
+/// The numbers of a measurement.
 #[derive(Clone, Copy)]
 pub(crate) struct Plan {
     pub(crate) mode: Mode,
-    /// How many answer a batch or pin.
+    /// The readers that answer a batch or pin.
     pub(crate) readers: usize,
-    /// How many compact or install, two at the most.
+    /// The workers that compact or install, two at most.
     pub(crate) workers: usize,
-    /// How often a reader pins without an installer.
+    /// The pins of each reader without an installer.
     pub(crate) rounds: u64,
-    /// How many bytes of writes make a run as a store opens.
+    /// The bytes of writes that make a run as a store opens.
     pub(crate) memtable: u64,
-    /// How many stores there are, one after the other.
+    /// The stores that are measured, one after the other.
     pub(crate) stores: u64,
     pub(crate) lookups: usize,
     pub(crate) scans: usize,
-    /// How many keys there are.
+    /// The keys from which lookups and scans are drawn.
     pub(crate) keys: u64,
-    /// How many writes a batch has that is fed, and how many batches are.
+    /// The writes of a batch that is fed, and the number of batches.
     pub(crate) size: usize,
     pub(crate) count: usize,
 }
 
-/// Who does something to a store.
+/// An actor uses a store in a thread of its own.
 #[derive(Drop)]
 pub(crate) enum Actor<N: Name> {
     /// Compacts what is picked until nothing is, and beside feeds until these end too.
@@ -91,7 +91,7 @@ pub(crate) enum Actor<N: Name> {
     Pinner(Reads<N>),
 }
 
-/// A store, what is done to it, and what those who do it tell each other.
+/// A store, the measurement, and the words by which actors know of each other.
 pub(crate) struct Bench<'a, N: Name, W: Wait + Drop, R> {
     pub(crate) rt: &'a R,
     pub(crate) alloc: Global,
@@ -101,7 +101,7 @@ pub(crate) struct Bench<'a, N: Name, W: Wait + Drop, R> {
     pub(crate) batches: &'a [Writes],
     pub(crate) begun: Instant,
     pub(crate) phase: AtomicU64,
-    /// How many pin already.
+    /// The number of readers that pin already.
     pub(crate) ready: AtomicU64,
 }
 
@@ -150,7 +150,7 @@ where
         self.phase.load(Ordering::Acquire) == phase
     }
 
-    /// Does what one is to do, until that is done or refused. Whether it ends the others' work.
+    /// Lets an actor work until it is done or refused. Returns whether that ends the work of the others, and `None` for a refusal.
     fn work(&self, actor: &mut Actor<N>, told: &mut Told) -> (bool, Option<()>) {
         match actor {
             Actor::Compactor(worker) => (true, self.compact_all(worker, told)),
@@ -162,7 +162,7 @@ where
         }
     }
 
-    /// What one did.
+    /// Lets an actor work, and tells about it.
     pub(crate) fn act(&self, mut actor: Actor<N>) -> Told {
         let mut told = Told::new(self.alloc);
         let start = self.now();
@@ -182,7 +182,7 @@ where
     W: Wait + Drop + Send,
     R: Threads + Wait + Clock + Sync,
 {
-    /// What all did, at once.
+    /// Lets all actors work at once.
     pub(crate) fn act_at_once(&self, actors: Vec<Actor<N>>) -> Option<Vec<Told>> {
         let work = |actor: Actor<N>| -> Told { self.act(actor) };
         map_vec(self.rt, actors, &work).ok()

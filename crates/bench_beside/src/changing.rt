@@ -1,4 +1,4 @@
-//! Who changes a store: compactors, installers and feeders.
+//! Actors that change a store: compactors, installers and feeders.
 ghost use Rattle.std.specs.Prelude.{◌≡◌};
 
 use crate::bench::{Bench, CHANGING, Mode, STOPPED};
@@ -13,7 +13,7 @@ use uc_batch::Writes;
 use uc_oper::Counter;
 use uc_share::{Held, Name, Stretch, Turn};
 
-/// How often an installer looks whether all readers pin.
+/// The looks that an installer takes at most until all readers pin.
 const PATIENCE: u64 = 10_000_000_000;
 
 /// From how many runs on a feed waits, as a flush of RocksDB does by default (`level0_slowdown_writes_trigger`).
@@ -118,7 +118,7 @@ where
         Some(())
     }
 
-    /// Feeds a batch as soon as few enough runs are there, unless all are to stop. Whether it had to wait.
+    /// Feeds a batch as soon as few enough runs are there, unless all are to stop. Returns whether it had to wait.
     fn feed_when_free(&self, reader: &mut Reads<N>, batch: &Writes) -> Option<bool> {
         let mut waited = false;
         for _ in self.rt.forever() {

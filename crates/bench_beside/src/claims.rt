@@ -11,7 +11,7 @@ use uc_claims::{ClaimTable, MOST_SLOTS, Seat};
 
 const COUNT: usize = MOST_SLOTS;
 
-/// What each thread does: where its slots are, and how often it takes them.
+/// The work of each thread: where its slots are, and how often it takes them.
 #[derive(Clone, Copy)]
 pub(crate) struct Claims {
     /// 0: each thread has two slots of its own, side by side. 1: these share no cache line with another's. Else all want the same two.

@@ -1,4 +1,4 @@
-//! Who works in a store, and what each did there.
+//! The actors of a measurement, and their work in a store.
 ghost use Rattle.std.specs.Prelude.{◌≡◌, All, false, true};
 ghost use Rattle.uc_share.specs.Stores.{IsNamed};
 ghost use Rattle.uc_version_state.specs.Options.{are_good};
@@ -18,10 +18,10 @@ use uc_oper::Counter;
 use uc_query_read::Query;
 use uc_share::{Name, Opening, Options, Seat, Store, Version};
 
-/// How many readers there are beside workers, and those who answer a batch twice.
+/// The readers of a store beside those of workers, and those that answer a batch twice.
 const MORE_READERS: usize = 3;
 
-/// Adds who compacts or installs by the next seat, if there is one.
+/// Adds a compactor or an installer with the next seat, if there is one.
 fn push_worker<N: Name>(
     actors: &mut Vec<Actor<N>>,
     mode: Mode,
@@ -43,13 +43,13 @@ fn push_worker<N: Name>(
     actors.push(actor).ok()
 }
 
-/// Who answers a batch by so many of these readers.
+/// An actor that answers a batch by the last `count` of these readers.
 fn batch_of<N: Name>(readers: &mut Vec<Reads<N>>, count: usize) -> Option<Actor<N>> {
     let rest = readers.len().checked_sub(count)?;
     Some(Actor::Batch(readers.split_off(rest).ok()?))
 }
 
-/// Adds who feeds and who reads.
+/// Adds those that feed and read.
 fn push_readers<N: Name>(
     actors: &mut Vec<Actor<N>>,
     plan: Plan,
@@ -72,7 +72,7 @@ fn push_readers<N: Name>(
     Some(())
 }
 
-/// At most two who compact or install, and then who feeds and who reads.
+/// At most two compactors or installers, and then those that feed and read.
 fn actors_of<N: Name>(
     alloc: Global,
     plan: Plan,
@@ -88,7 +88,7 @@ fn actors_of<N: Name>(
     Some(actors)
 }
 
-/// Puts together what the one at a place and all behind it did.
+/// Joins the accounts from a place on.
 fn put_together(told: &mut Vec<Told>, first: usize) -> Option<()> {
     let second = told.len().min(first.saturating_add(1));
     for other in told.split_off(second).ok()? {
@@ -132,7 +132,8 @@ where
     W: Wait + Drop + Send,
     R: Threads + Wait + Clock + Sync,
 {
-    /// What all did, at once, who asks or pins put together; and then, if there are queries, those who answer them once more.
+    /// Lets all actors work at once, and joins the accounts of those that ask or pin. Then, if there are queries, a batch is answered
+    /// once more.
     fn play(&self, actors: Vec<Actor<N>>, readers: &mut Vec<Reads<N>>) -> Option<Vec<Told>> {
         let mut told = self.act_at_once(actors)?;
         let feeders = usize::from(self.plan.mode == Mode::Fed);
@@ -145,7 +146,7 @@ where
     }
 }
 
-/// What each did in a store that gets its name here.
+/// The accounts of the actors of a store that gets its name here.
 fn played_named<N, W, R>(
     rt: &R,
     handle: W,
@@ -167,7 +168,7 @@ where
     bench.play(actors, &mut readers)
 }
 
-/// What each did in a store that begins with a version.
+/// The accounts of the actors of a store that begins with a version.
 pub(crate) fn played<R: Threads + Wait + Clock + Sync>(
     rt: &R,
     alloc: Global,

@@ -4,7 +4,7 @@ use std::alloc::{AllocError, Global};
 use uc_bytes::Bytes;
 use uc_query_read::Query;
 
-/// How many rows a drawn scan has at most.
+/// The most rows of a drawn scan.
 const MOST_ROWS: u64 = 50;
 
 /// A row of numbers by SplitMix64 (Steele, Lea and Flood, 2014).

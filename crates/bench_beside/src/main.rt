@@ -1,14 +1,14 @@
-//! What several threads do at once in a store that threads share, for `bench/shared`, `bench/share`, `bench/live` and `bench/claims`.
+//! Several threads at once in a store that they share, for `bench/shared`, `bench/share`, `bench/live` and `bench/claims`.
 //!
 //! `bench_beside MODE READERS WORKERS ROUNDS MEMTABLE STORES LOOKUPS SCANS KEYS SIZE COUNT` reads a log of counters from standard input
 //! (`Mode` and `Plan` in `bench.rt`). A store begins with the log; in the mode `fed` it is empty at first, and the log's first COUNT
-//! batches of SIZE writes are fed. It prints the runs and points with which a store opens, and then a line of each who works there,
-//! compactors and installers first (`told.rt`). What readers of a kind did is put together, and what was done in several stores.
+//! batches of SIZE writes are fed. It prints the runs and points with which a store opens, and then a line for each actor,
+//! compactors and installers first (`told.rt`). The accounts of readers of a kind are joined, and those of several stores.
 //!
 //! `bench_beside claims THREADS LAYOUT ROUNDS` prints the nanoseconds, and how many takes won (`claims.rt`).
 //!
 //! `bench_beside few` does a little of all, and prints what doesn't change from run to run: whether anything is compacted, and checksums
-//! of what is answered meanwhile and after it. The answers must be the same, whoever compacts and answers.
+//! of the answers meanwhile and after it. The answers must be the same, whoever compacts and answers.
 #![tactic(auto)]
 
 mod bench;
@@ -44,7 +44,7 @@ fn number_at(numbers: &[u64], place: usize) -> u64 {
     numbers.get(place).copied().unwrap_or(0)
 }
 
-/// What numbers ask for in a mode.
+/// The plan of a mode and the numbers after it.
 fn plan_of(mode: Mode, numbers: &[u64]) -> Plan {
     Plan {
         mode,
@@ -61,10 +61,10 @@ fn plan_of(mode: Mode, numbers: &[u64]) -> Plan {
     }
 }
 
-/// The runs and points with which a store opens, and what each did there.
+/// The runs and points with which a store opens, and the accounts of its actors.
 type Played = ((usize, u64), Vec<Told>);
 
-/// What is done in one store. In the mode `fed` the queries in the end are at the batches' last sequence.
+/// Measures one store. In the mode `fed` the last queries are at the batches' last sequence.
 fn play(
     rt: &(impl Threads + Wait + Clock + Sync),
     alloc: Global,
@@ -88,7 +88,7 @@ fn play(
     Ok((opened, told))
 }
 
-/// Adds what each did in another store.
+/// Joins the accounts of another store.
 fn join_all(all: &mut [Told], others: Vec<Told>) -> Result<()> {
     for (told, other) in all.iter_mut().zip(others) {
         told.join(other)?;
@@ -96,7 +96,7 @@ fn join_all(all: &mut [Told], others: Vec<Told>) -> Result<()> {
     Ok(())
 }
 
-/// What is done in all stores, where nothing is refused.
+/// Measures all stores, unless something is refused.
 fn play_all(
     rt: &(impl Threads + Wait + Clock + Sync),
     alloc: Global,
@@ -121,7 +121,7 @@ fn play_all(
     Ok((opened, told))
 }
 
-/// Prints what is done in stores.
+/// Measures all stores, and prints the accounts.
 fn measure(
     rt: &(impl Threads + Wait + Clock + Sync + Print),
     alloc: Global,
@@ -136,7 +136,7 @@ fn measure(
     Ok(())
 }
 
-/// A little of a mode, by so many readers and workers.
+/// A little of a mode, by a number of readers and of workers.
 fn few_of(
     rt: &(impl Threads + Wait + Clock + Sync + Print),
     alloc: Global,

@@ -1,4 +1,4 @@
-//! What a log says: the version that a store begins with, or the batches that are fed.
+//! The version with which a store begins, or the batches that are fed, from a log.
 use anyhow::{Context, Result, ensure};
 use std::alloc::Global;
 use uc_batch::{Ended, Mode, Writes, read_writes};
@@ -12,7 +12,7 @@ pub(crate) fn version_of(alloc: Global, log: &[u8], options: Options) -> Result<
     Ok(opener.finish(&Alone, alloc, &[])?)
 }
 
-/// The first batches of a log's writes, each of so many but for the last, however they stand in it.
+/// The first `count` batches of a log's writes, each of `size` but for the last, however they stand in it.
 pub(crate) fn batches_of(
     alloc: Global,
     log: &[u8],

@@ -1,4 +1,4 @@
-//! Who reads a store: those who answer a batch, who look keys up one by one, and who pin.
+//! Actors that read a store: they answer a batch, look keys up one by one, or pin.
 use crate::bench::{Bench, CHANGING, Mode, Plan, STOPPED};
 use crate::drawn::{Numbers, key_of};
 use crate::told::Told;
@@ -15,10 +15,10 @@ use uc_query_read::{Answer, Query, answer_one};
 use uc_query_shared::{Free, answer_all};
 use uc_share::{Name, Version};
 
-/// How many queries a worker draws at a time.
+/// The queries that a worker draws at a time.
 const PIECE: usize = 16;
 
-/// How many runs a version has, and how many points they have together.
+/// The number of a version's runs, and of their points together.
 pub(crate) fn totals(version: &Version) -> (usize, u64) {
     let mut points = 0_u64;
     for placed in version.runs() {
@@ -96,7 +96,7 @@ where
         }
     }
 
-    /// Looks drawn keys up, each at the newest sequence that is kept then: so many, or beside feeds until these end.
+    /// Looks drawn keys up, each at the newest sequence that is kept then: `lookups` of them, or beside feeds until these end.
     pub(crate) fn ask_drawn(
         &self,
         reader: &mut Reads<N>,
@@ -122,7 +122,7 @@ where
         Some(())
     }
 
-    /// Pins so many times. How many pins went well.
+    /// Pins `rounds` times. Returns the number of pins that went well.
     fn pin_often(&self, reader: &mut Reads<N>) -> u64 {
         let mut pins = 0_u64;
         for _ in 0..self.plan.rounds {
@@ -171,7 +171,7 @@ where
         Some(())
     }
 
-    /// Pins, so many times or until an installer is done.
+    /// Pins, `rounds` times or until an installer is done.
     pub(crate) fn pin_all(&self, reader: &mut Reads<N>, told: &mut Told) -> Option<()> {
         if self.plan.mode == Mode::Pins {
             told.count = self.pin_often(reader);

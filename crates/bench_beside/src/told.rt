@@ -1,9 +1,9 @@
-//! [`Told`]: what one did in a store, and how long it took.
+//! [`Told`]: an actor's account of its work and times.
 use std::alloc::{AllocError, Global};
 use std::fmt;
 use uc_query_read::Answer;
 
-/// What one did. All times are nanoseconds.
+/// An actor's account. All times are nanoseconds.
 #[derive(Drop)]
 pub(crate) struct Told {
     /// Whether nothing was refused.
@@ -12,7 +12,7 @@ pub(crate) struct Told {
     pub(crate) whole: u64,
     /// The time of what is timed in it.
     pub(crate) part: u64,
-    /// How many answers, pins, installs or stalls there were.
+    /// The number of answers, pins, installs or stalls.
     pub(crate) count: u64,
     /// A checksum of the answers.
     pub(crate) checksum: u64,
@@ -20,7 +20,7 @@ pub(crate) struct Told {
     pub(crate) times: Vec<u64>,
     /// The times of the compactions that were installed.
     pub(crate) compactions: Vec<u64>,
-    /// How many runs and points there were after a batch.
+    /// The runs and points after a batch.
     pub(crate) totals: (usize, u64),
 }
 
@@ -71,7 +71,7 @@ impl Told {
         self.checksum = with_answer(self.checksum, answer);
     }
 
-    /// Adds what the same one did in another store.
+    /// Joins another account.
     pub(crate) fn join(&mut self, mut other: Told) -> Result<(), AllocError> {
         self.is_fine = self.is_fine && other.is_fine;
         self.whole = self.whole.saturating_add(other.whole);
@@ -88,7 +88,7 @@ impl Told {
     }
 }
 
-/// The time that so many of 10,000 don't pass, of times that are sorted.
+/// The time that `share` of 10,000 don't exceed, of times that are sorted.
 fn below(times: &[u64], share: usize) -> u64 {
     let place = times.len().saturating_mul(share) / 10_000;
     times.get(place).copied().unwrap_or(0)

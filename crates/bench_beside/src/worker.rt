@@ -1,4 +1,4 @@
-//! [`Worker`]: who compacts in a store that threads share.
+//! [`Worker`]: a reader and a seat, with which runs are compacted in a store that threads share.
 ghost use Rattle.std.specs.Prelude.{◌≡◌, IfSome};
 ghost use Rattle.std.proofs.Props.{props};
 

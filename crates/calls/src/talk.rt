@@ -32,7 +32,7 @@ enum Way {
     Marked(usize),
     /// It looks at what the last marked call, of which this request was refused, may not have changed.
     Looks(usize),
-    /// It is clocked, and made so many times.
+    /// It is clocked, and made this many times.
     Clocked(u64),
 }
 
