@@ -172,9 +172,32 @@ def settled(refuse: bool, workers: int) -> Shop:
     return shop
 
 
+def fed_alike(refuse: bool) -> Shop:
+    """The same writes are answered the same, however many of them are fed at once, with compactions in between."""
+    shop = Shop("append", refuse)
+    shop.marks = False
+    writes = drawn_writes(400, 4)
+    answers: List[Tuple[int, Reply]] = []
+    for size in (1, 10, 100, 400):
+        shop.call(OPEN, Raw(number(ALONE) + open_spelling(0, Options(memtable=120), [], b"", [])))
+        for first in range(0, len(writes), size):
+            shop.clock(FEED, Raw(writes_spelling(writes[first : first + size])))
+            shop.clock(SETTLE, ALONE)
+        shop.call(KEEP)
+        answers.append((size, asked(shop, writes, clocks=False)))
+
+    def check() -> None:
+        for size, reply in answers:
+            wants(reply.data, answers[0][1].data, f"the answers after feeds of {size}")
+        wants(answers[0][1].numbers(2), [10, 40], "how many answers there are")
+
+    shop.check("tests/clocked.py, feeds", check)
+    return shop
+
+
 def stories(refuse: bool) -> List[Story]:
     found: List[Story] = [make(refuse) for make in (effects, checksums, memtables, logs)]
-    return found + [settled(refuse, workers) for workers in (ALONE, THREADS)]
+    return found + [settled(refuse, workers) for workers in (ALONE, THREADS)] + [fed_alike(refuse)]
 
 
 def play(refuse: bool) -> Tuple[int, List[str], int]:
