@@ -11,6 +11,8 @@ answer once the story is played; what is to be checked then is added as a functi
 Each request for memory that a call makes can be refused (`refuse=True`): the program then makes the call again and again, with one
 request refused after the other, until it has an answer, and looks each time at all that it has. Each of these answers has to be
 either want of memory, with all as it was before, or the right one. `faults/refuse.c` refuses the requests, which needs glibc.
+
+A call that is added by `clock` is made once or several times. Its reply has the last answer, and the nanoseconds of them all.
 """
 
 import mmap
@@ -33,7 +35,7 @@ DESK, SHOP, SLOTS, HALL = 0, 1, 2, 3
 OPERATORS = {"append": 0, "counter": 1, "maximum": 2, "tail0": 3, "tail1": 4, "tail4": 5, "tail1000": 6}
 
 MADE, MEMORY, REFUSED = 0, 1, 2
-ONCE, LOOKS, MARKED = 0, 1, 2
+ONCE, LOOKS, MARKED, CLOCKED = 0, 1, 2, 3
 
 # The most requests of one call.
 MOST_REQUESTS = 20_000
@@ -78,6 +80,8 @@ class Reply:
     def __init__(self, name: str) -> None:
         self.name = name
         self.status: Optional[int] = None
+        # How long the call took, if it was clocked.
+        self.nanoseconds: Optional[int] = None
         self.data = b""
         self.place = 0
 
@@ -126,11 +130,13 @@ class Reply:
 
 
 class Frame(NamedTuple):
-    """A call as it is made: whether it may be marked or looks, what it says, which begins with its kind, and its answer."""
+    """A call as it is made: whether it may be marked, looks or is clocked, what it says, which begins with its kind, its answer, and how
+    often it is made if it is clocked."""
 
     way: int
     body: bytes
     reply: Reply
+    times: int = 1
 
     @property
     def kind(self) -> int:
@@ -158,6 +164,13 @@ def answers_in(output: bytes) -> List[Answer]:
         answers.append(Answer(int(found[1]), output[found.end() : end]))
         place = end + 1
     return answers
+
+
+def nanoseconds_in(answer: Optional[Answer], name: str) -> int:
+    """How long a call took, as the answer after its own tells it."""
+    if answer is None or answer.status != MADE:
+        raise Wrong(f"{name}: the clock has no answer")
+    return int(answer.data)
 
 
 def is_changeable(answer: Answer) -> bool:
@@ -247,6 +260,13 @@ class Story:
         self.frames.append(Frame(MARKED if is_marked else ONCE, body, reply))
         return reply
 
+    def clock(self, kind: int, *values: Union[Value, Raw], times: int = 1, name: str = "") -> Reply:
+        """Adds a call that is clocked, and made `times` times."""
+        parts = (value.spelling if isinstance(value, Raw) else spelled(value) for value in values)
+        reply = Reply(name or f"call {kind}")
+        self.frames.append(Frame(CLOCKED, number(kind) + b"".join(parts), reply, times))
+        return reply
+
     def check(self, where: str, function: Callable[[], None]) -> None:
         """Adds what is checked in the end: a function that raises `Wrong`."""
         self.checks.append((where, function))
@@ -255,7 +275,11 @@ class Story:
         """All calls. Of a marked one the first request to be refused is the first, or another."""
         calls = [number(self.scene), number(OPERATORS[self.operator])]
         for place, frame in enumerate(self.frames):
-            way = number(frame.way) + (number(first.get(place, 1)) if frame.way == MARKED else b"")
+            way = number(frame.way)
+            if frame.way == MARKED:
+                way += number(first.get(place, 1))
+            elif frame.way == CLOCKED:
+                way += number(frame.times)
             calls.append(b"%d %s%s\n" % (len(way) + len(frame.body), way, frame.body))
         return b"".join(calls)
 
@@ -277,6 +301,8 @@ class Story:
             if frame.way == MARKED:
                 attempts.append((place, made))
             frame.reply.fill(*answer)
+            if frame.way == CLOCKED:
+                frame.reply.nanoseconds = nanoseconds_in(next(ahead, None), frame.reply.name)
         if next(ahead, None) is not None and self.scene != SLOTS:
             raise Wrong("there are more answers than calls")
         return attempts

@@ -1,11 +1,11 @@
-//! What `bench_answers` does, in plain Rust with a `BTreeMap` of values, to measure it against.
+//! The work of `ours` in plain Rust with a `BTreeMap` of values, to measure it against.
 //!
 //!     baseline answers|hot|deleted|shared [--one-batch] [--threads N]
 //!     baseline operands
 //!     baseline rows
 //!
 //! It reads a log of counters from standard input, folds its writes as they come, and answers the workload's queries: the
-//! same line as `bench_answers`, with one run and a point for each key. With `--one-batch` all queries are one batch, and with
+//! same line as `ours`, with one run and a point for each key. With `--one-batch` all queries are one batch, and with
 //! `--threads` so many threads draw pieces of 16 queries. `operands` prints how many operands the lookups of `hot` fold:
 //! those behind the last put or deletion of each key, where nothing has folded them before. `rows` writes all keys that have a
 //! value, in order, and their values, each text behind its length of 4 bytes, low byte first.
@@ -31,7 +31,7 @@ const KEYS: u64 = 300_000;
 const HOT_KEYS: u64 = 1_000;
 const LOOKUPS: usize = 20_000;
 const SCANS: usize = 500;
-/// How many times as many queries `shared` has, which are those of `bench_shared`.
+/// The factor by which `shared` has more queries, which are those of `bench/shared`.
 const TIMES: usize = 10;
 const MOST_ROWS: u64 = 50;
 

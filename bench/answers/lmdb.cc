@@ -1,10 +1,10 @@
-// The queries of `bench_answers` by LMDB, over the rows that a compacted store has: one for each key, with its folded value.
+// The queries of `ours` by LMDB, over the rows that a compacted store has: one for each key, with its folded value.
 //
 //     lmdb answers|hot|deleted FILE
 //
 // It reads the rows in the order of their keys from standard input, as `baseline rows` writes them, puts them into a new database
 // FILE, one behind the other, and answers in one transaction that stays open: lookups by `mdb_get`, scans by one cursor. The
-// answers own their texts. Then it prints the same line as `bench_answers`, with one run and a point for each row. Nothing is
+// answers own their texts. Then it prints the same line as `ours`, with one run and a point for each row. Nothing is
 // synchronized to a disk (MDB_NOSYNC, MDB_NOMETASYNC), and what is written is written in place (MDB_WRITEMAP), so FILE should be
 // in memory, as in /dev/shm.
 

@@ -1,11 +1,11 @@
-// What `bench_answers` does, by RocksDB in its memory environment: a log of counters is recovered and compacted as
+// The work of `ours` by RocksDB in its memory environment: a log of counters is recovered and compacted as
 // universal compaction does, and a workload's queries are answered by one thread.
 //
 //     rocksdb answers|hot|deleted [--memtable N] [--trigger N] [--uncompacted]
 //
 // It makes an empty database, puts standard input beside it as its next log, opens it again, which recovers the log,
 // and waits until no flush and no compaction is running or pending. It reads all rows once, so that the cache of blocks
-// holds them, and answers by `DB::Get` and by one iterator for all scans. Then it prints the same line as `bench_answers`.
+// holds them, and answers by `DB::Get` and by one iterator for all scans. Then it prints the same line as `ours`.
 // `--memtable` is `write_buffer_size`, `--trigger` is `level0_file_num_compaction_trigger`, and `--uncompacted`
 // disables automatic compactions, so that each flushed file stays.
 

@@ -7,8 +7,8 @@
 # The parts are answers, workers, uncompacted, many, hot, deleted and ranged, or all of them where none is named. They take about seven
 # minutes, of which the workers, who have no RocksDB beside them, take four.
 #
-# It measures crates/bench_answers/out/bench_answers (or OURS), which `rt run` in crates/bench_answers builds; OURS=none
-# leaves it out. baseline.rs, machine.rs and ../make_log.rs are built by `rustc -O` in a temporary folder, rocksdb.cc by
+# It measures the library by ours (or OURS), which makes calls by crates/calls/out/calls (or CALLS); `rt run` in crates/calls builds
+# that. OURS=none leaves it out. baseline.rs, machine.rs and ../make_log.rs are built by `rustc -O` in a temporary folder, rocksdb.cc by
 # `g++ -O2` against RocksDB without assertions (../rocksdb/build.sh makes it) and against Debian's (librocksdb-dev), and lmdb.cc
 # against Debian's LMDB (liblmdb-dev); what isn't there is left out.
 #
@@ -26,7 +26,7 @@
 set -u -o pipefail
 
 here=$(cd "$(dirname "${BASH_SOURCE[0]}")" && pwd) || exit 1
-ours=${OURS:-$here/../../crates/bench_answers/out/bench_answers}
+ours=${OURS:-$here/ours}
 turns=${TURNS:-5}
 many_ours=172000
 many_rocksdb=300000

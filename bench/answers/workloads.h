@@ -1,4 +1,4 @@
-// The workloads of `bench_answers`, and how a store is measured by them in C++.
+// The workloads of `ours`, and how a store is measured by them in C++.
 
 #pragma once
 
@@ -29,7 +29,7 @@ inline std::vector<std::vector<Query>> BatchesOf(const std::string& workload) {
   return batches;
 }
 
-// Answers the batches of a workload by a store of so many runs and points, and prints the line that `bench_answers` prints.
+// Answers the batches of a workload by a store of so many runs and points, and prints the line that `ours` prints.
 template <typename Reader>
 void Measure(const Reader& reader, const std::string& workload, size_t runs, uint64_t points) {
   using Clock = std::chrono::steady_clock;

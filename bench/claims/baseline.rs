@@ -1,10 +1,10 @@
-//! The loop of `bench_parts claims` in plain Rust, over `AtomicU64` alone.
+//! Takes and gives of slots in plain Rust, over `AtomicU64` alone.
 use std::sync::atomic::{AtomicU64, Ordering::SeqCst};
 use std::time::Instant;
 
 const COUNT: usize = 256;
 
-/// Words that begin 16 bytes into a cache line, as `malloc` lays those of `bench_parts claims`. So in both programs the
+/// Words that begin 16 bytes into a cache line, as `malloc` lays those of ours. So in both programs the
 /// same slots share a line: 0 to 5, and 6 to 13.
 #[repr(align(64))]
 struct Lines([AtomicU64; COUNT + 2]);

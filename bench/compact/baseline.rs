@@ -1,4 +1,9 @@
-//! The compactions of `bench_parts compact` in plain Rust (`bench/compaction.rs`), over runs of a plain layout (`bench/store.rs`).
+//! Compactions in plain Rust (`bench/compaction.rs`), over runs of a plain layout (`bench/store.rs`).
+//!
+//!     baseline SHAPE RUNS WRITES [KEEPS WHERE]
+//!     baseline writes SHAPE RUNS WRITES
+//!
+//! `writes` writes the writes instead, each as a byte for its kind and two texts, each after its length of 4 bytes, low byte first.
 
 #[path = "../compaction.rs"]
 mod compaction;
@@ -6,6 +11,7 @@ mod compaction;
 mod store;
 
 use compaction::{Counter, Keeping, Operator, compact};
+use std::io::{self, BufWriter, Write as _};
 use std::time::Instant;
 use store::{Kind, Memtable, Numbers, Run, What};
 
@@ -61,53 +67,70 @@ fn digits(number: u64) -> [u8; 10] {
     digits
 }
 
-/// Inserts a put of the sequence, or a merge of it.
-fn insert_number(memtable: &mut Memtable, seq: u64, key: &[u8], merges: bool) {
-    let kind = if merges { Kind::Merge } else { Kind::Put };
-    memtable.insert(seq, kind, key, &seq.to_le_bytes());
-}
-
-/// Inserts the write behind so many others.
-fn insert_next(memtable: &mut Memtable, load: Load, before: u64, random: u64) {
-    let seq = before + 1;
+/// The write after `before` others: its kind and its texts.
+fn write_after(load: Load, before: u64, random: u64) -> (Kind, Vec<u8>, Vec<u8>) {
     let all = load.runs * load.writes;
+    let number = (before + 1).to_le_bytes().to_vec();
+    let kind = if random & 1 == 1 { Kind::Merge } else { Kind::Put };
     match load.shape {
         Shape::Counter => {
             let key = (random >> 1) % (all / POINTS_OF_A_KEY);
-            insert_number(
-                memtable,
-                seq,
-                &key_at(key.wrapping_mul(SPREAD)),
-                random & 1 == 1,
-            );
+            (kind, key_at(key.wrapping_mul(SPREAD)).to_vec(), number)
         }
-        Shape::Append => memtable.insert(seq, Kind::Merge, b"log", &digits(before)),
+        Shape::Append => (Kind::Merge, b"log".to_vec(), digits(before).to_vec()),
         Shape::Ranges => {
             let place = (before * STRIDE) % all;
             let first = place / 6 * 5;
             if place % 6 == 5 {
-                let (begin, end) = (key_at(first), key_at(first + 3));
-                memtable.insert(seq, Kind::DeleteRange, &begin, &end);
+                (Kind::DeleteRange, key_at(first).to_vec(), key_at(first + 3).to_vec())
             } else {
-                insert_number(memtable, seq, &key_at(first + place % 6), random & 1 == 1);
+                (kind, key_at(first + place % 6).to_vec(), number)
             }
         }
     }
 }
 
+/// Calls a function with each write and its sequence.
+fn for_each_write(load: Load, mut take: impl FnMut(u64, Kind, &[u8], &[u8])) {
+    let mut numbers = Numbers { state: 1 };
+    for before in 0..load.runs * load.writes {
+        let (kind, first, second) = write_after(load, before, numbers.next());
+        take(before + 1, kind, &first, &second);
+    }
+}
+
 /// The runs, the newest first.
 fn loaded(load: Load) -> Vec<Run> {
-    let mut numbers = Numbers { state: 1 };
     let mut runs = Vec::new();
     let mut memtable = Memtable::default();
-    for before in 0..load.runs * load.writes {
-        insert_next(&mut memtable, load, before, numbers.next());
-        if (before + 1) % load.writes == 0 {
+    for_each_write(load, |seq, kind, first, second| {
+        memtable.insert(seq, kind, first, second);
+        if seq % load.writes == 0 {
             runs.push(std::mem::take(&mut memtable).flush());
         }
-    }
+    });
     runs.reverse();
     runs
+}
+
+/// Writes the writes for the player.
+fn write_all(load: Load) -> io::Result<()> {
+    let mut all = Vec::new();
+    for_each_write(load, |_, kind, first, second| {
+        all.push(match kind {
+            Kind::Put => b'p',
+            Kind::Delete => b'd',
+            Kind::Merge => b'm',
+            Kind::DeleteRange => b'r',
+        });
+        for text in [first, second] {
+            all.extend_from_slice(&(text.len() as u32).to_le_bytes());
+            all.extend_from_slice(text);
+        }
+    });
+    let mut out = BufWriter::new(io::stdout().lock());
+    out.write_all(&all)?;
+    out.flush()
 }
 
 /// Keeps at equal distances, of which the last is the last sequence.
@@ -177,27 +200,9 @@ fn measured(plan: Plan) -> (u128, String) {
     (nanoseconds, figures)
 }
 
-fn main() {
-    let words: Vec<String> = std::env::args().skip(1).collect();
-    if words.is_empty() {
-        for shape in [Shape::Counter, Shape::Append, Shape::Ranges] {
-            let load = Load {
-                shape,
-                runs: 4,
-                writes: 300,
-            };
-            for oldest in [false, true] {
-                let (_, figures) = measured(Plan {
-                    load,
-                    keeps: 3,
-                    oldest,
-                });
-                println!("{figures}");
-            }
-        }
-        return;
-    }
-    let load = Load {
+/// The runs that words name.
+fn load_of(words: &[String]) -> Load {
+    Load {
         shape: match words[0].as_str() {
             "counter" => Shape::Counter,
             "append" => Shape::Append,
@@ -205,10 +210,18 @@ fn main() {
         },
         runs: words[1].parse().expect("a number of runs"),
         writes: words[2].parse().expect("a number of writes"),
-    };
+    }
+}
+
+fn main() -> io::Result<()> {
+    let words: Vec<String> = std::env::args().skip(1).collect();
+    if words[0] == "writes" {
+        return write_all(load_of(&words[1..]));
+    }
+    let load = load_of(&words);
     let Some(keeps) = words.get(3) else {
         println!("{}", loaded(load).len());
-        return;
+        return Ok(());
     };
     let (nanoseconds, figures) = measured(Plan {
         load,
@@ -216,4 +229,5 @@ fn main() {
         oldest: words.get(4).is_some_and(|word| word == "oldest"),
     });
     println!("{nanoseconds} {figures}");
+    Ok(())
 }

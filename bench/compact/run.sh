@@ -1,7 +1,8 @@
 #!/bin/sh
 # Compactions of several runs into one, beside plain Rust with the same layout in one thread. Ours merges four parts of
 # the key space side by side from 16,384 points on, and folds more than a thousand points of a key in two threads.
-# Needs rustc, GNU time, and crates/bench_parts/out/bench_parts, which `rt run` in crates/bench_parts builds.
+# Needs rustc, GNU time, python3, and crates/calls/out/calls (or CALLS), which `rt run` in crates/calls builds.
+# The memory of ours is without what spells the calls.
 # counter: keys of 16 bytes and values of 8, half puts and half merges, eight points to a key over all runs. append: one
 # key, operands of 10 bytes. ranges: five keys with a point each, and a range deletion over three of them.
 # Each line has the medians of TURNS runs (9), which take turns, and both programs must come to the same run. A growth is
@@ -9,7 +10,6 @@
 # RESULTS names a file for the figures as JSON.
 set -eu
 here=$(cd "$(dirname "$0")" && pwd)
-ours=${OURS:-$here/../../crates/bench_parts/out/bench_parts}
 turns=${TURNS:-9}
 work=$(mktemp -d)
 trap 'rm -r "$work"' EXIT
@@ -17,10 +17,17 @@ folder=$work
 . "$here/../results.sh"
 rustc --edition 2021 -O "$here/baseline.rs" -o "$work/baseline"
 
-run() { # FILE PROGRAM WORDS: appends the figures of one run, and behind them its most memory in KiB
+# Append the figures of one run, and after them its most memory in KiB.
+run_ours() { # FILE WORDS
     file=$1
     shift
-    /usr/bin/time -f %M -o "$work/memory" "$@" > "$work/figures"
+    "$here/../parts" compact "$@" < "$work/writes" >> "$work/$file"
+}
+
+run_rust() { # FILE WORDS
+    file=$1
+    shift
+    /usr/bin/time -f %M -o "$work/memory" "$work/baseline" "$@" > "$work/figures"
     paste -d ' ' "$work/figures" "$work/memory" >> "$work/$file"
 }
 
@@ -32,9 +39,10 @@ measure() { # NAME HALF WORDS
     name=$1
     half=$2
     shift 2
+    "$work/baseline" writes "$1" "$2" "$3" > "$work/writes"
     for _ in $(seq "$turns"); do
-        run "ours.$name" "$ours" compact "$@"
-        run "rust.$name" "$work/baseline" "$@"
+        run_ours "ours.$name" "$@"
+        run_rust "rust.$name" "$@"
     done
     if [ "$(cut -d ' ' -f 2-5 "$work/ours.$name" "$work/rust.$name" | sort -u | wc -l)" -ne 1 ]; then
         echo "run.sh: the runs of $* differ" >&2
@@ -66,8 +74,9 @@ keep_measured() { # WORDS: the figures of what `measure` measured
 }
 
 loads() { # WORDS: the memory of the runs that are compacted, in MiB
-    run ours.load "$ours" compact "$@"
-    run rust.load "$work/baseline" "$@"
+    "$work/baseline" writes "$@" > "$work/writes"
+    run_ours ours.load "$@"
+    run_rust rust.load "$@"
     awk -v name="$*" -v memory="$(tail -n 1 "$work/ours.load" | cut -d ' ' -f 2)" \
         -v other="$(tail -n 1 "$work/rust.load" | cut -d ' ' -f 2)" 'BEGIN {
         printf "%-30s %24s %8.1f %8.1f %6.2f\n", name, "", memory / 1024, other / 1024, memory / other

@@ -1,12 +1,11 @@
 #!/bin/sh
 # CRC-32C by `uc_logrec` beside the same algorithm, slicing by 8, in plain Rust.
-# Needs rustc, and crates/bench_parts/out/bench_parts, which `rt run` in crates/bench_parts builds.
+# Needs rustc, python3, and crates/calls/out/calls (or CALLS), which `rt run` in crates/calls builds.
 # A round is the sum of the whole buffer. Each line has the medians of 9 runs, which take turns, and both
 # programs must come to the same checksum. The load is the machine's, over the last minute, 5 and 15.
 # RESULTS names a file for the figures as JSON.
 set -eu
 here=$(cd "$(dirname "$0")" && pwd)
-ours=${OURS:-$here/../../crates/bench_parts/out/bench_parts}
 work=$(mktemp -d)
 trap 'rm -r "$work"' EXIT
 folder=$work
@@ -18,11 +17,12 @@ load() {
 }
 
 measure() { # SIZE_MIB ROUNDS
+    "$work/baseline" bytes "$1" > "$work/bytes"
     : > "$work/ours"
     : > "$work/rust"
     for _ in 1 2 3 4 5 6 7 8 9; do
-        "$ours" crc "$1" "$2" >> "$work/ours"
-        "$work/baseline" "$1" "$2" >> "$work/rust"
+        "$here/../parts" crc "$2" < "$work/bytes" >> "$work/ours"
+        "$work/baseline" "$2" < "$work/bytes" >> "$work/rust"
     done
     if [ "$(cut -d ' ' -f 2 "$work/ours" "$work/rust" | sort -u | wc -l)" -ne 1 ]; then
         echo "run.sh: the checksums of $1 MiB differ" >&2

@@ -1,4 +1,4 @@
-//! The folds of `bench_parts fold` in plain Rust: each operand is appended to one `Vec<u8>`, or added to it.
+//! Folds of merge operands in plain Rust: each operand is appended to one `Vec<u8>`, or added to it.
 use std::time::Instant;
 
 fn digits(number: u64) -> [u8; 10] {

@@ -1,12 +1,11 @@
 #!/bin/sh
 # Folds of merge operands into one key, by `Effect::then`, beside plain Rust that extends one `Vec<u8>`.
-# Needs rustc, and crates/bench_parts/out/bench_parts, which `rt run` in crates/bench_parts builds.
+# Needs rustc, python3, and crates/calls/out/calls (or CALLS), which `rt run` in crates/calls builds.
 # Append: operands of 10 bytes, joined with a comma. Counter: numbers of 8 bytes, added. Each line has the medians
 # of 25 runs, which take turns, and both programs must come to the same operand. The second line of a kind has twice
 # the operands; its last column is our time over that of the first. RESULTS names a file for the figures as JSON.
 set -eu
 here=$(cd "$(dirname "$0")" && pwd)
-ours=${OURS:-$here/../../crates/bench_parts/out/bench_parts}
 work=$(mktemp -d)
 trap 'rm -r "$work"' EXIT
 folder=$work
@@ -18,7 +17,7 @@ measure() { # KIND COUNT
     : > "$work/ours"
     : > "$work/rust"
     for _ in $(seq 25); do
-        "$ours" fold "$1" "$2" >> "$work/ours"
+        "$here/../parts" fold "$1" "$2" >> "$work/ours"
         "$work/baseline" "$1" "$2" >> "$work/rust"
     done
     if [ "$(cut -d ' ' -f 2,3 "$work/ours" "$work/rust" | sort -u | wc -l)" -ne 1 ]; then

@@ -1,12 +1,12 @@
-//! What `bench_live` does, in plain Rust with a `BTreeMap` of values, to measure it against.
+//! The work of `ours` in plain Rust with a `BTreeMap` of values, to measure it against.
 //!
 //!     baseline live|feeds|fed SIZE COUNT
 //!     baseline writes COUNT
 //!
 //! It reads a log of counters from standard input, and applies its first COUNT batches of SIZE writes to the map: the same line as
-//! `bench_live`, with one run, a point for each key, and no time for compactions. It has no snapshots: each lookup reads what is
-//! there then. `fed` does what `bench_shared fed` does, by versions of our layout behind `RwLock<Arc<_>>` (`fed.rs`). `writes` writes
-//! the first COUNT writes for `rocksdb`, each as a byte for its kind and two texts, each behind its length of 4 bytes, low byte first.
+//! `ours`, with one run, a point for each key, and no time for compactions. It has no snapshots: each lookup reads what is
+//! there then. `fed` does what `bench/beside fed` does, by versions of our layout behind `RwLock<Arc<_>>` (`fed.rs`). `writes` writes
+//! the first COUNT writes for `rocksdb` and `ours`, each as a byte for its kind and two texts, each after its length of 4 bytes, low byte first.
 
 #[path = "../compaction.rs"]
 mod compaction;

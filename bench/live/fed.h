@@ -1,4 +1,4 @@
-// What `bench_shared fed` does, by RocksDB: one thread writes batches beside one compaction at a time and two readers.
+// The work of `bench/beside fed` by RocksDB: one thread writes batches beside one compaction at a time and two readers.
 
 #pragma once
 

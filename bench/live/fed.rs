@@ -1,4 +1,4 @@
-//! What `bench_shared fed` does, in plain Rust: versions of our layout behind `RwLock<Arc<_>>`, which one thread feeds, one compacts
+//! The work of `bench/beside fed` in plain Rust: versions of our layout behind `RwLock<Arc<_>>`, which one thread feeds, one compacts
 //! and two read.
 
 use crate::compaction::{compact, Counter, Keeping};

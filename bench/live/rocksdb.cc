@@ -1,4 +1,4 @@
-// What `bench_live` does, by RocksDB in its memory environment: batches are written to a store that is empty at first.
+// The work of `ours` by RocksDB in its memory environment: batches are written to a store that is empty at first.
 //
 //     rocksdb live|feeds|written|fed SIZE COUNT
 //
@@ -6,7 +6,7 @@
 // starts. Each batch goes by `DB::Write` without a log, and is flushed. Behind it the program waits until nothing is picked for a
 // compaction any more, and `live` takes a snapshot, gets 100 keys at it, and releases it. `feeds` gets 20,000 keys at the end alone.
 // `written` is `feeds` with no flush but those of full memtables, and waits for nothing in between. It prints the same line as
-// `bench_live`, with the flushes among the feeds. `fed` does what `bench_shared fed` does, by one compaction at a time (fed.h).
+// `ours`, with the flushes among the feeds. `fed` does what `bench/beside fed` does, by one compaction at a time (fed.h).
 
 #include "compactions.h"
 #include "fed.h"

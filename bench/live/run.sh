@@ -6,8 +6,9 @@
 #
 # The parts are live, feeds and shared, or all where none is named.
 #
-# It measures crates/bench_live/out/bench_live (or OURS), and in the part shared crates/bench_shared/out/bench_shared (or OURS_SHARED).
-# `rt run` in their crates builds them; `none` leaves one out. baseline.rs and ../make_log.rs are built by `rustc -O` in a temporary
+# It measures the library by ours (or OURS), which makes calls by crates/calls/out/calls (or CALLS), and in the part shared
+# crates/bench_beside/out/bench_beside (or BESIDE) by ../beside (or OURS_SHARED). `rt run` in their crates builds them; `none` leaves one
+# out. baseline.rs and ../make_log.rs are built by `rustc -O` in a temporary
 # folder, and rocksdb.cc by `g++ -O2` against RocksDB without assertions (../rocksdb/build.sh makes it) and against Debian's
 # (librocksdb-dev), whose assertions are on; what isn't there is left out. RocksDB has the options of ../rocksdb_store.h, which are
 # printed, in its memory environment. It writes no log, as ours writes none.
@@ -38,8 +39,8 @@
 set -u -o pipefail
 
 here=$(cd "$(dirname "${BASH_SOURCE[0]}")" && pwd) || exit 1
-ours=${OURS:-$here/../../crates/bench_live/out/bench_live}
-ours_shared=${OURS_SHARED:-$here/../../crates/bench_shared/out/bench_shared}
+ours=${OURS:-$here/ours}
+ours_shared=${OURS_SHARED:-$here/../beside}
 turns=${TURNS:-3}
 writes=${WRITES:-1300000}
 read -ra feed_counts <<< "${FEEDS:-2000 2000 2000 1000 100}"
@@ -91,7 +92,7 @@ run_once() { # NAME
     local program=${programs[$1]} asked
     read -ra asked <<< "${words[$1]}"
     case $program in
-        ours) "$ours" "${asked[@]}" < "$folder/log" ;;
+        ours) "$ours" "${asked[@]}" < "$folder/writes" ;;
         ours_shared) "$ours_shared" "${asked[@]}" < "$folder/log" ;;
         baseline) "$folder/baseline" "${asked[@]}" < "$folder/log" ;;
         *) "$folder/$program" "${asked[@]}" < "$folder/writes" ;;

@@ -3,14 +3,13 @@
 #
 #     bench/read_writes/run.sh
 #
-# It needs rustc, and crates/bench_parts/out/bench_parts (or OURS), which `rt run` in crates/bench_parts builds. It
+# It needs rustc, python3, and crates/calls/out/calls (or CALLS), which `rt run` in crates/calls builds. It
 # makes logs of 60 MiB by ../make_log.rs, checks that both programs come to the same writes, and prints the medians of
 # nine runs, which take turns, in seconds of the reading alone, and the most memory that a run held. RESULTS
 # names a file for the figures as JSON.
 set -u -o pipefail
 
 here=$(cd "$(dirname "${BASH_SOURCE[0]}")" && pwd) || exit 1
-ours=$(realpath -e "${OURS:-$here/../../crates/bench_parts/out/bench_parts}") || exit 2
 folder=$(mktemp -d) || exit 1
 trap 'rm -rf "$folder"' EXIT
 
@@ -19,10 +18,16 @@ trap 'rm -rf "$folder"' EXIT
 rustc --edition 2021 -O -o "$folder/make_log" "$here/../make_log.rs" || exit 1
 rustc --edition 2021 -O -o "$folder/baseline" "$here/baseline.rs" || exit 1
 
-run() { # NAME PROGRAM WORDS..: a line with nanoseconds, the writes and a checksum, and one with the memory
-    local name=$1
-    shift
-    /usr/bin/time -f %M -a -o "$folder/$name.memory" "$@" < "$folder/log" >> "$folder/$name.lines" || exit 1
+# A line with nanoseconds, the writes, a checksum and the memory.
+run_ours() {
+    "$here/../parts" read < "$folder/log" > "$folder/line" || exit 1
+    cat "$folder/line" >> "$folder/ours.lines"
+    cut -d ' ' -f 4 "$folder/line" >> "$folder/ours.memory"
+}
+
+# A line without the memory, which has one of its own.
+run_rust() {
+    /usr/bin/time -f %M -a -o "$folder/rust.memory" "$folder/baseline" < "$folder/log" >> "$folder/rust.lines" || exit 1
 }
 
 median() { # FILE
@@ -37,8 +42,8 @@ measure() { # KIND MIB
     rm -f "$folder"/*.lines "$folder"/*.memory
     "$folder/make_log" "$1" "$2" > "$folder/log" || exit 1
     for _ in 1 2 3 4 5 6 7 8 9; do
-        run ours "$ours" read
-        run rust "$folder/baseline"
+        run_ours
+        run_rust
     done
     if [ "$(cut -d ' ' -f 2,3 "$folder"/*.lines | sort -u | wc -l)" -ne 1 ]; then
         echo "run.sh: the writes differ" >&2

@@ -1,15 +1,19 @@
-//! The load and the lookups of `bench_parts run` in plain Rust, with the same layout (`bench/store.rs`).
+//! Writes loaded into memtables that are flushed to runs, and lookups in these, in plain Rust with the same layout (`bench/store.rs`).
+//!
+//!     baseline COUNT
+//!     baseline writes COUNT
+//!
+//! `writes` writes the writes instead, each as a byte for its kind and two texts, each after its length of 4 bytes, low byte first.
 
 #[path = "../store.rs"]
 mod store;
 
+use std::io::{self, BufWriter, Write as _};
 use std::time::Instant;
 use store::{BLOCK_POINTS, Kind, Memtable, Numbers, Run, What, prefix_of};
 
 const LIMIT: u64 = 4 << 20;
 const LOOKUPS: u64 = 20_000;
-const FEW: u64 = 1000;
-const FEW_LIMIT: u64 = 8 << 10;
 const WRITES_TO_A_KEY: u64 = 8;
 const SPREAD: u64 = 0x9e37_79b9_7f4a_7c15;
 const REACH: u64 = 1 << 50;
@@ -139,28 +143,69 @@ fn key_at(number: u64) -> [u8; 16] {
     key
 }
 
-/// Inserts the write behind so many others.
-fn insert_next(memtable: &mut Memtable, before: u64, random: u64, keys: u64) {
-    let seq = before + 1;
-    assert!(memtable.last < seq, "sequences don't rise");
+/// A write, but for its sequence.
+#[derive(Clone, Copy)]
+struct Change {
+    kind: Kind,
+    key: [u8; 16],
+    /// Where a range ends.
+    end: [u8; 16],
+}
+
+/// The change that a random number says.
+fn change_of(random: u64, keys: u64) -> Change {
     let place = spread((random >> 14).checked_rem(keys).unwrap_or(0));
-    let (key, end) = (key_at(place), key_at(place.saturating_add(REACH)));
-    let value = seq.to_le_bytes();
-    match random & 0x3fff {
-        0 => memtable.insert(seq, Kind::DeleteRange, &key, &end),
-        1..=0xff => memtable.insert(seq, Kind::Delete, &key, &[]),
-        0x100..=0x1fff => memtable.insert(seq, Kind::Put, &key, &value),
-        _ => memtable.insert(seq, Kind::Merge, &key, &value),
+    let kind = match random & 0x3fff {
+        0 => Kind::DeleteRange,
+        1..=0xff => Kind::Delete,
+        0x100..=0x1fff => Kind::Put,
+        _ => Kind::Merge,
+    };
+    Change { kind, key: key_at(place), end: key_at(place.saturating_add(REACH)) }
+}
+
+/// So many changes, each drawn as it comes.
+fn drawn(writes: u64) -> impl Iterator<Item = Change> {
+    let mut numbers = Numbers { state: 1 };
+    (0..writes).map(move |_| change_of(numbers.next(), writes / WRITES_TO_A_KEY))
+}
+
+/// The second text of a change: a value, an operand, where a range ends, or none.
+fn with_second<R>(seq: u64, change: &Change, then: impl FnOnce(&[u8]) -> R) -> R {
+    match change.kind {
+        Kind::DeleteRange => then(&change.end),
+        Kind::Delete => then(&[]),
+        Kind::Put | Kind::Merge => then(&seq.to_le_bytes()),
     }
 }
 
+/// Writes changes for the player.
+fn write_all(changes: impl Iterator<Item = Change>) -> io::Result<()> {
+    let mut out = BufWriter::new(io::stdout().lock());
+    for (seq, change) in (1..).zip(changes) {
+        let kind = match change.kind {
+            Kind::Put => b'p',
+            Kind::Delete => b'd',
+            Kind::Merge => b'm',
+            Kind::DeleteRange => b'r',
+        };
+        out.write_all(&[kind])?;
+        out.write_all(&(change.key.len() as u32).to_le_bytes())?;
+        out.write_all(&change.key)?;
+        with_second(seq, &change, |second| {
+            out.write_all(&(second.len() as u32).to_le_bytes())?;
+            out.write_all(second)
+        })?;
+    }
+    out.flush()
+}
+
 /// The runs of the writes, the oldest first.
-fn loaded(writes: u64, limit: u64) -> Vec<Run> {
-    let mut numbers = Numbers { state: 1 };
+fn loaded(changes: impl Iterator<Item = Change>, limit: u64) -> Vec<Run> {
     let mut runs = Vec::new();
     let mut memtable = Memtable::default();
-    for before in 0..writes {
-        insert_next(&mut memtable, before, numbers.next(), writes / WRITES_TO_A_KEY);
+    for (seq, change) in (1..).zip(changes) {
+        with_second(seq, &change, |second| memtable.insert(seq, change.kind, &change.key, second));
         if memtable.size >= limit {
             runs.push(std::mem::take(&mut memtable).flush());
         }
@@ -214,17 +259,15 @@ fn totals(runs: &[Run]) -> (usize, u64) {
     (points, runs.iter().map(|run| run.size).sum())
 }
 
-fn main() {
-    let Some(word) = std::env::args().nth(1) else {
-        let runs = loaded(FEW, FEW_LIMIT);
-        let checksum = looked_up(&runs, FEW, FEW);
-        let (points, size) = totals(&runs);
-        println!("{} {points} {size} {checksum:016x}", runs.len());
-        return;
-    };
-    let writes = word.parse().expect("a number of writes");
+fn main() -> io::Result<()> {
+    let words: Vec<String> = std::env::args().skip(1).collect();
+    let count = words.last().expect("a number of writes");
+    let writes = count.parse().expect("a number of writes");
+    if words.len() > 1 {
+        return write_all(drawn(writes));
+    }
     let start = Instant::now();
-    let runs = loaded(writes, LIMIT);
+    let runs = loaded(drawn(writes), LIMIT);
     let loading = start.elapsed().as_nanos();
     let start = Instant::now();
     let checksum = looked_up(&runs, writes, LOOKUPS);
@@ -232,4 +275,5 @@ fn main() {
     let (points, size) = totals(&runs);
     let count = runs.len();
     println!("{loading} {looking_up} {count} {points} {size} {checksum:016x}");
+    Ok(())
 }

@@ -1,13 +1,13 @@
 #!/bin/sh
 # Writes loaded into memtables of 4 MiB that are flushed to runs, and 20,000 lookups over all runs, beside plain
 # Rust with the same layout.
-# Needs rustc, GNU time, and crates/bench_parts/out/bench_parts, which `rt run` in crates/bench_parts builds.
+# Needs rustc, GNU time, python3, and crates/calls/out/calls (or CALLS), which `rt run` in crates/calls builds.
+# Ours is given the writes, and plain Rust draws each as it comes, which is a few nanoseconds a write.
 # The writes have keys of 16 bytes and values of 8, half of them merges, eight to a key. Each line has the medians of
 # TURNS runs (9), which take turns, and both programs must come to the same runs and answers. The second line of a
 # step has twice the writes; its last columns are the times over those of the first. RESULTS names a file for the figures as JSON.
 set -eu
 here=$(cd "$(dirname "$0")" && pwd)
-ours=${OURS:-$here/../../crates/bench_parts/out/bench_parts}
 turns=${TURNS:-9}
 work=$(mktemp -d)
 trap 'rm -r "$work"' EXIT
@@ -15,11 +15,14 @@ folder=$work
 . "$here/../results.sh"
 rustc --edition 2021 -O "$here/baseline.rs" -o "$work/baseline"
 
-run() { # FILE PROGRAM WORDS: appends the figures of one run, and behind them its most memory in KiB
-    file=$1
-    shift
-    /usr/bin/time -f %M -o "$work/memory" "$@" > "$work/figures"
-    paste -d ' ' "$work/figures" "$work/memory" >> "$work/$file"
+# Append the figures of one run, and after them its most memory in KiB.
+run_ours() { # WRITES
+    "$here/../parts" run "$1" < "$work/writes" >> "$work/ours.$1"
+}
+
+run_rust() { # WRITES
+    /usr/bin/time -f %M -o "$work/memory" "$work/baseline" "$1" > "$work/figures"
+    paste -d ' ' "$work/figures" "$work/memory" >> "$work/rust.$1"
 }
 
 check_same() { # WRITES
@@ -34,9 +37,10 @@ median() { # FILE FIELD
 }
 
 measure() { # WRITES
+    "$work/baseline" writes "$1" > "$work/writes"
     for _ in $(seq "$turns"); do
-        run "ours.$1" "$ours" run "$1"
-        run "rust.$1" "$work/baseline" "$1"
+        run_ours "$1"
+        run_rust "$1"
     done
     check_same "$1"
 }

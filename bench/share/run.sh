@@ -1,11 +1,11 @@
 #!/bin/sh
 # Pins and installs of a store that threads share, beside the same in plain Rust over RwLock<Arc<_>>.
-# Needs rustc, GNU time, and crates/bench_share/out/bench_share, which `rt run` in crates/bench_share builds.
+# Needs rustc, python3, and crates/bench_beside/out/bench_beside (or BESIDE), which `rt run` in crates/bench_beside builds.
 # A store has 256 runs, and an installer makes them one by 255 installs of the two newest. Each line has the medians of 9 runs,
 # which take turns. RESULTS names a file for the figures as JSON.
 set -eu
 here=$(cd "$(dirname "$0")" && pwd)
-ours=${OURS:-$here/../../crates/bench_share/out/bench_share}
+ours=${OURS:-$here/../beside}
 rounds=${ROUNDS:-5000000}
 stores=${STORES:-40}
 work=$(mktemp -d)
@@ -13,6 +13,11 @@ trap 'rm -r "$work"' EXIT
 folder=$work
 . "$here/../results.sh"
 rustc -O "$here/baseline.rs" -o "$work/baseline"
+rustc --edition 2021 -O "$here/../make_log.rs" -o "$work/make_log"
+for points in 1 1000; do
+    "$ours" lines "$points" | "$work/make_log" lines > "$work/log.$points"
+done
+export LOG=$work/log.1
 
 # The medians of each column of nine runs of both, which take turns.
 both() {
@@ -63,6 +68,7 @@ for readers in 1 2 4; do
 done
 printf '%-8s %8s %14s %14s\n' 'work, ns' points compaction install
 for points in 1 1000; do
+    LOG=$work/log.$points
     both installs "$points" 20
     for of in ours rust; do
         awk -v of="$of" -v points="$points" '{ printf "%-8s %8s %14s %14s\n", of, points, $1, $2 }' "$work/$of.medians"
@@ -71,9 +77,10 @@ for points in 1 1000; do
     done
     keep installs "$points points" compaction ns "$(cut -d ' ' -f 1 "$work/ours.medians")"
 done
+LOG=$work/log.1
 printf '%-8s %8s %14s\n' memory installs 'KiB at most'
 for count in 1 40; do
-    kib=$(/usr/bin/time -f %M "$ours" installs 1 "$count" 2>&1 > /dev/null)
+    kib=$("$ours" installs 1 "$count" | cut -d ' ' -f 3)
     printf '%-8s %8s %14s\n' ours $((count * 255)) "$kib"
     keep memory "$((count * 255)) installs" ours KiB "$kib"
 done

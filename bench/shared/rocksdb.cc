@@ -1,4 +1,4 @@
-// What `bench_shared` does, by RocksDB in its memory environment: a log of counters is recovered and not compacted, and then a
+// The work of `bench/beside batch` by RocksDB in its memory environment: a log of counters is recovered and not compacted, and then a
 // batch of queries, or single lookups, are answered while its background compactions run.
 //
 //     rocksdb beside THREADS COMPACTIONS
@@ -6,7 +6,7 @@
 //
 // It recovers standard input as a log with automatic compactions disabled, reads all rows once, so that the cache of blocks holds
 // them, and enables compactions as the clock starts, so many at once at the most, each in as many parts, or leaves them disabled
-// where that is 0. It prints the same lines as `bench_shared`, with a 0 for the installs, which it doesn't count.
+// where that is 0. It prints the same lines as `bench/beside`, with a 0 for the installs, which it doesn't count.
 
 #include "../rocksdb_queries.h"
 

@@ -5,7 +5,8 @@
 #
 #     bench/shared/run.sh
 #
-# It measures crates/bench_shared/out/bench_shared (or OURS), which `rt run` in crates/bench_shared builds; OURS=none leaves it out.
+# It measures crates/bench_beside/out/bench_beside (or BESIDE) by ../beside (or OURS), and the batch from one version by ../answers/ours
+# (or OURS_PLAIN) and crates/calls/out/calls (or CALLS). `rt run` in their crates builds them; OURS=none leaves ours out.
 # ../answers/baseline.rs and ../make_log.rs are built by `rustc -O` in a temporary folder, and rocksdb.cc by `g++ -O2` against RocksDB
 # without assertions (../rocksdb/build.sh makes it) and against Debian's (librocksdb-dev), whose assertions are on; what isn't there is
 # left out. RocksDB has the options of ../rocksdb_store.h, which are printed, but as many compactions at once as ours has compactors, and
@@ -19,7 +20,8 @@
 set -u -o pipefail
 
 here=$(cd "$(dirname "${BASH_SOURCE[0]}")" && pwd) || exit 1
-ours=${OURS:-$here/../../crates/bench_shared/out/bench_shared}
+ours=${OURS:-$here/../beside}
+plain=${OURS_PLAIN:-$here/../answers/ours}
 turns=${TURNS:-3}
 folder=$(mktemp -d) || exit 1
 trap 'rm -rf "$folder"' EXIT
@@ -54,6 +56,11 @@ plan() { # NAME COMMAND..
 
 plan_ours() { # NAME WORDS..
     [ "$ours" = none ] || plan "$1" "$ours" "${@:2}"
+}
+
+# The same batch from the version that the store opens with.
+plan_plain() { # WORKERS
+    [ "$ours" = none ] || plan "plain_$1" "$plain" shared --uncompacted --one-batch --workers "$1"
 }
 
 # RocksDB without assertions, and, beside one compactor, Debian's, which has no row of its own but stands in a column.
@@ -149,10 +156,10 @@ set_goals() {
 batches() {
     local workers compactors name
     for workers in 1 2 4; do
-        plan_ours "plain_$workers" plain "$workers"
+        plan_plain "$workers"
         plan "BTreeMap_$workers" "$folder/baseline" shared --one-batch --threads "$workers"
         for compactors in 0 1 2; do
-            plan_ours "ours_${workers}_beside_$compactors" beside "$workers" "$compactors"
+            plan_ours "ours_${workers}_beside_$compactors" batch "$workers" "$compactors"
             plan_rocksdb "_${workers}_beside_$compactors" beside "$workers" "$compactors"
         done
     done

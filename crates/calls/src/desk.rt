@@ -9,6 +9,7 @@ use std::io;
 use std::marker::Sync;
 use std::sync::Arc;
 use std::thread::Threads;
+use std::time::Clock;
 use uc_memtable::FlushableMemtables;
 use uc_oper::Operator;
 use uc_run::Run;
@@ -57,7 +58,7 @@ fn flush(alloc: Global, desk: &mut Desk, call: &mut Input<'_>) -> Result<(), Hal
 
 /// Makes a call.
 fn play<O: Operator + Sync>(
-    rt: &(impl Threads + Sync),
+    rt: &(impl Threads + Clock + Sync),
     alloc: Global,
     desk: &mut Desk,
     call: &mut Input<'_>,
@@ -80,7 +81,7 @@ fn play<O: Operator + Sync>(
             look(&desk.shelf, &desk.memtables, out);
             Ok(())
         }
-        60..80 => formats::play(alloc, kind, call, out),
+        60..80 => formats::play(rt, alloc, kind, call, out),
         _ => {
             let memtables = gathered::of(&mut desk.memtables, call.place())?;
             gathered::play::<O>(alloc, memtables, kind, call, out)
@@ -90,13 +91,13 @@ fn play<O: Operator + Sync>(
 
 /// Makes all calls.
 fn play_at<O: Operator + Sync>(
-    rt: &(impl Threads + Sync + Print),
+    rt: &(impl Threads + Clock + Sync + Print),
     alloc: Global,
     desk: &mut Desk,
     talk: &mut Talk<'_>,
 ) -> io::Result<()> {
     for _ in 0..u64::MAX {
-        let Some(mut call) = talk.next(alloc) else {
+        let Some(mut call) = talk.next(rt, alloc) else {
             break;
         };
         let made = play::<O>(rt, alloc, desk, &mut call, talk.answer());
@@ -107,7 +108,7 @@ fn play_at<O: Operator + Sync>(
 
 /// Makes all calls.
 pub(crate) fn play_all<O: Operator + Sync>(
-    rt: &(impl Threads + Sync + Print),
+    rt: &(impl Threads + Clock + Sync + Print),
     alloc: Global,
     talk: &mut Talk<'_>,
 ) -> io::Result<()> {

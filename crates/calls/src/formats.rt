@@ -5,6 +5,7 @@ use crate::talk::Halt;
 use crate::{readers, said};
 use std::alloc::{AllocError, Global};
 use std::fmt::Debug;
+use std::time::Clock;
 use uc_batch::{
     BatchError, Mode, ReadError, Writes, fits_batch, read_batch, read_writes, write_batch,
 };
@@ -136,19 +137,45 @@ fn write_read(alloc: Global, out: &mut Out, read: Result<Writes, ReadError>) -> 
     }
 }
 
-/// Whether what is before a fault is read, and a log: the writes of its batches, or why they aren't read.
-fn read_all(alloc: Global, call: &mut Input<'_>, out: &mut Out) -> Result<(), Halt> {
+/// Whether what is before a fault is read, and a log: the writes of its batches, or why they aren't read. The reading alone is
+/// clocked.
+fn read_all(
+    clock: &impl Clock,
+    alloc: Global,
+    call: &mut Input<'_>,
+    out: &mut Out,
+) -> Result<(), Halt> {
     let mode = if call.flag() {
         Mode::PointInTime
     } else {
         Mode::TornTail
     };
     let read = read_writes(alloc, call.bytes(), mode);
+    out.watch.stop(clock);
     write_read(alloc, out, read)
+}
+
+/// A log that isn't at fault: how many writes its batches have.
+fn count_all(
+    clock: &impl Clock,
+    alloc: Global,
+    call: &mut Input<'_>,
+    out: &mut Out,
+) -> Result<(), Halt> {
+    match read_writes(alloc, call.bytes(), Mode::TornTail) {
+        Ok(writes) => {
+            out.watch.stop(clock);
+            out.place(writes.list().len());
+            Ok(())
+        }
+        Err(ReadError::Memory) => Err(Halt::Memory),
+        Err(_) => Err(Halt::Refused),
+    }
 }
 
 /// Makes a call, whose kind was read.
 pub(crate) fn play(
+    clock: &impl Clock,
     alloc: Global,
     kind: u64,
     call: &mut Input<'_>,
@@ -163,7 +190,8 @@ pub(crate) fn play(
         62 => write(alloc, call, out),
         63 => read_one(alloc, call, out),
         64 => write_one(alloc, call, out),
-        65 => read_all(alloc, call, out),
+        65 => read_all(clock, alloc, call, out),
+        73 => count_all(clock, alloc, call, out),
         _ => readers::play(alloc, kind, call, out),
     }
 }

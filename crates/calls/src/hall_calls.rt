@@ -15,6 +15,7 @@ use std::io;
 use std::marker::{Brand, Send, Sync};
 use std::sync::Wait;
 use std::thread::Threads;
+use std::time::Clock;
 use uc_share::{Name, OpenError, Opening};
 
 /// Numbers of readers and seats, options, snapshots and writes: a store that has no name yet. Writes whether it is opened, and what it
@@ -101,11 +102,11 @@ fn play_at<N, W, R>(hall: &mut Hall<'_, N, W, R>, talk: &mut Talk<'_>) -> io::Re
 where
     N: Name + Send,
     W: Wait + Drop,
-    R: Threads + Wait + Sync + Print,
+    R: Threads + Wait + Clock + Sync + Print,
 {
     let (rt, alloc) = (hall.rt, hall.alloc);
     for _ in 0..u64::MAX {
-        let Some(mut call) = talk.next(alloc) else {
+        let Some(mut call) = talk.next(rt, alloc) else {
             break;
         };
         let made = play(hall, &mut call, talk.answer());
@@ -123,11 +124,11 @@ fn play_named<N, R>(
 ) -> Result<io::Result<()>, Opening<Commas>>
 where
     N: Name + Send,
-    R: Threads + Wait + Sync + Print,
+    R: Threads + Wait + Clock + Sync + Print,
     requires name { IsNamed opening N.book N.table N.base }
     requires keeps { N.keeps_stay ≡ false }
 {
-    let Some(call) = talk.next(alloc) else {
+    let Some(call) = talk.next(rt, alloc) else {
         return Ok(Ok(()));
     };
     let (store, readers, seats) = match opening.named::<N, &R>(alloc, rt) {
@@ -154,7 +155,7 @@ fn play_opened<R>(
     talk: &mut Talk<'_>,
 ) -> io::Result<()>
 where
-    R: Threads + Wait + Sync + Print,
+    R: Threads + Wait + Clock + Sync + Print,
 {
     let mut opening = opening;
     for _ in 0..u64::MAX {
@@ -169,10 +170,10 @@ where
 /// Makes all calls. The first one opens a store.
 pub(crate) fn play_all<R>(rt: &R, alloc: Global, talk: &mut Talk<'_>) -> io::Result<()>
 where
-    R: Threads + Wait + Sync + Print,
+    R: Threads + Wait + Clock + Sync + Print,
 {
     for _ in 0..u64::MAX {
-        let Some(mut call) = talk.next(alloc) else {
+        let Some(mut call) = talk.next(rt, alloc) else {
             break;
         };
         match open(alloc, &mut call, talk.answer()) {

@@ -8,7 +8,7 @@ use std::thread::Threads;
 use uc_compact::Compacted;
 use uc_oper::Operator;
 use uc_query::Reply;
-use uc_version::{Alone, CompactError, Owned, Stretch};
+use uc_version::{Alone, CompactError, MOST_SLOTS, Owned, Stretch};
 use uc_version_compact::InstallError;
 use uc_version_state::Placed;
 
@@ -155,6 +155,35 @@ pub(crate) fn install<O: Operator + Sync>(
     }
 }
 
+/// Compacts a stretch at once: the id of the run.
+fn compacted_now<O: Operator + Sync>(
+    rt: &(impl Threads + Sync),
+    alloc: Global,
+    store: &mut Owned<O>,
+    stretch: Stretch,
+    workers: Workers,
+) -> Result<u64, CompactError> {
+    match workers {
+        Workers::Alone => store.compact_now_by(&Alone, alloc, stretch),
+        _ => store.compact_now(rt, alloc, stretch),
+    }
+}
+
+/// Compacts a stretch at once, unless that is refused.
+fn compacted<O: Operator + Sync>(
+    rt: &(impl Threads + Sync),
+    alloc: Global,
+    store: &mut Owned<O>,
+    stretch: Stretch,
+    workers: Workers,
+) -> Result<u64, Halt> {
+    match compacted_now(rt, alloc, store, stretch, workers) {
+        Ok(id) => Ok(id),
+        Err(CompactError::Memory) => Err(Halt::Memory),
+        Err(_) => Err(Halt::Refused),
+    }
+}
+
 /// Compacts a stretch at once.
 pub(crate) fn compact<O: Operator + Sync>(
     rt: &(impl Threads + Sync),
@@ -163,14 +192,28 @@ pub(crate) fn compact<O: Operator + Sync>(
     stretch: Stretch,
     workers: Workers,
 ) -> Result<Reply, Halt> {
-    let outcome = match workers {
-        Workers::Alone => store.compact_now_by(&Alone, alloc, stretch),
-        _ => store.compact_now(rt, alloc, stretch),
-    };
-    match outcome {
+    match compacted_now(rt, alloc, store, stretch, workers) {
         Ok(id) => Ok(Reply::Compacted(id)),
         Err(CompactError::NotClaimed(error)) => Ok(Reply::Refused(error)),
         Err(CompactError::IdsSpent) => Ok(Reply::NotInstalled(InstallError::IdsSpent)),
         Err(CompactError::Memory) => Err(Halt::Memory),
     }
+}
+
+/// Compacts what is picked until nothing is: how many compactions those were. Each leaves fewer runs.
+pub(crate) fn settle<O: Operator + Sync>(
+    rt: &(impl Threads + Sync),
+    alloc: Global,
+    store: &mut Owned<O>,
+    workers: Workers,
+) -> Result<u64, Halt> {
+    let mut count = 0_u64;
+    for _ in 0..MOST_SLOTS {
+        let Some(stretch) = store.pick() else {
+            break;
+        };
+        compacted(rt, alloc, store, stretch, workers)?;
+        count = count.saturating_add(1);
+    }
+    Ok(count)
 }

@@ -5,7 +5,8 @@
 //! which says how calls stand in a row, then `input.rt` and `out.rt`, which say how they are spelled.
 //!
 //! A call whose memory is refused says so in its answer, and what it works with has to be as before. `marks.rt` shows a
-//! preloaded library (`faults/refuse.c`) which requests for memory are a call's own.
+//! preloaded library (`faults/refuse.c`) which requests for memory are a call's own. A call may be clocked instead: `watch.rt` has how
+//! long it takes, for the scripts in `bench/`.
 //!
 //! A scene is what calls work with: `desk.rt` has memtables and runs, `shop.rt` a store of one owner,
 //! `hall_calls.rt` a store that threads share, and `slots.rt` a table of slots.
@@ -45,6 +46,7 @@ mod steps;
 mod store_reads;
 mod talk;
 mod versions;
+mod watch;
 
 use crate::input::Input;
 use crate::talk::Talk;
@@ -53,11 +55,12 @@ use std::io::{self, Read};
 use std::marker::Sync;
 use std::sync::Wait;
 use std::thread::Threads;
+use std::time::Clock;
 use uc_oper::{Append, Counter, Maximum, Operator, Tail};
 
 /// Makes all calls of a scene.
 fn play<O: Operator + Sync>(
-    rt: &(impl Threads + Wait + Sync + Print),
+    rt: &(impl Threads + Wait + Clock + Sync + Print),
     alloc: Global,
     scene: u64,
     talk: &mut Talk<'_>,
@@ -72,7 +75,7 @@ fn play<O: Operator + Sync>(
 
 /// Makes all calls of a scene under an operator.
 fn play_by(
-    rt: &(impl Threads + Wait + Sync + Print),
+    rt: &(impl Threads + Wait + Clock + Sync + Print),
     alloc: Global,
     (scene, operator): (u64, u64),
     talk: &mut Talk<'_>,

@@ -6,6 +6,7 @@ use crate::{said, versions};
 use std::alloc::{AllocError, Global};
 use std::marker::Sync;
 use std::thread::Threads;
+use std::time::Clock;
 use uc_batch::{Ended, Pieces, Writes};
 use uc_bytes::{MAX_SEQUENCE, Write, WriteRef};
 use uc_oper::Operator;
@@ -133,25 +134,31 @@ fn opened_of_log<O: Operator>(
 
 /// The store of plain writes, or why it isn't opened.
 fn opened_of_writes<O: Operator>(
+    clock: &impl Clock,
     alloc: Global,
     given: Beginning<'_>,
+    out: &mut Out,
 ) -> Result<Result<Owned<O>, OpenError>, Halt> {
     let (options, keeps, writes) = given.into_parts();
     let Some(writes) = Writes::of(writes) else {
         return Err(Halt::Refused);
     };
-    Ok(open_plain::<O>(alloc, &writes, &keeps, options))
+    out.watch.restart(clock);
+    let opened = open_plain::<O>(alloc, &writes, &keeps, options);
+    out.watch.stop(clock);
+    Ok(opened)
 }
 
-/// The store that is given, or why it isn't opened. Writes how far its log was read, if it has one.
+/// The store that is given, or why it isn't opened. Writes how far its log was read, if it has one. The opening alone is clocked.
 pub(crate) fn opened<O: Operator>(
-    rt: &(impl Threads + Sync),
+    rt: &(impl Threads + Clock + Sync),
     alloc: Global,
     given: Beginning<'_>,
     out: &mut Out,
 ) -> Result<Result<Owned<O>, OpenError>, Halt> {
+    out.watch.restart(rt);
     if given.way == 0 {
-        opened_of_writes::<O>(alloc, given)
+        opened_of_writes::<O>(rt, alloc, given, out)
     } else {
         opened_of_log::<O>(rt, alloc, &given, out)
     }

@@ -1,4 +1,5 @@
 //! [`Out`]: the answer to a call, numbers and bytes one after the other.
+use crate::watch::Watch;
 use itoa::Buffer;
 use std::alloc::{AllocError, Global};
 use uc_oper::Effect;
@@ -11,6 +12,8 @@ const RESERVED: usize = 1 << 16;
 pub(crate) struct Out {
     bytes: Vec<u8>,
     is_short: bool,
+    /// The time of the call, if it is clocked.
+    pub(crate) watch: Watch,
 }
 
 impl Out {
@@ -19,6 +22,7 @@ impl Out {
         Ok(Out {
             bytes: Vec::with_capacity(alloc, RESERVED)?,
             is_short: false,
+            watch: Watch::new(),
         })
     }
 

@@ -6,6 +6,7 @@ use crate::{asked, rows, said};
 use std::alloc::{AllocError, Global};
 use std::marker::Sync;
 use std::thread::Threads;
+use std::time::Clock;
 use uc_batch::Writes;
 use uc_bytes::{Bytes, Write};
 use uc_fold::{Effects, Joins, Sums, Totals, fold_all};
@@ -88,6 +89,30 @@ fn fold_effects<O: Operator + Sync>(
     Ok(())
 }
 
+/// All effects in turn, by the calling thread.
+fn in_turn<O: Operator>(alloc: Global, effects: Vec<Effect>) -> Result<Effect, AllocError> {
+    let mut all = Effect::Keep;
+    for effect in effects {
+        all = all.then::<O>(alloc, effect)?;
+    }
+    Ok(all)
+}
+
+/// A number of effects, and these: all in turn. The folding alone is clocked.
+fn fold_in_turn<O: Operator>(
+    clock: &impl Clock,
+    alloc: Global,
+    call: &mut Input<'_>,
+    out: &mut Out,
+) -> Result<(), Halt> {
+    let parts = effects(alloc, call)?;
+    out.watch.restart(clock);
+    let all = in_turn::<O>(alloc, parts)?;
+    out.watch.stop(clock);
+    out.effect(&all);
+    Ok(())
+}
+
 /// Totals: points, fragments and bytes.
 fn total(call: &mut Input<'_>) -> Totals {
     Totals {
@@ -165,7 +190,7 @@ fn compare(call: &mut Input<'_>, out: &mut Out) {
 
 /// Makes a call, whose kind was read.
 pub(crate) fn play<O: Operator + Sync>(
-    rt: &(impl Threads + Sync),
+    rt: &(impl Threads + Clock + Sync),
     alloc: Global,
     kind: u64,
     call: &mut Input<'_>,
@@ -188,6 +213,7 @@ pub(crate) fn play<O: Operator + Sync>(
             Ok(())
         }
         12 => ask::<O>(alloc, call, out),
+        13 => fold_in_turn::<O>(rt, alloc, call, out),
         _ => Err(Halt::Refused),
     }
 }

@@ -9,7 +9,7 @@ use crate::talk::Halt;
 use std::alloc::{AllocError, Global};
 use std::mem;
 use std::sync::Arc;
-use uc_bytes::MAX_SEQUENCE;
+use uc_bytes::{MAX_SEQUENCE, WriteRef};
 use uc_run::{Memtable, Run};
 
 /// A memtable, the run that was made last, and runs that are kept at numbers.
@@ -136,6 +136,25 @@ fn insert(
     Ok(())
 }
 
+/// Inserts a write after all others.
+fn insert_next(memtable: &mut Memtable, write: &WriteRef<'_>) -> Result<(), Halt> {
+    if write.seq() <= memtable.last() || MAX_SEQUENCE < write.seq() {
+        return Err(Halt::Refused);
+    }
+    Ok(memtable.insert_ref(write)?)
+}
+
+/// A number of writes, and these: inserts them all.
+fn insert_all(memtable: &mut Memtable, call: &mut Input<'_>) -> Result<(), Halt> {
+    for _ in 0..call.number() {
+        if call.is_short() {
+            break;
+        }
+        insert_next(memtable, &said::write(call))?;
+    }
+    Ok(())
+}
+
 /// The memtable's size and last sequence, and whether it is empty.
 fn look(memtable: &Memtable, out: &mut Out) {
     out.number(memtable.size());
@@ -164,6 +183,7 @@ pub(crate) fn play(
         23 => shelf.flush(alloc),
         24 => shelf.build(alloc, call),
         25 => shelf.keep_made(alloc, call),
+        26 => insert_all(&mut shelf.memtable, call),
         _ => Err(Halt::Refused),
     }
 }

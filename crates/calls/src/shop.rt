@@ -12,6 +12,7 @@ use std::alloc::Global;
 use std::io;
 use std::marker::Sync;
 use std::thread::Threads;
+use std::time::Clock;
 use uc_oper::Operator;
 use uc_version::{CompactError, OpenError, Owned};
 use uc_version_compact::ClaimError;
@@ -34,7 +35,7 @@ impl<O: Operator> Drop for Shop<O> {
 }
 
 /// Who works for a store.
-fn workers(call: &mut Input<'_>) -> Workers {
+pub(crate) fn workers(call: &mut Input<'_>) -> Workers {
     match call.number() {
         0 => Workers::Alone,
         1 => Workers::Threads,
@@ -44,7 +45,7 @@ fn workers(call: &mut Input<'_>) -> Workers {
 
 /// Who works for a store, and what it is opened from. Writes whether it is opened, or why it isn't.
 fn open<O: Operator>(
-    rt: &(impl Threads + Sync),
+    rt: &(impl Threads + Clock + Sync),
     alloc: Global,
     shop: &mut Shop<O>,
     call: &mut Input<'_>,
@@ -79,7 +80,7 @@ fn write_errors(alloc: Global, out: &mut Out) -> Result<(), Halt> {
 
 /// Makes a call.
 fn play<O: Operator + Sync>(
-    rt: &(impl Threads + Sync),
+    rt: &(impl Threads + Clock + Sync),
     alloc: Global,
     shop: &mut Shop<O>,
     call: &mut Input<'_>,
@@ -108,13 +109,13 @@ fn play<O: Operator + Sync>(
 
 /// Makes all calls.
 fn play_at<O: Operator + Sync>(
-    rt: &(impl Threads + Sync + Print),
+    rt: &(impl Threads + Clock + Sync + Print),
     alloc: Global,
     shop: &mut Shop<O>,
     talk: &mut Talk<'_>,
 ) -> io::Result<()> {
     for _ in 0..u64::MAX {
-        let Some(mut call) = talk.next(alloc) else {
+        let Some(mut call) = talk.next(rt, alloc) else {
             break;
         };
         let made = play(rt, alloc, shop, &mut call, talk.answer());
@@ -125,7 +126,7 @@ fn play_at<O: Operator + Sync>(
 
 /// Makes all calls.
 pub(crate) fn play_all<O: Operator + Sync>(
-    rt: &(impl Threads + Sync + Print),
+    rt: &(impl Threads + Clock + Sync + Print),
     alloc: Global,
     talk: &mut Talk<'_>,
 ) -> io::Result<()> {

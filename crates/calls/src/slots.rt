@@ -8,6 +8,7 @@ use crate::talk::{Halt, Talk};
 use crate::versions::write_error;
 use std::alloc::Global;
 use std::io;
+use std::time::Clock;
 use uc_claims::{ClaimTable, HeldSlots, MOST_SLOTS};
 
 /// Slots: takes them, or says which one is taken, by its number and in the library's own text.
@@ -83,7 +84,7 @@ fn play(
 
 /// Makes all calls. Each begins with a kind, and 1 if the second seat makes it.
 fn play_at(
-    rt: &impl Print,
+    rt: &(impl Clock + Print),
     alloc: Global,
     table: &ClaimTable,
     one: &mut HeldSlots,
@@ -98,7 +99,7 @@ fn play_at(
     ensures other { other.new.table ≡ table.now.table }
 {
     for _ in 0..u64::MAX {
-        let Some(mut call) = talk.next(alloc) else {
+        let Some(mut call) = talk.next(rt, alloc) else {
             break;
         };
         let (kind, is_second) = (call.number(), call.flag());
@@ -131,7 +132,7 @@ fn close(table: ClaimTable, one: HeldSlots, other: HeldSlots, count: usize, out:
 
 /// Makes all calls by two seats of a table, and closes it.
 fn play_table(
-    rt: &impl Print,
+    rt: &(impl Clock + Print),
     alloc: Global,
     table: ClaimTable,
     one: HeldSlots,
@@ -169,9 +170,13 @@ fn open(alloc: Global, count: usize) -> Result<(ClaimTable, HeldSlots, HeldSlots
 }
 
 /// Makes all calls. The first is a number of slots, which a table then has.
-pub(crate) fn play_all(rt: &impl Print, alloc: Global, talk: &mut Talk<'_>) -> io::Result<()> {
+pub(crate) fn play_all(
+    rt: &(impl Clock + Print),
+    alloc: Global,
+    talk: &mut Talk<'_>,
+) -> io::Result<()> {
     for _ in 0..u64::MAX {
-        let Some(mut call) = talk.next(alloc) else {
+        let Some(mut call) = talk.next(rt, alloc) else {
             break;
         };
         let count = call.place();

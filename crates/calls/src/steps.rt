@@ -1,33 +1,50 @@
 //! Calls of a store of one owner.
 use crate::input::Input;
-use crate::installs::{Workers, compact, install, make, make_under};
+use crate::installs::{Workers, compact, install, make, make_under, settle};
 use crate::lists::{self, name, rising};
 use crate::out::Out;
 use crate::owner::{Held, abandon, claim, held_under};
 use crate::replies::write_reply;
+use crate::shop;
 use crate::store_reads::{answer, apart, ask, merge};
 use crate::talk::Halt;
 use crate::versions::{self, stretch};
 use std::alloc::Global;
 use std::marker::Sync;
 use std::thread::Threads;
+use std::time::Clock;
+use uc_batch::Writes;
 use uc_oper::Operator;
 use uc_query::{Reply, report};
 use uc_version::{FeedError, InThreads, MOST_SLOTS, Owned};
 
-/// Feeds writes.
-fn feed<O: Operator>(
+/// Feeds writes, by one thread or by several.
+fn fed<O: Operator>(
     rt: &(impl Threads + Sync),
     alloc: Global,
     store: &mut Owned<O>,
-    call: &mut Input<'_>,
+    writes: &Writes,
     workers: Workers,
+) -> Result<u64, FeedError> {
+    match workers {
+        Workers::Alone => store.feed(alloc, writes),
+        _ => store.feed_by(&InThreads(rt), alloc, writes),
+    }
+}
+
+/// Feeds writes. The feeding alone is clocked.
+fn feed<O: Operator>(
+    rt: &(impl Threads + Clock + Sync),
+    alloc: Global,
+    store: &mut Owned<O>,
+    workers: Workers,
+    call: &mut Input<'_>,
+    out: &mut Out,
 ) -> Result<Reply, Halt> {
     let writes = rising(alloc, call)?;
-    let outcome = match workers {
-        Workers::Alone => store.feed(alloc, &writes),
-        _ => store.feed_by(&InThreads(rt), alloc, &writes),
-    };
+    out.watch.restart(rt);
+    let outcome = fed(rt, alloc, store, &writes, workers);
+    out.watch.stop(rt);
     match outcome {
         Ok(count) => Ok(Reply::Fed(count)),
         Err(FeedError::Memory) => Err(Halt::Memory),
@@ -59,7 +76,6 @@ fn reply<O: Operator + Sync>(
         7 => compact(rt, alloc, store, stretch(call), workers),
         8 => Ok(Reply::Picked(store.pick())),
         9 => Ok(Reply::Reported(report(rt, alloc, store.version())?)),
-        12 => feed(rt, alloc, store, call, workers),
         13 => Ok(Reply::Kept(store.keep()?)),
         14 => Ok(release(store, call.number())),
         _ => Err(Halt::Refused),
@@ -112,7 +128,7 @@ fn busy<O: Operator>(store: &Owned<O>, slot: usize, out: &mut Out) -> Result<(),
 
 /// Makes a call.
 pub(crate) fn step<O: Operator + Sync>(
-    rt: &(impl Threads + Sync),
+    rt: &(impl Threads + Clock + Sync),
     alloc: Global,
     store: &mut Owned<O>,
     claims: &mut Vec<Held<O>>,
@@ -126,6 +142,10 @@ pub(crate) fn step<O: Operator + Sync>(
         4 => make_one(rt, alloc, store, claims, (name(call), workers), call)?,
         10 => ask::<O>(rt, alloc, store.version(), call, out)?,
         11 => answer::<O>(alloc, store.version(), call, out)?,
+        12 => {
+            let reply = feed(rt, alloc, store, workers, call, out)?;
+            write_reply(alloc, out, &reply)?;
+        }
         15 => busy(store, call.place(), out)?,
         16 => out.place(held_under(claims, name(call))?.claim.number()),
         17 => apart(
@@ -140,6 +160,7 @@ pub(crate) fn step<O: Operator + Sync>(
         19 => versions::refuse(alloc, store.version(), call, out)?,
         21 => lists::play(rt, alloc, store, call, out)?,
         22 => merge::<O>(rt, alloc, store.version(), call, out)?,
+        24 => out.number(settle(rt, alloc, store, shop::workers(call))?),
         _ => {
             let reply = reply(rt, alloc, store, claims, (kind, workers), call)?;
             write_reply(alloc, out, &reply)?;

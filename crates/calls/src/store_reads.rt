@@ -12,6 +12,7 @@ use crate::{opening, reads};
 use std::alloc::{AllocError, Global};
 use std::marker::Sync;
 use std::thread::Threads;
+use std::time::Clock;
 use uc_bytes::Items;
 use uc_oper::Operator;
 use uc_query::Reply;
@@ -19,9 +20,9 @@ use uc_query_read::{Answer, Query, answer_last, answer_one, get, get_last, rows_
 use uc_query_workers::answer_plain;
 use uc_version::{OpenError, Owned, OwnedClaim, Stretch, Version};
 
-/// The number of workers, of queries in a piece, and queries: their answers.
+/// The number of workers, of queries in a piece, and queries: their answers. The answering alone is clocked.
 pub(crate) fn ask<O: Operator + Sync>(
-    rt: &(impl Threads + Sync),
+    rt: &(impl Threads + Clock + Sync),
     alloc: Global,
     version: &Version,
     call: &mut Input<'_>,
@@ -29,7 +30,10 @@ pub(crate) fn ask<O: Operator + Sync>(
 ) -> Result<(), Halt> {
     let (workers, piece) = (call.place(), call.place());
     let queries = queries(alloc, call)?;
-    match answer_plain::<O>(rt, alloc, version, &queries, workers, piece) {
+    out.watch.restart(rt);
+    let answered = answer_plain::<O>(rt, alloc, version, &queries, workers, piece);
+    out.watch.stop(rt);
+    match answered {
         Ok(answers) => {
             let reply = Reply::Answers(Items::from(answers));
             Ok(write_reply(alloc, out, &reply)?)
@@ -112,7 +116,7 @@ fn tell_apart<O: Operator>(
 
 /// What another store is opened from: tells a claim apart from one of its claims.
 pub(crate) fn apart<O: Operator>(
-    rt: &(impl Threads + Sync),
+    rt: &(impl Threads + Clock + Sync),
     alloc: Global,
     here: &Owned<O>,
     claim: &OwnedClaim,

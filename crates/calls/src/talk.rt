@@ -4,6 +4,7 @@ use crate::marks;
 use crate::out::Out;
 use std::alloc::{AllocError, Global};
 use std::io::{self, Write};
+use std::time::Clock;
 
 /// Why a call has no answer.
 #[derive(Clone, Copy)]
@@ -31,6 +32,8 @@ enum Way {
     Marked(usize),
     /// It looks at what the last marked call, of which this request was refused, may not have changed.
     Looks(usize),
+    /// It is clocked, and made this many times.
+    Clocked(u64),
 }
 
 /// Prints a status, and an answer with its length and a line feed.
@@ -48,11 +51,13 @@ fn print(rt: &impl Print, head: &mut Out, status: u64, answer: &[u8]) -> io::Res
 ///
 /// Each call is bytes that begin with the number of a way: 0 is made once. 1 is made once too, and looks at what there is. 2 is
 /// marked: a number follows, and the request for memory with that number is refused in it. If memory ran out then, the last call
-/// that looks, if there was one, is made again, and the marked one with the next number, until it has an answer.
+/// that looks, if there was one, is made again, and the marked one with the next number, until it has an answer. 3 is clocked: a
+/// number follows, it is made that many times, and after its last answer the nanoseconds of them all are an answer of their own.
 pub(crate) struct Talk<'a> {
     calls: Input<'a>,
     look: Option<Input<'a>>,
-    marked: Input<'a>,
+    /// The last call that is marked or clocked.
+    again: Input<'a>,
     way: Way,
     was_refused: bool,
     head: Out,
@@ -64,7 +69,7 @@ impl<'a> Drop for Talk<'a> {
         let Talk {
             calls: _,
             look: _,
-            marked: _,
+            again: _,
             way: _,
             was_refused: _,
             head: _,
@@ -79,7 +84,7 @@ impl<'a> Talk<'a> {
         Ok(Talk {
             calls,
             look: None,
-            marked: Input::new(&[]),
+            again: Input::new(&[]),
             way: Way::Once,
             was_refused: false,
             head: Out::new(alloc)?,
@@ -98,7 +103,11 @@ impl<'a> Talk<'a> {
             1 => self.look = Some(call),
             2 => {
                 self.way = Way::Marked(call.place());
-                self.marked = call;
+                self.again = call;
+            }
+            3 => {
+                self.way = Way::Clocked(call.number());
+                self.again = call;
             }
             _ => {}
         }
@@ -108,7 +117,7 @@ impl<'a> Talk<'a> {
     /// The marked call, of which the request after this one is refused next.
     fn mark(&mut self, request: usize) -> Input<'a> {
         self.way = Way::Marked(request.saturating_add(1));
-        self.marked
+        self.again
     }
 
     /// The last call that looks, or the marked call if there is none.
@@ -123,17 +132,23 @@ impl<'a> Talk<'a> {
     }
 
     /// The call that is made now; `None` once all are made.
-    pub(crate) fn next(&mut self, alloc: Global) -> Option<Input<'a>> {
+    pub(crate) fn next(&mut self, clock: &impl Clock, alloc: Global) -> Option<Input<'a>> {
         let call = match self.way {
             Way::Marked(request) if self.was_refused && request < MOST => self.look_or_mark(
                 request,
             ),
             Way::Looks(request) => self.mark(request),
+            Way::Clocked(times) if 1 < times => {
+                self.way = Way::Clocked(times - 1);
+                self.again
+            }
             _ => self.read()?,
         };
         self.answer.clear();
-        if let Way::Marked(request) = self.way {
-            marks::begin(alloc, request);
+        match self.way {
+            Way::Marked(request) => marks::begin(alloc, request),
+            Way::Clocked(_) => self.answer.watch.start(clock),
+            Way::Once | Way::Looks(_) => {}
         }
         Some(call)
     }
@@ -143,16 +158,32 @@ impl<'a> Talk<'a> {
         &mut self.answer
     }
 
-    /// Prints how a call ended, and its answer: 0 if it was made, 1 if memory ran out, 2 if it was refused.
+    /// Prints how long the clocked call took, all times that it was made.
+    fn print_time(&mut self, rt: &impl Print) -> io::Result<()> {
+        let nanoseconds = self.answer.watch.take();
+        self.answer.clear();
+        self.answer.number(nanoseconds);
+        print(rt, &mut self.head, 0, self.answer.as_slice())
+    }
+
+    /// Prints how a call ended, and its answer: 0 if it was made, 1 if memory ran out, 2 if it was refused. Of a clocked call that
+    /// is made again it prints nothing.
     pub(crate) fn end(
         &mut self,
-        rt: &impl Print,
+        rt: &(impl Clock + Print),
         alloc: Global,
         call: Input<'_>,
         made: Result<(), Halt>,
     ) -> io::Result<()> {
-        if let Way::Marked(_) = self.way {
-            marks::end(alloc);
+        match self.way {
+            Way::Marked(_) => marks::end(alloc),
+            Way::Clocked(times) => {
+                self.answer.watch.stop(rt);
+                if 1 < times {
+                    return Ok(());
+                }
+            }
+            Way::Once | Way::Looks(_) => {}
         }
         let status = match made {
             Ok(()) if call.is_short() => 2,
@@ -165,6 +196,10 @@ impl<'a> Talk<'a> {
         if status != 0 {
             self.answer.clear();
         }
-        print(rt, &mut self.head, status, self.answer.as_slice())
+        print(rt, &mut self.head, status, self.answer.as_slice())?;
+        match self.way {
+            Way::Clocked(_) => self.print_time(rt),
+            _ => Ok(()),
+        }
     }
 }

@@ -1,0 +1,130 @@
+//! Takes and gives of slots by 1, 2 or 4 threads, for `bench/claims`.
+ghost use Rattle.std.specs.Prelude.{◌≡◌, ◌<◌, All};
+ghost use Rattle.uc_claims.specs.Holding.{AreDistinct};
+
+use anyhow::{Result, ensure};
+use std::alloc::Global;
+use std::marker::Sync;
+use std::thread::{Threads, join};
+use std::time::{Clock, Instant};
+use uc_claims::{ClaimTable, MOST_SLOTS, Seat};
+
+const COUNT: usize = MOST_SLOTS;
+
+/// The work of each thread: where its slots are, and how often it takes them.
+#[derive(Clone, Copy)]
+pub(crate) struct Claims {
+    /// 0: each thread has two slots of its own, side by side. 1: these share no cache line with another's. Else all want the same two.
+    pub(crate) layout: u64,
+    pub(crate) rounds: u64,
+}
+
+/// The slots of a thread.
+fn asked(thread: u64, layout: u64) -> &'static [usize]
+    ensures distinct { AreDistinct result.now }
+    ensures below { All (λ slot. slot < COUNT) result.now }
+{
+    match (layout, thread) {
+        (0, 1) => &[2, 3],
+        (0, 2) => &[4, 5],
+        (0, 3) => &[6, 7],
+        (1, 1) => &[16, 17],
+        (1, 2) => &[32, 33],
+        (1, 3) => &[48, 49],
+        _ => &[0, 1],
+    }
+}
+
+/// One thread's rounds, and how many takes won.
+fn work(table: &ClaimTable, mut seat: Seat, thread: u64, claims: Claims) -> (Seat, u64)
+    requires table { seat.table ≡ table.now.table }
+    requires count { table.now.count ≡ COUNT }
+    ensures { result.0.table ≡ table.now.table }
+{
+    let slots = asked(thread, claims.layout);
+    let mut won = 0_u64;
+    for _ in 0..claims.rounds {
+        seat = match table.take(seat, slots) {
+            Ok(held) => {
+                won = won.wrapping_add(1);
+                table.give(held)
+            }
+            Err((seat, _)) => seat,
+        };
+    }
+    (seat, won)
+}
+
+/// Two threads' rounds.
+fn work_two<R: Threads + Sync>(
+    rt: &R,
+    table: &ClaimTable,
+    seat: Seat,
+    first: u64,
+    claims: Claims,
+) -> (Seat, u64)
+    requires table { seat.table ≡ table.now.table }
+    requires count { table.now.count ≡ COUNT }
+    ensures { result.0.table ≡ table.now.table }
+{
+    let (a, b) = table.split(seat);
+    let second = first.wrapping_add(1);
+    let ((a, x), (b, y)) = join(
+        rt,
+        move || -> (Seat, u64)
+            requires { (a.table ≡ table.now.table) × (table.now.count ≡ COUNT) }
+            ensures { result.0.table ≡ table.entry.now.table }
+        { work(table, a, first, claims) },
+        move || -> (Seat, u64)
+            requires { (b.table ≡ table.now.table) × (table.now.count ≡ COUNT) }
+            ensures { result.0.table ≡ table.entry.now.table }
+        { work(table, b, second, claims) },
+    );
+    (table.join(a, b), x.wrapping_add(y))
+}
+
+/// Four threads' rounds.
+fn work_four<R: Threads + Sync>(
+    rt: &R,
+    table: &ClaimTable,
+    seat: Seat,
+    claims: Claims,
+) -> (Seat, u64)
+    requires table { seat.table ≡ table.now.table }
+    requires count { table.now.count ≡ COUNT }
+    ensures { result.0.table ≡ table.now.table }
+{
+    let (a, b) = table.split(seat);
+    let ((a, x), (b, y)) = join(
+        rt,
+        move || -> (Seat, u64)
+            requires { (a.table ≡ table.now.table) × (table.now.count ≡ COUNT) }
+            ensures { result.0.table ≡ table.entry.now.table }
+        { work_two(rt, table, a, 0, claims) },
+        move || -> (Seat, u64)
+            requires { (b.table ≡ table.now.table) × (table.now.count ≡ COUNT) }
+            ensures { result.0.table ≡ table.entry.now.table }
+        { work_two(rt, table, b, 2, claims) },
+    );
+    (table.join(a, b), x.wrapping_add(y))
+}
+
+/// All threads' rounds on a new table: the nanoseconds, and how many takes won. Every slot is free in the end.
+pub(crate) fn claimed<R: Threads + Clock + Sync>(
+    rt: &R,
+    alloc: Global,
+    threads: u64,
+    claims: Claims,
+) -> Result<(u64, u64)> {
+    let (table, seat) = ClaimTable::new(alloc, COUNT)?;
+    let start = Instant::now(rt)?;
+    let (seat, won) = match threads {
+        1 => work(&table, seat, 0, claims),
+        2 => work_two(rt, &table, seat, 0, claims),
+        _ => work_four(rt, &table, seat, claims),
+    };
+    let time = start.elapsed(rt)?;
+    let is_free = table.close(seat) == [false; MOST_SLOTS];
+    ensure!(is_free, "a slot is taken in the end");
+    Ok((u64::try_from(time.as_nanos()).unwrap_or(u64::MAX), won))
+}
