@@ -1,5 +1,5 @@
 //! A store of one owner that shows its runs: a batch is fed to it, and it is read at the last sequence.
-use crate::visits::{VISITS, batch_of, lookups, number};
+use crate::visits::{VISITS, batch_of, lookup, number};
 use anyhow::Result;
 use std::alloc::Global;
 use std::marker::Sync;
@@ -13,7 +13,7 @@ use uc_store::{
 fn count_one(alloc: Global, store: &mut Owned<Counter>) -> Result<(u64, u64)> {
     let before = get_last(alloc, store, VISITS)?;
     feed_batch(alloc, store, batch_of(alloc, 1)?)?;
-    let [query, _] = lookups(alloc, store.version().last())?;
+    let query = lookup(alloc, store.version().last())?;
     let now = answer_last(alloc, store, &query)?;
     Ok((number(&before)?, number(&now)?))
 }

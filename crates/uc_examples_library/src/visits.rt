@@ -13,18 +13,17 @@ pub(crate) fn batch_of(alloc: Global, visits: u64) -> Result<Vec<Op>, AllocError
     Ok(vec![in alloc; op]?)
 }
 
+/// A lookup of the visits at a sequence.
+pub(crate) fn lookup(alloc: Global, at: u64) -> Result<Query, AllocError> {
+    Ok(Query::Get {
+        key: Bytes::from_slice(alloc, VISITS)?,
+        at,
+    })
+}
+
 /// Two lookups of the visits at a sequence.
 pub(crate) fn lookups(alloc: Global, at: u64) -> Result<[Query; 2], AllocError> {
-    Ok([
-        Query::Get {
-            key: Bytes::from_slice(alloc, VISITS)?,
-            at,
-        },
-        Query::Get {
-            key: Bytes::from_slice(alloc, VISITS)?,
-            at,
-        },
-    ])
+    Ok([lookup(alloc, at)?, lookup(alloc, at)?])
 }
 
 /// The number that a value is, or 0 if there is none.
