@@ -76,13 +76,14 @@ impl Shared {
     fn next_job(&self) -> Option<Taken<'_>> {
         let mut store = lock(&self.store);
         loop {
-            if self.is_closing.load(Ordering::Acquire) {
-                return None;
-            }
             if self.events.are_waiting() {
                 drop(store);
                 self.events.tell();
                 store = lock(&self.store);
+            }
+            // After the lock was taken again: a close in between would wake nobody.
+            if self.is_closing.load(Ordering::Acquire) {
+                return None;
             }
             match self.take_job(&store, self.options.compactors) {
                 Ok(Some(taken)) => return Some(taken),
