@@ -805,6 +805,21 @@ static void skip(void) {
     CHECK(ucstore_close(&again) == UCSTORE_OK && ucstore_close(&made) == UCSTORE_OK);
 }
 
+/* The files that an opening reads of a folder, and a log that is missing. */
+static void folder_files(void) {
+    const struct ucstore_folder_base bases[] = {{4, 7}, {4, 9}, {2, 99}};
+    const struct ucstore_folder_listed logs[] = {{4, true}, {6, false}, {5, true}, {3, true}};
+    struct ucstore_folder_found found = {7, 7, 7, 7, 7, false};
+    uint64_t missing = 99;
+    CHECK(ucstore_folder_find(bases, 3, logs, 4, &found, &missing) == UCSTORE_OK && missing == 99);
+    CHECK(found.base == 4 && found.past == 9 && found.least == 2);
+    CHECK(found.log == 5 && found.top == 6 && found.is_there);
+    CHECK(ucstore_folder_find(bases, 1, logs + 1, 3, &found, &missing) == UCSTORE_LOG_MISSING);
+    CHECK(missing == 4 && found.least == 2);
+    CHECK(ucstore_folder_find(NULL, 0, NULL, 0, &found, &missing) == UCSTORE_OK);
+    CHECK(found.base == 1 && found.past == 0 && found.log == 1 && !found.is_there);
+}
+
 /* Opens the first bytes of the log, which end as a walk says. */
 static struct ucstore_ended reopen(size_t length) {
     struct ucstore opened = {0};
@@ -1112,7 +1127,7 @@ static void without_checkpoint(void) {
     CHECK(ucstore_checkpoint_next(&none, 0, 9, room, sizeof room, &size, &done) == UCSTORE_NO_CHECKPOINT);
     CHECK(ucstore_checkpoint_close(&none) == UCSTORE_NO_CHECKPOINT && room[0] == 0xAA && size == 99 && done);
     CHECK(strcmp(ucstore_status_text(UCSTORE_NO_CHECKPOINT), "checkpoint is not open") == 0);
-    CHECK(strcmp(ucstore_status_text(UCSTORE_SEQUENCE_GAP + 1), ucstore_status_text(-1)) == 0);
+    CHECK(strcmp(ucstore_status_text(UCSTORE_LOG_MISSING + 1), ucstore_status_text(-1)) == 0);
 }
 
 /* A store of 255 runs, whose next compaction has all of them. */
@@ -1272,6 +1287,7 @@ int main(int argc, char **argv) {
     nothing_is_read();
     durable();
     skip();
+    folder_files();
     for (uint32_t one = UCSTORE_APPEND; one <= UCSTORE_TAIL; one++) {
         soak(one, operations);
     }

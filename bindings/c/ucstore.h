@@ -129,7 +129,8 @@ enum ucstore_status {
     UCSTORE_JOB_ENDED = 25,        /* Job already ended. */
     UCSTORE_NO_CHECKPOINT = 26,    /* Checkpoint is not open. */
     UCSTORE_HAS_CHECKPOINT = 27,   /* Checkpoint is already open. */
-    UCSTORE_SEQUENCE_GAP = 28      /* Gap in sequence numbers: the next batch of the log does not follow the last write. */
+    UCSTORE_SEQUENCE_GAP = 28,     /* Gap in sequence numbers: the next batch of the log does not follow the last write. */
+    UCSTORE_LOG_MISSING = 29       /* Log missing: the folder lists later logs, and not this one. */
 };
 
 /* Merge operators. An operator combines a key's operands and its value. */
@@ -179,6 +180,7 @@ static inline const char *ucstore_status_text(int32_t status) {
         "checkpoint is not open",
         "checkpoint is already open",
         "gap in sequence numbers",
+        "log missing",
     };
     return status >= 0 && (size_t)status < sizeof texts / sizeof texts[0] ? texts[status] : "unknown status";
 }
@@ -236,6 +238,28 @@ struct ucstore_log_place {
     uint64_t offset;   /* Number of bytes before it. */
     uint64_t last;     /* Last sequence number before it; 0 if there is none. */
     uint64_t batches;  /* Number of batches before it. */
+};
+
+/* A base that the folder of a database lists. */
+struct ucstore_folder_base {
+    uint64_t number;   /* Its number. */
+    uint64_t past;     /* Number of batches that it has of the log of that number. */
+};
+
+/* A log that the folder of a database lists. */
+struct ucstore_folder_listed {
+    uint64_t number;   /* Its number. */
+    bool is_used;      /* True if a whole batch is at its start. */
+};
+
+/* The files to read when the folder of a database is opened. */
+struct ucstore_folder_found {
+    uint64_t base;     /* Number of the newest base; 1 if there is none. */
+    uint64_t past;     /* Number of batches that it has of the log of that number; 0 if there is none. */
+    uint64_t least;    /* Least number of a log or a base. Those below `base` may be removed. */
+    uint64_t log;      /* Number of the log that goes on: the last one that is used, and not below `base`. */
+    uint64_t top;      /* Greatest number of a log, not below `log`. Those above `log` may be removed. */
+    bool is_there;     /* True if the log that goes on is listed. Only the first log may be missing, and then no batch is there. */
 };
 
 /* Returns UCSTORE_ABI of the linked library. It changes when a function or a status changes its meaning, or a struct its size. A shared
@@ -534,6 +558,14 @@ int32_t ucstore_log_next(const uint8_t *log, size_t log_length, struct ucstore_l
  * UCSTORE_NO_STORE, UCSTORE_IDS_SPENT, UCSTORE_RUNS_CLAIMED, UCSTORE_OUT_OF_MEMORY. */
 int32_t ucstore_replay(struct ucstore *store, const uint8_t *log, size_t log_length, struct ucstore_log_place *place,
                        bool may_skip, struct ucstore_ended *ended);
+
+/* Finds the files to read when the folder of a database is opened: the newest base, and the logs from its number to `found->log`. The
+ * logs and bases that the folder lists may be in any order. Logs in the order of their numbers take linear time.
+ *
+ * UCSTORE_LOG_MISSING: a log in this range is not listed. `missing` gets the first one's number. */
+int32_t ucstore_folder_find(const struct ucstore_folder_base *bases, size_t bases_length,
+                            const struct ucstore_folder_listed *logs, size_t logs_length, struct ucstore_folder_found *found,
+                            uint64_t *missing);
 
 #ifdef __cplusplus
 }

@@ -18,3 +18,4 @@ pub mod LogWalk
 pub mod LogSteps
 pub mod Replaying
 pub mod Checkpoints
+pub mod Folders

@@ -21,11 +21,12 @@
 //!
 //! The functions of `logs.rt` need no handle: C keeps a log in a file of its own, appends what they lay out, and walks
 //! over it. `replaying.rt` writes the batches of such a walk to a store. Where a walk stops, it tells why through an address.
+//! `folders.rt` finds the files of a database's folder that an opening reads.
 //!
 //! Read `status.rt` and `specs/Replies.antt` first, for what the functions answer, then `opening.rt`, `batches.rt`,
 //! `writing.rt`, `snapshots.rt`, `readable.rt`, `reading.rt`, `many.rt`, `scanning.rt`, `views.rt`, `view_reading.rt`,
-//! `sources.rt`, `checkpoints.rt`, `compacting.rt`, `jobs.rt`, `job_laws.rt`, `c_report.rt` and, with `specs/LogWalk.antt`, `logs.rt`
-//! and `replaying.rt`.
+//! `sources.rt`, `checkpoints.rt`, `compacting.rt`, `jobs.rt`, `job_laws.rt`, `c_report.rt`, with `specs/LogWalk.antt`, `logs.rt` and
+//! `replaying.rt`, and `folders.rt`.
 //!
 //! Tests: `bindings/c/worked.c`, `bindings/c/test.c`.
 #![tactic(auto)]
@@ -38,6 +39,7 @@ mod c_report;
 mod checkpoints;
 mod compacting;
 mod fault_codes;
+mod folders;
 mod job_laws;
 mod jobs;
 mod log_step;

@@ -40,12 +40,19 @@ found_of bases logs = record {
   top = top_in (log_in (base_in bases) logs) logs;
 }
 
--- The result of an opening by names: each log from the base's number on is listed, up to the one that goes on; or one isn't. Only the first
--- log may be missing, where no batch is.
+-- The files that an opening finds: each log from the base's number on is listed, up to the one that goes on. Only the first log may be
+-- missing, where no batch is.
+abbrev pub AreFound : List Base → List Listed → Found → Type 0
+AreFound bases logs f = (f ≡ found_of bases logs) × ((k : ℕ) → f.base ≤ k → k < f.log → is_listed k logs ≡ true) × (first_number < f.log → f.is_there ≡ true)
+
+-- One of these isn't listed.
+abbrev pub IsLacking : List Base → List Listed → ℕ → Type 0
+IsLacking bases logs n = (base_in bases ≤ n) × (n ≤ log_in (base_in bases) logs) × (first_number < log_in (base_in bases) logs) × (is_listed n logs ≡ false)
+
+-- the result of an opening by names
 abbrev pub IsFoundIn : List Base → List Listed → Result Found Missing → Type 0
-IsFoundIn bases logs (Ok f) =
-    (f ≡ found_of bases logs) × ((k : ℕ) → f.base ≤ k → k < f.log → is_listed k logs ≡ true) × (first_number < f.log → f.is_there ≡ true)
-IsFoundIn bases logs (Err m) = (base_in bases ≤ m.0) × (m.0 ≤ log_in (base_in bases) logs) × (first_number < log_in (base_in bases) logs) × (is_listed m.0 logs ≡ false)
+IsFoundIn bases logs (Ok f) = AreFound bases logs f
+IsFoundIn bases logs (Err m) = IsLacking bases logs m.0
 
 -- the first number from one up to below another one that no log has
 abbrev pub IsMissingIn : ℕ → ℕ → List Listed → Option ℕ → Type 0

@@ -7,6 +7,7 @@ ghost use Rattle.uc_folder.specs.Listing as listing;
 const FIRST: u64 = 1;
 
 /// A base as a folder lists it.
+#[repr(C)]
 #[derive(Debug, Clone, Copy, PartialEq, Eq)]
 pub struct Base {
     /// Its number.
@@ -16,6 +17,7 @@ pub struct Base {
 }
 
 /// A log as a folder lists it.
+#[repr(C)]
 #[derive(Debug, Clone, Copy, PartialEq, Eq)]
 pub struct Listed {
     /// Its number.
@@ -25,6 +27,7 @@ pub struct Listed {
 }
 
 /// The files that an opening reads: the base of a number, and the logs from its number to that of the last one, one by one.
+#[repr(C)]
 #[derive(Debug, Clone, Copy, PartialEq, Eq)]
 pub struct Found {
     /// The number of the newest base; that of the first log if there is none.
@@ -35,17 +38,18 @@ pub struct Found {
     pub least: u64,
     /// The number of the log that goes on: the last one that has a batch, and none before the base's.
     pub log: u64,
-    /// Whether that is there. It may be missing in a folder that has neither a base nor a batch.
-    pub is_there: bool,
     /// The greatest number of a log. Those after the one that goes on are removed.
     pub top: u64,
+    /// Whether the log that goes on is there. It may be missing in a folder that has neither a base nor a batch.
+    pub is_there: bool,
 }
 
 /// The number of a log that isn't listed, between the newest base and the last log: the opening is refused.
 #[derive(Debug, Clone, Copy, PartialEq, Eq)]
 pub struct Missing(pub u64);
 
-/// The files that an opening reads of a folder that lists some bases and logs, in any order.
+/// The files that an opening reads of a folder that lists some bases and logs, in any order. Logs in the order of their numbers are
+/// each looked at once.
 ///
 /// An `Err` names a log that is missing: the first one.
 pub fn found_in(bases: &[Base], logs: &[Listed]) -> Result<Found, Missing>
@@ -65,8 +69,8 @@ pub fn found_in(bases: &[Base], logs: &[Listed]) -> Result<Found, Missing>
         past: past_in(base, bases),
         least: least_in(base, bases, logs),
         log,
-        is_there,
         top: top_in(log, logs),
+        is_there,
     })
 }
 
@@ -74,12 +78,29 @@ pub fn found_in(bases: &[Base], logs: &[Listed]) -> Result<Found, Missing>
 fn missing_in(from: u64, to: u64, logs: &[Listed]) -> Option<u64>
     ensures { listing.IsMissingIn from to logs.now result }
 {
+    let mut place = count_below(from, logs);
     for number in from..to {
-        if !is_listed(number, logs) {
+        if !is_found(number, place, logs) {
             return Some(number);
         }
+        place = place.saturating_add(1);
     }
     None
+}
+
+/// The number of logs with numbers below one: its place, if the logs are listed in order.
+fn count_below(number: u64, logs: &[Listed]) -> usize {
+    logs.iter().filter(|log| log.number < number).count()
+}
+
+/// Whether the log of a number is listed, which is looked for at a place first.
+fn is_found(number: u64, place: usize, logs: &[Listed]) -> bool
+    ensures { result ≡ listing.is_listed number logs.now }
+{
+    match logs.get(place) {
+        Some(log) if log.number == number => true,
+        _ => is_listed(number, logs),
+    }
 }
 
 /// The number of the newest base, or that of the first log.

@@ -129,7 +129,7 @@ fn is_teller(windows: &mut Windows, place: u64, fault: u64, last: u64) -> Result
 }
 
 /// Whether a whole batch begins at a place.
-fn is_batch(windows: &mut Windows, place: u64) -> Result<bool, Error> {
+pub(crate) fn is_batch(windows: &mut Windows, place: u64) -> Result<bool, Error> {
     windows.seek(place)?;
     loop {
         let begin = windows.begin();

@@ -1,7 +1,7 @@
 //! [`Recovery`]: a database as its folder has it.
 
 use crate::counts::Counts;
-use crate::ending::{ending_of, Ending};
+use crate::ending::{ending_of, is_batch, Ending};
 use crate::error::Error;
 use crate::folder::Folder;
 use crate::kept::SetAside;
@@ -16,14 +16,17 @@ use crate::unready::Unready;
 use crate::windows::Windows;
 use std::mem;
 use std::sync::Arc;
-use ucstore::{Operator, Store, View};
+use ucstore::{FolderFiles, ListedBase, ListedLog, MissingLog, Operator, Store, View};
 
 /// The files of a folder.
 struct Files {
-    /// The newest one: its number, and the sequence that its name has.
-    base: Option<(u64, Option<u64>)>,
-    /// The numbers of the logs after the base, one by one.
-    logs: Vec<u64>,
+    bases: Vec<ListedBase>,
+    /// In the order of their numbers.
+    logs: Vec<ListedLog>,
+    /// Those that are read, by the logs of which it is known that they are used.
+    found: FolderFiles,
+    /// The newest one.
+    base: Option<Name>,
     /// Files that hold nothing that isn't elsewhere.
     spent: Vec<Name>,
     /// Whether one names the operator.
@@ -48,6 +51,8 @@ pub(crate) struct Recovery {
     length: u64,
     /// The end after them.
     ending: Ending,
+    /// A log after it that has no batch, but part of one.
+    torn: Option<u64>,
     /// The logs before it.
     older: Vec<Older>,
     /// The last sequence of the base.
@@ -65,51 +70,84 @@ pub(crate) struct Opened {
 }
 
 impl Files {
-    /// Finds the newest base, and the logs after it.
+    /// Finds the newest base, by the names alone. Of no log it is known that it is used.
     fn of(folder: &dyn Folder) -> Result<Files, Error> {
         let texts = folder.names().map_err(Error::of_file(""))?;
         let has_operator = texts.iter().any(|text| text == operator_file::OPERATOR);
         let mut names: Vec<Name> = texts.iter().filter_map(|text| Name::of(text)).collect();
         names.sort();
-        let bases = names.iter().filter_map(|name| match name {
-            Name::Base(number, sequence) => Some((*number, *sequence)),
+        let bases = Vec::from_iter(names.iter().filter_map(listed_base));
+        let logs = Vec::from_iter(names.iter().filter_map(|name| match *name {
+            Name::Log(number) => Some(ListedLog {
+                number,
+                is_used: false,
+            }),
             _ => None,
-        });
-        let base = bases.max();
-        let first = base.map_or(1, |(number, _)| number);
-        let (mut logs, mut spent) = (vec![], vec![]);
-        for name in names {
-            match name {
-                Name::Log(number) if number >= first => logs.push(number),
-                Name::Base(number, sequence) if Some((number, sequence)) == base => {}
-                Name::Lost(..) => {}
-                _ => spent.push(name),
-            }
+        }));
+        let found = find(&bases, &logs)?;
+        let newest = ListedBase {
+            number: found.base,
+            past: found.past,
+        };
+        let is_newest = |name: &Name| listed_base(name) == Some(newest);
+        let base = names.iter().copied().find(is_newest);
+        let is_spent = |name: &Name| match *name {
+            Name::Log(number) => number < found.base,
+            Name::Base(..) => Some(*name) != base,
+            Name::Lost(..) => false,
+            _ => true,
+        };
+        names.retain(is_spent);
+        if base.is_some() && !found.is_there {
+            // A log is made before the base of its number.
+            return Err(missing(found.log));
         }
-        // A log is made before the next one, and before the base of its number.
-        let least = if base.is_some() { 1 } else { 0 };
-        let count = logs.len().max(least) as u64;
-        match (first..first + count).find(|number| !logs.contains(number)) {
-            Some(number) => Err(Error::Missing {
-                file: Name::Log(number).text(),
-            }),
-            None => Ok(Files {
-                base,
-                logs,
-                spent,
-                has_operator,
-            }),
-        }
+        Ok(Files {
+            bases,
+            logs,
+            found,
+            base,
+            spent: names,
+            has_operator,
+        })
     }
 
-    /// The names of those that are read.
-    fn names(&self) -> impl Iterator<Item = Name> + '_ {
-        let base = self
-            .base
-            .map(|(number, sequence)| Name::Base(number, sequence));
-        base.into_iter()
-            .chain(self.logs.iter().copied().map(Name::Log))
+    /// The numbers of the logs that aren't older than the base.
+    fn logs(&self) -> Vec<u64> {
+        let numbers = self.logs.iter().map(|log| log.number);
+        numbers
+            .filter(|number| *number >= self.found.base)
+            .collect()
     }
+
+    /// The names of those that may be read.
+    fn names(&self) -> impl Iterator<Item = Name> + '_ {
+        let logs = self.logs().into_iter().map(Name::Log);
+        self.base.into_iter().chain(logs)
+    }
+
+    /// Notes that a log is used.
+    fn use_log(&mut self, number: u64) {
+        for log in self.logs.iter_mut().filter(|log| log.number == number) {
+            log.is_used = true;
+        }
+    }
+}
+
+/// A base as it is listed. One of an older version, whose name has no sequence, comes before the others of its number.
+fn listed_base(name: &Name) -> Option<ListedBase> {
+    match *name {
+        Name::Base(number, sequence) => Some(ListedBase {
+            number,
+            past: sequence.map_or(0, |sequence| sequence.saturating_add(1)),
+        }),
+        _ => None,
+    }
+}
+
+/// The files that are read of those that are listed.
+fn find(bases: &[ListedBase], logs: &[ListedLog]) -> Result<FolderFiles, Error> {
+    FolderFiles::find(bases, logs).map_err(|MissingLog(number)| missing(number))
 }
 
 impl Recovery {
@@ -117,8 +155,7 @@ impl Recovery {
     pub(crate) fn read(folder: &dyn Folder, options: &Options) -> Result<Recovery, Error> {
         let files = Files::of(folder)?;
         if options.must_exist && files.base.is_none() && files.logs.is_empty() {
-            let file = Name::Log(1).text();
-            return Err(Error::Missing { file });
+            return Err(missing(1));
         }
         let mut recovery = Recovery {
             store: Store::create(options.operator, &options.to_store())?,
@@ -126,11 +163,12 @@ impl Recovery {
             operator: options.operator,
             moments: Moments::of(options),
             is_enough: false,
-            number: files.base.map_or(1, |(number, _)| number),
+            number: files.found.base,
             files,
             before: 0,
             length: 0,
             ending: Ending::Whole,
+            torn: None,
             older: vec![],
             based: 0,
             begin: Begin::Behind,
@@ -165,27 +203,52 @@ impl Recovery {
     /// last one that has bytes have to be whole.
     fn replay_all(&mut self, folder: &dyn Folder, reading: &mut Reading) -> Result<(), Error> {
         let mut name = Name::Log(self.number);
-        if let Some((number, sequence)) = self.files.base {
-            name = Name::Base(number, sequence);
+        if let Some(base @ Name::Base(_, sequence)) = self.files.base {
+            name = base;
             self.replay_base(name, &mut Windows::of(folder, name)?, sequence, reading)?;
         }
         self.moments.begin(Name::Log(self.number));
-        for number in self.files.logs.clone() {
+        for (number, wanted) in self.files.logs().into_iter().zip(self.number..) {
             let mut windows = Windows::of(folder, Name::Log(number))?;
             if self.is_enough {
                 self.moments
                     .check_given_up(Name::Log(number), &mut windows)?;
+            } else if number != wanted {
+                // One is missing. That matters if one after it has a batch.
+                if is_batch(&mut windows, 0)? {
+                    self.files.use_log(number);
+                }
             } else if windows.length() > 0 {
                 self.check_whole(name)?;
                 name = Name::Log(number);
                 self.go_on(number);
                 self.replay(name, &mut windows, reading)?;
+                if self.length > 0 {
+                    self.files.use_log(number);
+                }
                 if self.is_enough {
                     self.moments.check_given_up(name, &mut windows)?;
                 }
             }
         }
-        self.moments.finish(&self.store, self.length)
+        self.files.found = find(&self.files.bases, &self.files.logs)?;
+        self.moments.finish(&self.store, self.length)?;
+        self.go_back();
+        Ok(())
+    }
+
+    /// Goes back from logs without a batch to the log that goes on.
+    fn go_back(&mut self) {
+        while self.number > self.files.found.log {
+            if let Ending::Left(..) = self.ending {
+                self.torn = Some(self.number);
+            }
+            let Some(log) = self.older.pop() else {
+                break;
+            };
+            (self.number, self.before, self.length) = (log.number, log.before, log.length);
+            self.ending = Ending::Whole;
+        }
     }
 
     /// Writes what a base has to the store. Its last sequence is the one that its name has.
@@ -275,14 +338,15 @@ impl Recovery {
         is_part: bool,
         counts: &Arc<Counts>,
     ) -> Result<(Opened, Log), Error> {
-        let is_new = self.files.logs.is_empty();
+        let is_new = !self.files.found.is_there;
         let unready = Unready {
             operator: (!self.files.has_operator).then_some(self.operator),
             number: self.number,
             is_new,
             length: self.length,
             ending: self.ending,
-            logs: self.files.logs,
+            torn: self.torn,
+            logs: self.files.logs(),
             spent: self.files.spent,
         };
         let last = Older {
@@ -302,6 +366,13 @@ impl Recovery {
             set_aside,
         };
         Ok((opened, log))
+    }
+}
+
+/// The error of a log that is missing.
+fn missing(number: u64) -> Error {
+    Error::Missing {
+        file: Name::Log(number).text(),
     }
 }
 

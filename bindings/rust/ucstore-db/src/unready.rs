@@ -21,6 +21,8 @@ pub(crate) struct Unready {
     pub(crate) length: u64,
     /// The end after that.
     pub(crate) ending: Ending,
+    /// A log after it of which what is there is set aside.
+    pub(crate) torn: Option<u64>,
     /// The logs that are there, in their order. Those after this one go.
     pub(crate) logs: Vec<u64>,
     /// Files that hold nothing that isn't elsewhere.
@@ -42,13 +44,17 @@ impl Unready {
         // The names that were read stay after a crash, before others go: those of logs from the last one on, and what is cut off
         // after them. So the directory always has the batches up to one of them.
         folder.sync().map_err(Error::of_file(""))?;
+        let mut set_aside = None;
         for number in self.logs.iter().rev() {
             if *number > self.number {
+                if self.torn == Some(*number) {
+                    set_aside = kept::set_aside(folder, *number, 0)?;
+                }
                 remove(folder, Name::Log(*number))?;
                 folder.sync().map_err(Error::of_file(""))?;
             }
         }
-        let set_aside = self.renew_log(folder)?;
+        let set_aside = set_aside.or(self.renew_log(folder)?);
         for name in &self.spent {
             remove(folder, *name)?;
         }

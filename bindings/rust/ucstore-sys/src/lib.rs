@@ -62,6 +62,8 @@ pub const UCSTORE_NO_CHECKPOINT: i32 = 26;
 pub const UCSTORE_HAS_CHECKPOINT: i32 = 27;
 /// Gap in sequence numbers.
 pub const UCSTORE_SEQUENCE_GAP: i32 = 28;
+/// Log missing.
+pub const UCSTORE_LOG_MISSING: i32 = 29;
 
 /// The memtables: they hold a put or a deletion of the key, or a range deletion over it.
 pub const UCSTORE_MEMTABLE: u32 = 0;
@@ -147,6 +149,34 @@ pub struct ucstore_log_place {
     pub offset: u64,
     pub last: u64,
     pub batches: u64,
+}
+
+/// A base that the folder of a database lists.
+#[repr(C)]
+#[derive(Clone, Copy, Debug, Default, PartialEq, Eq)]
+pub struct ucstore_folder_base {
+    pub number: u64,
+    pub past: u64,
+}
+
+/// A log that the folder of a database lists.
+#[repr(C)]
+#[derive(Clone, Copy, Debug, Default, PartialEq, Eq)]
+pub struct ucstore_folder_listed {
+    pub number: u64,
+    pub is_used: bool,
+}
+
+/// The files to read when the folder of a database is opened.
+#[repr(C)]
+#[derive(Clone, Copy, Debug, Default, PartialEq, Eq)]
+pub struct ucstore_folder_found {
+    pub base: u64,
+    pub past: u64,
+    pub least: u64,
+    pub log: u64,
+    pub top: u64,
+    pub is_there: bool,
 }
 
 extern "C" {
@@ -428,5 +458,13 @@ extern "C" {
         place: *mut ucstore_log_place,
         may_skip: bool,
         ended: *mut ucstore_ended,
+    ) -> i32;
+    pub fn ucstore_folder_find(
+        bases: *const ucstore_folder_base,
+        bases_length: usize,
+        logs: *const ucstore_folder_listed,
+        logs_length: usize,
+        found: *mut ucstore_folder_found,
+        missing: *mut u64,
     ) -> i32;
 }
