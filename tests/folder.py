@@ -84,6 +84,7 @@ class World:
     tried: Place = Place(FIRST, 0)
     writer: Tuple = ("making",)
     checkpointer: Tuple = ("idle",)
+    next_log: str = "absent"
     parts: Dict[int, Tuple[int, ...]] = field(default_factory=dict)
     batch: int = 0
     acked: Tuple[int, ...] = ()
@@ -96,6 +97,7 @@ PLANTS = (
     "a log isn't synced before the next one",
     "names aren't synced after the next log is made",
     "the log's number is used again",
+    "the next log is entered while the log is appended to",
     "what a failed append left isn't cut off",
     "syncs go on after one that failed",
     "a base is named before it is synced",
@@ -109,6 +111,8 @@ PLANTS = (
     "a base has what isn't on the device",
     "a mark tells of what isn't synced",
     "a reader passes over what is torn",
+    "appends go on after one that failed beside a sync",
+    "a log that isn't sealed is taken for sealed",
 )
 planted = ""
 
@@ -310,37 +314,37 @@ def confirmed(world: World, count: int) -> Tuple[int, ...]:
 
 
 AFTER = {"making": "founding", "founding": "ready", "setting aside": "copying", "copying": "sealing copy", "sealing copy": "replacing",
-         "replacing": "settling", "settling": "ready", "cutting": "ready", "closing": "beginning", "beginning": "entering",
-         "entering": "ready"}
+         "replacing": "settling", "settling": "ready", "cutting": "ready"}
 
 
 def next_write(world: World) -> Tuple:
     phase, log = world.writer[0], world.log
-    again = is_planted("the log's number is used again")
     return {
-        "making": ("create log", log), "founding": ("sync names",), "naming": ("sync names",), "clearing": ("remove log", *world.writer[1:]),
+        "making": ("create log", log), "founding": ("sync names",), "naming": ("sync names",), "clearing": ("remove log", *world.writer[1:2]),
         "setting aside": ("set aside", log), "copying": ("copy log", log), "sealing copy": ("sync copy",), "replacing": ("name copy", log),
         "settling": ("sync names",), "cutting": ("cut log", log, world.count), "mending": ("cut log", log, world.count),
-        "appending": ("append", log), "both": ("append", log), "closing": ("sync log", log, world.count), "beginning": ("create log", log if again else log + 1), "entering": ("sync names",),
+        "appending": ("append", log), "both": ("append", log), "closing": ("sync log", log, world.count),
     }.get(phase, ("nothing",))
 
 
 def told_write(world: World, is_done: bool) -> World:
     """The machine after the writer's operation."""
     phase, *numbers = world.writer
-    if phase in ("ready", "syncing", "failed"):
+    if phase in ("ready", "syncing", "spoiled", "failed"):
         return world
     if not is_done:
-        after = {"beginning": "ready", "appending": "mending"}
-        return replace(world, writer=(after.get(phase, "failed"),))
+        if phase == "both":
+            goes_on = is_planted("appends go on after one that failed beside a sync")
+            return replace(world, writer=("syncing" if goes_on else "spoiled", *numbers))
+        return replace(world, writer=("mending" if phase == "appending" else "failed",))
     if phase == "naming" or phase == "clearing":
         top = numbers[0] if phase == "naming" else numbers[0] - 1
-        renewing = ("setting aside",)
+        renewing = ("settling",) if numbers[1] else ("setting aside",)
         if is_planted("an opening appends after what is torn"):
             renewing = ("ready",)
         if is_planted("an opening cuts the log in its place"):
             renewing = ("cutting",)
-        world = replace(world, writer=("clearing", top) if top > world.log else renewing)
+        world = replace(world, writer=("clearing", top, numbers[1]) if top > world.log else renewing)
         return replace(world, checkpointer=removing(world.base)) if phase == "naming" else world
     if phase == "appending":
         world = replace(world, count=world.count + 1, writer=("ready",))
@@ -351,20 +355,21 @@ def told_write(world: World, is_done: bool) -> World:
         return replace(world, writer=("ready",), parts=parts)
     if phase == "both":
         return replace(world, count=world.count + 1, writer=("syncing", *numbers))
-    world = replace(world, writer=(AFTER[phase],))
-    if phase in ("settling", "closing", "cutting"):
-        return replace(world, synced=world.count, acked=confirmed(world, world.count))
-    if phase == "entering":
+    if phase == "closing":
         number = world.log if is_planted("the log's number is used again") else world.log + 1
-        return replace(world, log=number, count=0, synced=0, parts={**world.parts, number: part(world, number) if number == world.log else ()})
+        parts = {**world.parts, number: part(world, number) if number == world.log else ()}
+        acked = confirmed(world, world.count)
+        return replace(world, log=number, count=0, synced=0, parts=parts, acked=acked, writer=("ready",), next_log="absent")
+    world = replace(world, writer=(AFTER[phase],))
+    if phase in ("settling", "cutting"):
+        return replace(world, synced=world.count, acked=confirmed(world, world.count))
     return world
 
 
 def writes(world: World, outcome: str) -> World:
     """The writer's next operation is carried out."""
     device = device_after(world, next_write(world), outcome)
-    skipped = {"closing": "a log isn't synced before the next one", "entering": "names aren't synced after the next log is made",
-               "naming": "an opening removes before names are synced", "sealing copy": "a copy is named before it is synced",
+    skipped = {"closing": "a log isn't synced before the next one", "naming": "an opening removes before names are synced", "sealing copy": "a copy is named before it is synced",
                "settling": "names aren't synced after the copy has its name", "mending": "what a failed append left isn't cut off"}
     if world.writer[0] in skipped and is_planted(skipped[world.writer[0]]):
         device = world.device
@@ -375,12 +380,27 @@ def syncs(world: World, outcome: str) -> World:
     """The sync of the log ends that was asked for."""
     phase, count = world.writer[0], world.writer[1]
     device = device_after(world, ("sync log", world.log, count), outcome)
-    writer = ("appending",) if phase == "both" else ("ready",)
+    writer = {"both": ("appending",), "spoiled": ("mending",)}.get(phase, ("ready",))
     if outcome != DONE:
         return replace(world, device=device, writer=writer if is_planted("syncs go on after one that failed") else ("failed",))
     if is_planted("a sync acknowledges what was appended after it began"):
         count = world.count
     return replace(world, device=device, writer=writer, synced=count, acked=confirmed(world, count))
+
+
+def next_make(world: World) -> Tuple:
+    again = is_planted("the log's number is used again")
+    number = world.log if again else world.log + 1
+    return {"creating": ("create log", number), "recording": ("sync names",)}.get(world.next_log, ("nothing",))
+
+
+def makes(world: World, outcome: str) -> World:
+    """The next log is made, or its name is synced."""
+    device = device_after(world, next_make(world), outcome)
+    if world.next_log == "recording" and is_planted("names aren't synced after the next log is made"):
+        device = world.device
+    after = {"creating": "recording", "recording": "waiting"}[world.next_log]
+    return replace(world, device=device, next_log=after if outcome == DONE else "absent")
 
 
 def removing(base: int) -> Tuple:
@@ -416,12 +436,18 @@ def checkpoints(world: World, outcome: str) -> World:
     return replace(after, checkpointer=("removing log", numbers[0] + 1) if more else ("idle",))
 
 
-def opens(world: World) -> World:
-    """The folder is opened: from then on what was read is what was submitted."""
+def is_sealed(file: Optional[File]) -> bool:
+    """Whether nothing of a log waits: a record that was written when it was closed may say so."""
+    return file is not None and TORN not in file.kept and file.waiting == () and not file.suspect
+
+
+def opens(world: World, says: bool = False) -> World:
+    """The folder is opened: from then on what was read is what was submitted. It may be said that the log is sealed."""
     device, base, log = world.device, newest_base(world.device), last_log(world.device)
     parts = {number: part(world, number) if number < base else content(entry(device.logs, number).now) for number in range(max(log, world.log) + 1)}
     file, top = entry(device.bases, base).now, max([log] + [number for number, entry in device.logs.items() if entry.now is not None])
     here = entry(device.logs, log).now
+    sealed = says and (is_sealed(here) or is_planted("a log that isn't sealed is taken for sealed"))
     return replace(
         world, log=log, count=len(content(here)), synced=0, base=base, tried=Place(base, 0 if file is None else file.past),
-        writer=("making",) if here is None else ("naming", top), checkpointer=("idle",), parts=parts)
+        writer=("making",) if here is None else ("naming", top, sealed), checkpointer=("idle",), next_log="absent", parts=parts)

@@ -22,8 +22,8 @@ sys.path.insert(0, str(Path(__file__).resolve().parent))
 
 import folder  # noqa: E402, after the path that it is found by
 from folder import (  # noqa: E402
-    DONE, DONE_UNTOLD, NOT_DONE, PART_DONE, Place, World, change_log, checkpoints, confirmed, content, crashed, crashed_file, entry,
-    is_damaged, is_planted, is_readable, opens, part, recovered, submitted, syncs, upto, writes,
+    DONE, DONE_UNTOLD, NOT_DONE, PART_DONE, Place, World, change_log, checkpoints, confirmed, crashed, crashed_file, is_damaged,
+    is_planted, is_readable, makes, opens, part, recovered, submitted, syncs, upto, writes,
 )
 
 # The walks without a plant, the most with one, and the crashes that are tried after each event.
@@ -62,7 +62,10 @@ def asked(world: World, draw: random.Random) -> World:
         return replace(world, writer=writer, parts=parts, batch=world.next, next=world.next + 1)
     if kind < 0.45 and phase in ("ready", "appending"):
         return replace(world, writer=("syncing" if phase == "ready" else "both", world.count))
-    if kind < 0.65 and phase == "ready":
+    if kind < 0.55 and world.next_log == "absent" and (ready or phase in ("appending", "both")):
+        return replace(world, next_log="creating")
+    early = phase == "appending" and is_planted("the next log is entered while the log is appended to")
+    if kind < 0.65 and (phase == "ready" or early) and world.next_log == "waiting":
         return replace(world, writer=("closing",))
     if world.checkpointer == ("idle",) and (ready or phase in ("appending", "both")):
         number = draw.randint(world.base, world.log)
@@ -78,23 +81,31 @@ def step(world: World, draw: random.Random) -> World:
     kind, outcome = draw.random(), draw.choices((DONE, NOT_DONE, PART_DONE, DONE_UNTOLD), (12, 1, 1, 1))[0]
     phase, is_idle = world.writer[0], world.checkpointer == ("idle",)
     if kind < 0.015 or phase == "failed":
-        return draw.choice((opens_after_a_crash, opens_after_a_drop, lambda world, draw: opens(world)))(world, draw)
+        return draw.choice((opens_after_a_crash, opens_after_a_drop, ends))(world, draw)
     if kind < 0.03:
-        return opens(world)
-    if kind < 0.45 and not is_idle:
+        return ends(world, draw)
+    if kind < 0.4 and not is_idle:
         return checkpoints(world, outcome)
-    if phase in ("ready", "syncing") and kind < 0.8:
+    if kind < 0.55 and world.next_log in ("creating", "recording"):
+        return makes(world, outcome)
+    if phase in ("ready", "syncing") and kind < 0.85 or phase in ("appending", "both") and kind > 0.9:
         return asked(world, draw)
-    return syncs(world, outcome) if phase == "syncing" or phase == "both" and kind < 0.6 else writes(world, outcome)
+    return syncs(world, outcome) if phase in ("syncing", "spoiled") or phase == "both" and kind < 0.7 else writes(world, outcome)
+
+
+def ends(world: World, draw: random.Random) -> World:
+    """The process ends, and the folder is opened again."""
+    return opens(world, draw.random() < 0.5)
 
 
 def opens_after_a_crash(world: World, draw: random.Random) -> World:
-    return opens(replace(world, device=crashed(world.device, draw)))
+    return opens(replace(world, device=crashed(world.device, draw)), draw.random() < 0.5)
 
 
 def opens_after_a_drop(world: World, draw: random.Random) -> World:
     """The process ends, and the system lets go of what it held of the log: the device is read."""
-    return opens(replace(world, device=change_log(world.device, world.log, lambda file: crashed_file(file, draw))))
+    device = change_log(world.device, world.log, lambda file: crashed_file(file, draw))
+    return opens(replace(world, device=device), draw.random() < 0.5)
 
 
 def walk(draw: random.Random) -> Iterator[Tuple[World, Optional[str]]]:
@@ -119,7 +130,7 @@ def main() -> int:
     for seed in range(WALKS):
         for world, law in walk(random.Random(seed)):
             moments += 1
-            phases.update((world.writer[0], world.checkpointer[0]))
+            phases.update((world.writer[0], world.checkpointer[0], world.next_log))
             if law is not None:
                 failures.append(f"walk {seed} breaks: {law}")
     for plant in folder.PLANTS:

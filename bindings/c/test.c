@@ -820,6 +820,44 @@ static void folder_files(void) {
     CHECK(found.base == 1 && found.past == 0 && found.log == 1 && !found.is_there);
 }
 
+/* The next operation is this one, and is done. */
+static void expect_step(struct ucstore_folder_state *folder,
+                        int32_t (*next)(const struct ucstore_folder_state *, struct ucstore_folder_step *),
+                        int32_t (*told)(struct ucstore_folder_state *, bool), uint32_t kind, uint64_t number, uint64_t count) {
+    struct ucstore_folder_step step = {99, 99, 99};
+    CHECK(next(folder, &step) == UCSTORE_OK);
+    CHECK(step.kind == kind && step.number == number && step.count == count);
+    CHECK(told(folder, true) == UCSTORE_OK);
+}
+
+/* The machine of a folder: a log, the next one, and a base. */
+static void folder_machine(void) {
+    const struct ucstore_folder_found found = {1, 0, 1, 1, 1, false};
+    struct ucstore_folder_state folder, old;
+    struct ucstore_folder_step step = {99, 99, 99};
+    CHECK(ucstore_folder_open(&found, 0, false, &folder) == UCSTORE_OK);
+    expect_step(&folder, ucstore_folder_next_write, ucstore_folder_told_write, UCSTORE_FOLDER_CREATE_LOG, 1, 0);
+    expect_step(&folder, ucstore_folder_next_write, ucstore_folder_told_write, UCSTORE_FOLDER_SYNC_NAMES, 0, 0);
+    CHECK(ucstore_folder_submit(&folder) == UCSTORE_OK && ucstore_folder_ask_next(&folder) == UCSTORE_OK);
+    expect_step(&folder, ucstore_folder_next_make, ucstore_folder_told_make, UCSTORE_FOLDER_CREATE_LOG, 2, 0);
+    expect_step(&folder, ucstore_folder_next_write, ucstore_folder_told_write, UCSTORE_FOLDER_APPEND, 1, 0);
+    expect_step(&folder, ucstore_folder_next_make, ucstore_folder_told_make, UCSTORE_FOLDER_SYNC_NAMES, 0, 0);
+    CHECK(ucstore_folder_ask_sync(&folder) == UCSTORE_OK && folder.synced == 0);
+    expect_step(&folder, ucstore_folder_next_sync, ucstore_folder_told_sync, UCSTORE_FOLDER_SYNC_LOG, 1, 1);
+    CHECK(folder.count == 1 && folder.synced == 1 && ucstore_folder_ask_switch(&folder) == UCSTORE_OK);
+    expect_step(&folder, ucstore_folder_next_write, ucstore_folder_told_write, UCSTORE_FOLDER_SYNC_LOG, 1, 1);
+    CHECK(folder.log == 2 && folder.count == 0 && ucstore_folder_ask_checkpoint(&folder, 2, 0) == UCSTORE_OK);
+    expect_step(&folder, ucstore_folder_next_checkpoint, ucstore_folder_told_checkpoint, UCSTORE_FOLDER_WRITE_BASE, 2, 0);
+    CHECK(ucstore_folder_told_checkpoint(&folder, false) == UCSTORE_OK);
+    CHECK(ucstore_folder_next_checkpoint(&folder, &step) == UCSTORE_OK && step.kind == UCSTORE_FOLDER_NOTHING);
+    folder.writer = 99;
+    old = folder;
+    step.kind = 77;
+    CHECK(ucstore_folder_next_write(&folder, &step) == UCSTORE_NO_FOLDER && step.kind == 77);
+    CHECK(ucstore_folder_told_write(&folder, true) == UCSTORE_NO_FOLDER);
+    CHECK(memcmp(&folder, &old, sizeof old) == 0);
+}
+
 /* Opens the first bytes of the log, which end as a walk says. */
 static struct ucstore_ended reopen(size_t length) {
     struct ucstore opened = {0};
@@ -1127,7 +1165,7 @@ static void without_checkpoint(void) {
     CHECK(ucstore_checkpoint_next(&none, 0, 9, room, sizeof room, &size, &done) == UCSTORE_NO_CHECKPOINT);
     CHECK(ucstore_checkpoint_close(&none) == UCSTORE_NO_CHECKPOINT && room[0] == 0xAA && size == 99 && done);
     CHECK(strcmp(ucstore_status_text(UCSTORE_NO_CHECKPOINT), "checkpoint is not open") == 0);
-    CHECK(strcmp(ucstore_status_text(UCSTORE_LOG_MISSING + 1), ucstore_status_text(-1)) == 0);
+    CHECK(strcmp(ucstore_status_text(UCSTORE_NO_FOLDER + 1), ucstore_status_text(-1)) == 0);
 }
 
 /* A store of 255 runs, whose next compaction has all of them. */
@@ -1288,6 +1326,7 @@ int main(int argc, char **argv) {
     durable();
     skip();
     folder_files();
+    folder_machine();
     for (uint32_t one = UCSTORE_APPEND; one <= UCSTORE_TAIL; one++) {
         soak(one, operations);
     }

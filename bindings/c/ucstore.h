@@ -130,7 +130,8 @@ enum ucstore_status {
     UCSTORE_NO_CHECKPOINT = 26,    /* Checkpoint is not open. */
     UCSTORE_HAS_CHECKPOINT = 27,   /* Checkpoint is already open. */
     UCSTORE_SEQUENCE_GAP = 28,     /* Gap in sequence numbers: the next batch of the log does not follow the last write. */
-    UCSTORE_LOG_MISSING = 29       /* Log missing: the folder lists later logs, and not this one. */
+    UCSTORE_LOG_MISSING = 29,      /* Log missing: the folder lists later logs, and not this one. */
+    UCSTORE_NO_FOLDER = 30         /* Folder is not open: its state was not set, or was changed. */
 };
 
 /* Merge operators. An operator combines a key's operands and its value. */
@@ -181,6 +182,7 @@ static inline const char *ucstore_status_text(int32_t status) {
         "checkpoint is already open",
         "gap in sequence numbers",
         "log missing",
+        "folder is not open",
     };
     return status >= 0 && (size_t)status < sizeof texts / sizeof texts[0] ? texts[status] : "unknown status";
 }
@@ -260,6 +262,51 @@ struct ucstore_folder_found {
     uint64_t log;      /* Number of the log that goes on: the last one that is used, and not below `base`. */
     uint64_t top;      /* Greatest number of a log, not below `log`. Those above `log` may be removed. */
     bool is_there;     /* True if the log that goes on is listed. Only the first log may be missing, and then no batch is there. */
+};
+
+/* The machine of a folder. `ucstore_folder_open` sets it, and only the functions of folders change it. */
+struct ucstore_folder_state {
+    uint64_t log;           /* Number of the log that is written. */
+    uint64_t count;         /* Number of batches that it has. */
+    uint64_t synced;        /* Number of these that may be acknowledged as synced. */
+    uint64_t base;          /* Number of the newest base whose name is durable. */
+    uint64_t least;         /* No log or base has a lower number. */
+    uint64_t tried;         /* Number of the newest base that may have its name. */
+    uint64_t past;          /* Number of batches that it has of the log of that number. */
+    uint64_t at;            /* The fields from here on are the phases. */
+    uint64_t top;
+    uint64_t number;
+    uint64_t part;
+    uint32_t writer;
+    uint32_t next;
+    uint32_t checkpointer;
+    bool is_sealed;
+};
+
+/* A file operation. */
+struct ucstore_folder_step {
+    uint64_t number;        /* Number of the log or base; 0 if it has none. */
+    uint64_t count;         /* Number of batches; 0 if it has none. */
+    uint32_t kind;          /* One of `enum ucstore_folder_kind`. */
+};
+
+/* File operations. N is `number`, C is `count`. */
+enum ucstore_folder_kind {
+    UCSTORE_FOLDER_NOTHING = 0,      /* There is nothing to do. */
+    UCSTORE_FOLDER_CREATE_LOG = 1,   /* Create log N, without bytes. */
+    UCSTORE_FOLDER_APPEND = 2,       /* Append the batch to log N, with a mark: C of its batches are durable. */
+    UCSTORE_FOLDER_SYNC_LOG = 3,     /* Sync log N. C batches were there when this was asked for. */
+    UCSTORE_FOLDER_CUT_LOG = 4,      /* Truncate log N after C batches, and sync it. */
+    UCSTORE_FOLDER_SYNC_NAMES = 5,   /* Sync the directory. */
+    UCSTORE_FOLDER_SET_ASIDE = 6,    /* Keep the bytes after the batches of log N in a file that nothing reads. */
+    UCSTORE_FOLDER_COPY_LOG = 7,     /* Write the batches of log N that are read to a new file with a temporary name. */
+    UCSTORE_FOLDER_SYNC_COPY = 8,    /* Sync that file. */
+    UCSTORE_FOLDER_NAME_COPY = 9,    /* Rename it to log N. */
+    UCSTORE_FOLDER_WRITE_BASE = 10,  /* Write the rows of the logs before N, and of C batches of log N, to a new file. */
+    UCSTORE_FOLDER_SYNC_BASE = 11,   /* Sync that file. */
+    UCSTORE_FOLDER_NAME_BASE = 12,   /* Rename it to such a base. */
+    UCSTORE_FOLDER_REMOVE_LOG = 13,  /* Remove log N, if it is there. */
+    UCSTORE_FOLDER_REMOVE_BASE = 14  /* Remove the bases of number N, if there are any. */
 };
 
 /* Returns UCSTORE_ABI of the linked library. It changes when a function or a status changes its meaning, or a struct its size. A shared
@@ -566,6 +613,39 @@ int32_t ucstore_replay(struct ucstore *store, const uint8_t *log, size_t log_len
 int32_t ucstore_folder_find(const struct ucstore_folder_base *bases, size_t bases_length,
                             const struct ucstore_folder_listed *logs, size_t logs_length, struct ucstore_folder_found *found,
                             uint64_t *missing);
+
+/* Sets `state` to the machine of a folder in which `ucstore_folder_find` has found files, and `count` batches were read of the log that
+ * goes on. `is_sealed`: all of them are durable, as the record says by which a log was closed; then the log is not copied.
+ *
+ * The machine says which file operation comes next, so that a crash at any moment loses nothing that was acknowledged as synced. The
+ * caller asks for the next operation (`next_*`), does it, and reports whether it was done (`told_*`), in any number of threads, one call
+ * at a time. An operation that failed in any way is reported as not done. Of `state` the caller reads `log`, `count` and `synced`: the
+ * number of the log, its batches, and how many of these may be acknowledged as synced. All batches of older logs may. */
+int32_t ucstore_folder_open(const struct ucstore_folder_found *found, uint64_t count, bool is_sealed,
+                            struct ucstore_folder_state *state);
+
+/* Returns the next operation of the writer, of the log after the present one, of the sync of the log, or of the checkpointer.
+ * UCSTORE_NO_FOLDER. */
+int32_t ucstore_folder_next_write(const struct ucstore_folder_state *state, struct ucstore_folder_step *step);
+int32_t ucstore_folder_next_make(const struct ucstore_folder_state *state, struct ucstore_folder_step *step);
+int32_t ucstore_folder_next_sync(const struct ucstore_folder_state *state, struct ucstore_folder_step *step);
+int32_t ucstore_folder_next_checkpoint(const struct ucstore_folder_state *state, struct ucstore_folder_step *step);
+
+/* Reports whether that operation was done.
+ * UCSTORE_NO_FOLDER. */
+int32_t ucstore_folder_told_write(struct ucstore_folder_state *state, bool is_done);
+int32_t ucstore_folder_told_make(struct ucstore_folder_state *state, bool is_done);
+int32_t ucstore_folder_told_sync(struct ucstore_folder_state *state, bool is_done);
+int32_t ucstore_folder_told_checkpoint(struct ucstore_folder_state *state, bool is_done);
+
+/* Asks for an append of a batch, a sync of all that was appended, the next log, going on in it, or a base of the logs before `number` and
+ * of `past` batches of the log of that number. Nothing changes if this is not possible now, and then the next operation is another one.
+ * UCSTORE_NO_FOLDER. */
+int32_t ucstore_folder_submit(struct ucstore_folder_state *state);
+int32_t ucstore_folder_ask_sync(struct ucstore_folder_state *state);
+int32_t ucstore_folder_ask_next(struct ucstore_folder_state *state);
+int32_t ucstore_folder_ask_switch(struct ucstore_folder_state *state);
+int32_t ucstore_folder_ask_checkpoint(struct ucstore_folder_state *state, uint64_t number, uint64_t past);
 
 #ifdef __cplusplus
 }

@@ -1,10 +1,29 @@
-//! Folders of databases, whose files C keeps: which of them an opening reads.
+//! Folders of databases, whose files C keeps: which of them an opening reads, and the machine that says which file operation comes
+//! next. C holds that as a [`State`] of numbers, does what a [`Step`] says, and tells how it went.
 ghost use Rattle.std.specs.Prelude.{◌≡◌, ◌⊎◌};
+ghost use Rattle.uc_folder.specs.States.{state_of, step_of};
+ghost use Rattle.uc_folder.specs.Steps.{
+  next_write,
+  told_write,
+  next_make,
+  told_make,
+  next_sync,
+  told_sync,
+  next_checkpoint,
+  told_checkpoint,
+  submitting,
+  syncing,
+  asking_next,
+  switching,
+  may_begin,
+  checkpointing,
+  opened,
+};
 ghost use Rattle.uc_c.specs.declared.status.TheConstants.{OK, LOG_MISSING};
-ghost use Rattle.uc_c.specs.Folders.{FindsFiles};
+ghost use Rattle.uc_c.specs.Folders.{FindsFiles, IfMachine};
 
-use crate::status::{LOG_MISSING, OK};
-use uc_folder::{Base, Found, Listed, Missing, found_in};
+use crate::status::{LOG_MISSING, NO_FOLDER, OK};
+use uc_folder::{Base, Found, Listed, Machine, Missing, State, Step, found_in};
 
 /// Tells which files an opening reads of a folder that lists some bases and logs, in any order. Logs in the order of their numbers are each
 /// looked at once. Where a log is missing between the newest base and the last log, its number is told.
@@ -29,4 +48,201 @@ pub extern "C" fn ucstore_folder_find(
             LOG_MISSING
         }
     }
+}
+
+/// Opens the machine of a folder in which an opening found some files, and so many batches in the log that goes on. That is sealed if all
+/// that was read of it is on the device: then it isn't copied.
+#[unsafe(no_mangle)]
+pub extern "C" fn ucstore_folder_open(
+    found: &Found,
+    count: u64,
+    is_sealed: bool,
+    state: &mut State,
+) -> i32
+    ensures opened { state.new ≡ state_of (opened found.now count is_sealed) }
+    ensures ok { result ≡ OK }
+{
+    *state = State::of(Machine::open(*found, count, is_sealed));
+    OK
+}
+
+/// Tells the writer's next operation.
+#[unsafe(no_mangle)]
+pub extern "C" fn ucstore_folder_next_write(state: &State, step: &mut Step) -> i32
+    ensures told { IfMachine result state.now (λ m. step.new ≡ step_of (next_write m.writer m.log m.count m.synced)) }
+    ensures untold { (result ≡ OK) ⊎ (step.new ≡ step.old) }
+{
+    let Some(machine) = state.machine() else {
+        return NO_FOLDER;
+    };
+    *step = Step::of(machine.next_write());
+    OK
+}
+
+/// Tells the operation by which the next log is made, while batches are appended to this one.
+#[unsafe(no_mangle)]
+pub extern "C" fn ucstore_folder_next_make(state: &State, step: &mut Step) -> i32
+    ensures told { IfMachine result state.now (λ m. step.new ≡ step_of (next_make m.next m.log)) }
+    ensures untold { (result ≡ OK) ⊎ (step.new ≡ step.old) }
+{
+    let Some(machine) = state.machine() else {
+        return NO_FOLDER;
+    };
+    *step = Step::of(machine.next_make());
+    OK
+}
+
+/// Tells the sync of the log that is under way. A batch may be appended beside it.
+#[unsafe(no_mangle)]
+pub extern "C" fn ucstore_folder_next_sync(state: &State, step: &mut Step) -> i32
+    ensures told { IfMachine result state.now (λ m. step.new ≡ step_of (next_sync m.writer m.log)) }
+    ensures untold { (result ≡ OK) ⊎ (step.new ≡ step.old) }
+{
+    let Some(machine) = state.machine() else {
+        return NO_FOLDER;
+    };
+    *step = Step::of(machine.next_sync());
+    OK
+}
+
+/// Tells the checkpointer's next operation.
+#[unsafe(no_mangle)]
+pub extern "C" fn ucstore_folder_next_checkpoint(state: &State, step: &mut Step) -> i32
+    ensures told { IfMachine result state.now (λ m. step.new ≡ step_of (next_checkpoint m.checkpointer)) }
+    ensures untold { (result ≡ OK) ⊎ (step.new ≡ step.old) }
+{
+    let Some(machine) = state.machine() else {
+        return NO_FOLDER;
+    };
+    *step = Step::of(machine.next_checkpoint());
+    OK
+}
+
+/// Learns how the writer's operation went: done, or refused in any way.
+#[unsafe(no_mangle)]
+pub extern "C" fn ucstore_folder_told_write(state: &mut State, is_done: bool) -> i32
+    ensures told { IfMachine result state.old (λ m. state.new ≡ state_of (told_write m is_done)) }
+    ensures untold { (result ≡ OK) ⊎ (state.new ≡ state.old) }
+{
+    let Some(mut machine) = state.machine() else {
+        return NO_FOLDER;
+    };
+    machine.told_write(is_done);
+    *state = State::of(machine);
+    OK
+}
+
+/// Learns how the making of the next log went.
+#[unsafe(no_mangle)]
+pub extern "C" fn ucstore_folder_told_make(state: &mut State, is_done: bool) -> i32
+    ensures told { IfMachine result state.old (λ m. state.new ≡ state_of (told_make m is_done)) }
+    ensures untold { (result ≡ OK) ⊎ (state.new ≡ state.old) }
+{
+    let Some(mut machine) = state.machine() else {
+        return NO_FOLDER;
+    };
+    machine.told_make(is_done);
+    *state = State::of(machine);
+    OK
+}
+
+/// Learns how the sync of the log went.
+#[unsafe(no_mangle)]
+pub extern "C" fn ucstore_folder_told_sync(state: &mut State, is_done: bool) -> i32
+    ensures told { IfMachine result state.old (λ m. state.new ≡ state_of (told_sync m is_done)) }
+    ensures untold { (result ≡ OK) ⊎ (state.new ≡ state.old) }
+{
+    let Some(mut machine) = state.machine() else {
+        return NO_FOLDER;
+    };
+    machine.told_sync(is_done);
+    *state = State::of(machine);
+    OK
+}
+
+/// Learns how the checkpointer's operation went.
+#[unsafe(no_mangle)]
+pub extern "C" fn ucstore_folder_told_checkpoint(state: &mut State, is_done: bool) -> i32
+    ensures told { IfMachine result state.old (λ m. state.new ≡ state_of (told_checkpoint m is_done)) }
+    ensures untold { (result ≡ OK) ⊎ (state.new ≡ state.old) }
+{
+    let Some(mut machine) = state.machine() else {
+        return NO_FOLDER;
+    };
+    machine.told_checkpoint(is_done);
+    *state = State::of(machine);
+    OK
+}
+
+/// A batch is submitted: it is what the writer appends next. Nothing changes unless the writer may take it.
+#[unsafe(no_mangle)]
+pub extern "C" fn ucstore_folder_submit(state: &mut State) -> i32
+    ensures asked { IfMachine result state.old (λ m. state.new ≡ state_of (record m { writer = submitting m.writer })) }
+    ensures untold { (result ≡ OK) ⊎ (state.new ≡ state.old) }
+{
+    let Some(mut machine) = state.machine() else {
+        return NO_FOLDER;
+    };
+    machine.submit();
+    *state = State::of(machine);
+    OK
+}
+
+/// All that was appended is to be on the device. Nothing changes while a sync is under way.
+#[unsafe(no_mangle)]
+pub extern "C" fn ucstore_folder_ask_sync(state: &mut State) -> i32
+    ensures asked { IfMachine result state.old (λ m. state.new ≡ state_of (record m { writer = syncing m.writer m.count })) }
+    ensures untold { (result ≡ OK) ⊎ (state.new ≡ state.old) }
+{
+    let Some(mut machine) = state.machine() else {
+        return NO_FOLDER;
+    };
+    machine.ask_sync();
+    *state = State::of(machine);
+    OK
+}
+
+/// The next log is to be made. Nothing changes unless the folder is open, and none is made.
+#[unsafe(no_mangle)]
+pub extern "C" fn ucstore_folder_ask_next(state: &mut State) -> i32
+    ensures asked { IfMachine result state.old (λ m. state.new ≡ state_of (record m { next = asking_next m.writer m.next })) }
+    ensures untold { (result ≡ OK) ⊎ (state.new ≡ state.old) }
+{
+    let Some(mut machine) = state.machine() else {
+        return NO_FOLDER;
+    };
+    machine.ask_next();
+    *state = State::of(machine);
+    OK
+}
+
+/// The next log is to go on. Nothing changes unless it is there and the writer is ready.
+#[unsafe(no_mangle)]
+pub extern "C" fn ucstore_folder_ask_switch(state: &mut State) -> i32
+    ensures asked { IfMachine result state.old (λ m. state.new ≡ state_of (record m { writer = switching m.writer m.next })) }
+    ensures untold { (result ≡ OK) ⊎ (state.new ≡ state.old) }
+{
+    let Some(mut machine) = state.machine() else {
+        return NO_FOLDER;
+    };
+    machine.ask_switch();
+    *state = State::of(machine);
+    OK
+}
+
+/// A base is to be made of the logs before a number, and of some batches of the log of that number. Nothing changes unless the folder
+/// is open, no base is under way, none has as much, and all of it is in older logs.
+#[unsafe(no_mangle)]
+pub extern "C" fn ucstore_folder_ask_checkpoint(state: &mut State, number: u64, past: u64) -> i32
+    ensures asked { IfMachine result state.old (λ m. state.new ≡ state_of (record m {
+          checkpointer = checkpointing m.checkpointer (may_begin m number past) number past;
+        })) }
+    ensures untold { (result ≡ OK) ⊎ (state.new ≡ state.old) }
+{
+    let Some(mut machine) = state.machine() else {
+        return NO_FOLDER;
+    };
+    machine.ask_checkpoint(number, past);
+    *state = State::of(machine);
+    OK
 }

@@ -21,7 +21,8 @@
 //!
 //! The functions of `logs.rt` need no handle: C keeps a log in a file of its own, appends what they lay out, and walks
 //! over it. `replaying.rt` writes the batches of such a walk to a store. Where a walk stops, it tells why through an address.
-//! `folders.rt` finds the files of a database's folder that an opening reads.
+//! `folders.rt` finds the files of a database's folder that an opening reads, and says which file operation comes next; C holds its
+//! machine in a struct of numbers.
 //!
 //! Read `status.rt` and `specs/Replies.antt` first, for what the functions answer, then `opening.rt`, `batches.rt`,
 //! `writing.rt`, `snapshots.rt`, `readable.rt`, `reading.rt`, `many.rt`, `scanning.rt`, `views.rt`, `view_reading.rt`,

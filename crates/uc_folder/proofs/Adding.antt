@@ -5,16 +5,16 @@ use Rattle.std.specs.List.{AllByRecursion}
 use Rattle.std.proofs.lemmas.List.{append-nil, take-append-le, length-append, length-take, take_at}
 use Rattle.uc_folder.specs.declared.machine.Machine.{Machine}
 use Rattle.uc_folder.specs.declared.phases.Writer.{Writer}
-use Rattle.uc_folder.specs.declared.phases.Writer.TheVariants.{Ready, Appending, Mending, Syncing, Both, Failed}
+use Rattle.uc_folder.specs.declared.phases.Writer.TheVariants.{Ready, Appending, Mending, Syncing, Both, Spoiled}
 use Rattle.uc_folder.specs.declared.phases.Checkpointer.{Checkpointer}
-use Rattle.uc_folder.specs.Device.{Batch, Record, Whole, Torn, first_whole, are_whole, File, Entry, Device, content, upto, appended, synced, changed, changed_name}
+use Rattle.uc_folder.specs.Device.{Batch, Record, Whole, Torn, first_whole, are_whole, File, Entry, Device, upto, appended, synced, changed, changed_name}
 use Rattle.uc_folder.specs.Worlds.{World, IsPrefixOf, Outcome, Done, NotDone, PartDone, DoneUntold, Writes, happens}
 use Rattle.uc_folder.proofs.Lists.{prefix_refl, prefix_trans, prefix_under, prefix_take}
 use Rattle.uc_folder.proofs.Records.{first_append, first_prefix, whole_append, whole_length}
 use Rattle.uc_folder.proofs.Sound.{Sound, IsThere, IsLast, settled}
 use Rattle.uc_folder.proofs.Holding.{IsOpen, IsAppended, FitsWriter, Keeps, IsMendable}
 use Rattle.uc_folder.proofs.Changes.{entry_sound, submitted_sound}
-use Rattle.uc_folder.proofs.Writing.{world, inside, fails, with_file, filed, last_of, here, here_before, take_more, most, synced_file, synced_is, synced_all, synced_first, synced_more, answered_in, waits}
+use Rattle.uc_folder.proofs.Writing.{world, inside, with_file, filed, last_of, here, here_before, take_more, most, synced_file, synced_is, synced_all, synced_first, synced_more, waits}
 
 -- no more is on the device than the log has
 pub marked_count : (count synced : ℕ) (firm before part : List Batch) (e : Entry) → IsOpen count synced firm before part e → synced ≤ length part
@@ -115,11 +115,6 @@ module _ (d : Device) (m : Machine) (c : Checkpointer) (parts : ℕ → List Bat
   untold : (w v : Writer) (keeps : Keeps (inside' w)) (is : IsAppended' keeps.firm) → FitsWriter (file' (appended record')) log m.count m.synced m.base keeps.firm before part batch v → Keeps (world (file' (appended record')) m v c parts batch acked)
   untold w v keeps is fits = appends m.count w v keeps is fits
 
-  untold_failed : (firm : List Batch) (is : IsAppended' firm) → IsPrefixOf (take m.count part) (content ((file' (appended record')).logs log).now)
-  untold_failed firm is =
-      let open' = appended_open firm is in
-      subst (IsPrefixOf (take m.count part)) (sym (ap content open'.now ∙ open'.all)) (prefix_take m.count part)
-
   untold_mends : (firm : List Batch) (is : IsAppended' firm) → FitsWriter (file' (appended record')) log m.count m.synced m.base firm before part batch Mending
   untold_mends firm is =
       let f = is.2.file in (
@@ -145,9 +140,6 @@ module _ (d : Device) (m : Machine) (c : Checkpointer) (parts : ℕ → List Bat
             (sym (append_assoc f.kept f.waiting (Torn ∷ []))),
       )
 
-  torn_failed : (firm : List Batch) (is : IsAppended' firm) → IsPrefixOf (take m.count part) (content ((file' (appended Torn)).logs log).now)
-  torn_failed firm is = answered_in (file' (appended Torn)) log m.count m.synced m.base firm before part batch Mending (torn_mends firm is)
-
   none_mends : (firm : List Batch) (is : IsAppended' firm) → FitsWriter d log m.count m.synced m.base firm before part batch Mending
   none_mends firm is = let f = is.2.file in (is.0, is.1, mendable firm is (d.logs log) f [] is.2.now is.2.named is.2.fresh refl (sym (append-nil (f.kept ++ f.waiting))))
 
@@ -159,9 +151,9 @@ module _ (d : Device) (m : Machine) (c : Checkpointer) (parts : ℕ → List Bat
 
   pub both_keeps : (n : ℕ) (o : Outcome) → Keeps (inside' (Both n)) → Keeps (happens (inside' (Both n)) (Writes o))
   both_keeps n Done keeps = let le = keeps.writer.2 in appends (m.count + 1) (Both n) (Syncing n) keeps keeps.writer.0 (appended_open keeps.firm keeps.writer.0, keeps.writer.1, omega (arith, le))
-  both_keeps n NotDone keeps = fails d m c parts batch acked (Both n) keeps
-  both_keeps n PartDone keeps = torn (Both n) Failed keeps keeps.writer.0 (torn_failed keeps.firm keeps.writer.0)
-  both_keeps n DoneUntold keeps = untold (Both n) Failed keeps keeps.writer.0 (untold_failed keeps.firm keeps.writer.0)
+  both_keeps n NotDone keeps = waits d m c parts batch acked (Both n) (Spoiled n) keeps (none_mends keeps.firm keeps.writer.0, keeps.writer.1, keeps.writer.2)
+  both_keeps n PartDone keeps = torn (Both n) (Spoiled n) keeps keeps.writer.0 (torn_mends keeps.firm keeps.writer.0, keeps.writer.1, keeps.writer.2)
+  both_keeps n DoneUntold keeps = untold (Both n) (Spoiled n) keeps keeps.writer.0 (untold_mends keeps.firm keeps.writer.0, keeps.writer.1, keeps.writer.2)
 
   -- ---- a sync
 

@@ -5,7 +5,7 @@ use Rattle.std.proofs.lemmas.List.{length-take-le}
 use Rattle.std.proofs.lemmas.Bool.{ltb-true}
 use Rattle.uc_folder.specs.declared.machine.Machine.{Machine}
 use Rattle.uc_folder.specs.declared.phases.Writer.{Writer}
-use Rattle.uc_folder.specs.declared.phases.Writer.TheVariants.{Making, Founding, Naming, Clearing, SettingAside, Copying, SealingCopy, Replacing, Settling, Ready, Appending, Mending, Syncing, Both, Closing, Beginning, Entering, Failed}
+use Rattle.uc_folder.specs.declared.phases.Writer.TheVariants.{Making, Founding, Naming, Clearing, SettingAside, Copying, SealingCopy, Replacing, Settling, Ready, Appending, Mending, Syncing, Both, Spoiled, Closing, Failed}
 use Rattle.uc_folder.specs.declared.phases.Checkpointer.{Checkpointer}
 use Rattle.uc_folder.specs.declared.phases.Checkpointer.TheVariants.{Idle, Writing, Sealing, Renaming, Fixing, RemovingLog, RemovingBase}
 use Rattle.uc_folder.specs.Device.{Batch, File, Entry, Device, first_number, content, is_there, sealed, rows_of, stands_for, name_log, name_base, sync_names, write_partial, upto}
@@ -14,7 +14,7 @@ use Rattle.uc_folder.specs.Worlds.{World, IsPrefixOf, first_of, Outcome, Done, N
 use Rattle.uc_folder.proofs.Lists.{prefix_take, at_all, at_here, at_other}
 use Rattle.uc_folder.proofs.Records.{rows_first, rows_whole}
 use Rattle.uc_folder.proofs.Sound.{IsWhole, IsThere, Sound}
-use Rattle.uc_folder.proofs.Holding.{Stands, IsRead, IsNew, IsOpen, IsOpening, IsAppended, FitsWriter, IsCopy, FitsCheckpointer, Keeps}
+use Rattle.uc_folder.proofs.Holding.{Stands, IsRead, IsNew, IsOpen, IsOpening, IfSealed, IsAppended, IsSpoiled, FitsWriter, IsCopy, FitsCheckpointer, Keeps}
 use Rattle.uc_folder.proofs.Opening.{there_true}
 use Rattle.uc_folder.proofs.Changes.{named_sound, raised_sound, based_sound, aside_sound, log_removed_sound, base_removed_sound}
 use Rattle.uc_folder.proofs.Writing.{world}
@@ -32,17 +32,16 @@ opening_stays : (count : ℕ) (part : List Batch) (a b : Entry) → b.now ≡ a.
 opening_stays count part a b same named is = (subst (IsRead part) (sym same) is.0, named is.1, is.2)
 
 -- nothing changes for it: names that are there stay
-record Spares (d e : Device) (log base new : ℕ) : Type 0 where
-  pub same : (k : ℕ) → log ≤ k → (e.logs k).now ≡ (d.logs k).now
+pub record Spares (d e : Device) (log base new : ℕ) : Type 0 where
+  pub same : (e.logs log).now ≡ (d.logs log).now
   pub named : (d.logs log).before ≡ [] → (e.logs log).before ≡ []
   pub copy : e.copy ≡ d.copy
-  pub top : d.names ≤ e.names
   pub stands : Stands d base → Stands e new
   pub below : base ≤ log → new ≤ log
 
 module _ (d e : Device) (log count synced base new : ℕ) (firm before part : List Batch) (batch : Batch) (s : Spares d e log base new) where
   here : (e.logs log).now ≡ (d.logs log).now
-  here = s.same log (omega arith)
+  here = s.same
 
   opened : IsOpen count synced firm before part (d.logs log) → IsOpen count synced firm before part (e.logs log)
   opened = open_stays count synced firm before part (d.logs log) (e.logs log) here s.named
@@ -53,22 +52,8 @@ module _ (d e : Device) (log count synced base new : ℕ) (firm before part : Li
   appended : IsAppended count synced firm before part batch (d.logs log) → IsAppended count synced firm before part batch (e.logs log)
   appended is = (is.0, is.1, open_stays count synced firm before is.0 (d.logs log) (e.logs log) here s.named is.2)
 
-  closed : ((is : IsOpen count synced firm before part (d.logs log)) × IsWhole part is.file) → ((is : IsOpen count synced firm before part (e.logs log)) × IsWhole part is.file)
-  closed is = (record { file = is.0.file; now = here ∙ is.0.now; named = s.named is.0.named; whole = is.0.whole; all = is.0.all; fresh = is.0.fresh; counted = is.0.counted; marked = is.0.marked; told = is.0.told }, is.1)
-
-  writer_stays : (w : Writer) → FitsWriter d log count synced base firm before part batch w → FitsWriter e log count synced new firm before part batch w
-  writer_stays Making fits = (here ∙ fits.0, fits.1, fits.2, fits.3, s.stands fits.4, s.below fits.5)
-  writer_stays Founding fits = (new_stays (d.logs log) (e.logs log) here fits.0, fits.1, fits.2, fits.3)
-  writer_stays (Naming top) fits = (subst (IsRead part) (sym here) fits.0, fits.1, s.stands fits.2, s.below fits.3)
-  writer_stays (Clearing k top) fits = (opening fits.0, fits.1)
-  writer_stays SettingAside fits = opening fits
-  writer_stays Copying fits = opening fits
-  writer_stays SealingCopy fits = (opening fits.0, subst (IsCopy part) (sym s.copy) fits.1)
-  writer_stays Replacing fits = (opening fits.0, subst (IsWhole part) (sym s.copy) fits.1, ap (λ (f : File). f.suspect) s.copy ∙ fits.2)
-  writer_stays Settling fits = (fits.0, here ∙ fits.1, fits.2, fits.3, fits.4)
-  writer_stays Ready fits = opened fits
-  writer_stays Appending fits = appended fits
-  writer_stays Mending fits =
+  spoiled : IsSpoiled count synced firm before part batch (d.logs log) → IsSpoiled count synced firm before part batch (e.logs log)
+  spoiled fits =
       let is = fits.2 in (
         fits.0,
         fits.1,
@@ -86,15 +71,24 @@ module _ (d e : Device) (log count synced base new : ℕ) (firm before part : Li
           told = is.told;
         },
       )
+
+  pub writer_stays : (w : Writer) → FitsWriter d log count synced base firm before part batch w → FitsWriter e log count synced new firm before part batch w
+  writer_stays Making fits = (here ∙ fits.0, fits.1, fits.2, fits.3, s.stands fits.4, s.below fits.5)
+  writer_stays Founding fits = (new_stays (d.logs log) (e.logs log) here fits.0, fits.1, fits.2, fits.3)
+  writer_stays (Naming top sealed) fits = (subst (IsRead part) (sym here) fits.0, fits.1, s.stands fits.2, s.below fits.3, subst (IfSealed sealed part) (sym here) fits.4)
+  writer_stays (Clearing k top sealed) fits = (opening fits.0, fits.1, subst (IfSealed sealed part) (sym here) fits.2)
+  writer_stays SettingAside fits = opening fits
+  writer_stays Copying fits = opening fits
+  writer_stays SealingCopy fits = (opening fits.0, subst (IsCopy part) (sym s.copy) fits.1)
+  writer_stays Replacing fits = (opening fits.0, subst (IsWhole part) (sym s.copy) fits.1, ap (λ (f : File). f.suspect) s.copy ∙ fits.2)
+  writer_stays Settling fits = (fits.0, here ∙ fits.1, fits.2, fits.3, fits.4)
+  writer_stays Ready fits = opened fits
+  writer_stays Appending fits = appended fits
+  writer_stays Mending fits = spoiled fits
   writer_stays (Syncing n) fits = (opened fits.0, fits.1, fits.2)
   writer_stays (Both n) fits = (appended fits.0, fits.1, fits.2)
+  writer_stays (Spoiled n) fits = (spoiled fits.0, fits.1, fits.2)
   writer_stays Closing fits = opened fits
-  writer_stays Beginning fits = let both = closed (fits.0, fits.1) in (both.0, both.1, fits.2)
-  writer_stays Entering fits =
-      let both = closed (fits.0, fits.1) in
-      let top = s.top in
-      let le = fits.4 in
-      (both.0, both.1, fits.2, new_stays (d.logs (log + 1)) (e.logs (log + 1)) (s.same (log + 1) (omega arith)) fits.3, omega (arith, top, le))
   writer_stays Failed fits = subst (IsPrefixOf (take count part)) (sym (ap content here)) fits
 
 -- ---- its steps
@@ -124,7 +118,7 @@ module _ (d : Device) (m : Machine) (w : Writer) (parts : ℕ → List Batch) (b
 
   partial_steps : (p : File) (c v : Checkpointer) → (keeps : Keeps (inside c)) → FitsCheckpointer (write_partial p d) log m.base keeps.sure parts keeps.firm v → Keeps (world (write_partial p d) m w v parts batch acked)
   partial_steps p c v keeps fits =
-      steps (write_partial p d) m.base m.least m.tried m.past keeps.sure c v (record { same = λ k le. refl; named = λ e. e; copy = refl; top = omega arith; stands = λ s. s; below = λ le. le }) keeps
+      steps (write_partial p d) m.base m.least m.tried m.past keeps.sure c v (record { same = refl; named = λ e. e; copy = refl; stands = λ s. s; below = λ le. le }) keeps
       (aside_sound d log keeps.sure parts keeps.firm keeps.sound d.copy p) keeps.under fits
 
   abbrev base_file : ℕ → ℕ → File
@@ -156,10 +150,9 @@ module _ (d : Device) (m : Machine) (w : Writer) (parts : ℕ → List Batch) (b
       let size = length-take-le past (parts n) is.0.size in
       steps (name_base n (Some d.partial) d) m.base m.least n past keeps.sure (Renaming n past) v
       (record {
-        same = λ k le. refl;
+        same = refl;
         named = λ e. e;
         copy = refl;
-        top = omega arith;
         stands = λ s. ⊎_elim (λ (e : m.base ≡ first_number). inl e) (λ (is : is_there (d.bases m.base).now ≡ true). inr (there m.base is)) s;
         below = λ le. le;
       })
@@ -178,7 +171,7 @@ module _ (d : Device) (m : Machine) (w : Writer) (parts : ℕ → List Batch) (b
   renaming_keeps n past DoneUntold keeps = renamed n past Idle keeps tt
 
   names_spare : (new : ℕ) → (Stands d m.base → Stands d new) → (m.base ≤ log → new ≤ log) → Spares d (sync_names d) log m.base new
-  names_spare new stands below = record { same = λ k le. refl; named = λ e. refl; copy = refl; top = omega arith; stands = stands; below = below }
+  names_spare new stands below = record { same = refl; named = λ e. refl; copy = refl; stands = stands; below = below }
 
   -- all that is removed is below the newest base
   removes : (e : Device) (least base sure : ℕ) (firm : List Batch) → sure ≡ base → FitsCheckpointer e log base sure parts firm (removing_from least base)
@@ -212,10 +205,9 @@ module _ (d : Device) (m : Machine) (w : Writer) (parts : ℕ → List Batch) (b
       let lt : k < keeps.sure = omega (arith, same, below) in
       steps (name_log k None d) m.base m.least m.tried m.past keeps.sure (RemovingLog k) v
       (record {
-        same = λ i l. ap (λ (e : Entry). e.now) (at_other k (stands_for None (d.logs k)) d.logs i (omega (arith, lt, reached, l)));
+        same = ap (λ (e : Entry). e.now) (at_other k (stands_for None (d.logs k)) d.logs log (omega (arith, lt, reached)));
         named = λ e. ap (λ (e : Entry). e.before) (at_other k (stands_for None (d.logs k)) d.logs log (omega (arith, lt, reached))) ∙ e;
         copy = refl;
-        top = omega arith;
         stands = λ s. s;
         below = λ l. l;
       })
@@ -234,10 +226,9 @@ module _ (d : Device) (m : Machine) (w : Writer) (parts : ℕ → List Batch) (b
       let lt : k < keeps.sure = omega (arith, same, below) in
       steps (name_base k None d) m.base least m.tried m.past keeps.sure (RemovingBase k) v
       (record {
-        same = λ i l. refl;
+        same = refl;
         named = λ e. e;
         copy = refl;
-        top = omega arith;
         stands = λ s. ⊎_elim (λ (e : m.base ≡ first_number). inl e)
             (λ (is : is_there (d.bases m.base).now ≡ true). inr (subst (λ (x : Entry). is_there x.now ≡ true) (sym (at_other k (stands_for None (d.bases k)) d.bases m.base (omega (arith, below)))) is)) s;
         below = λ l. l;

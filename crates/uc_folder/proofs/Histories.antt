@@ -1,30 +1,33 @@
 -- Every list of events keeps what holds; and what openings find after it.
-use Rattle.std.proofs.Common.{◌≡◌, ℕ, ◌≤◌, false, inl, List, [], ◌∷◌, ◌++◌, length, take, refl, sym, ap, ◌∙◌, subst, arith}
+use Rattle.std.proofs.Common.{◌≡◌, ℕ, ◌≤◌, Bool, false, inl, List, [], ◌∷◌, ◌++◌, length, take, refl, sym, ap, ◌∙◌, subst, arith}
 use Rattle.std.specs.Prelude.{Some}
 use Rattle.std.specs.Prelude.{Some, Result, Ok}
 use Rattle.std.proofs.lemmas.List.{take-append-le}
 use Rattle.uc_folder.specs.declared.machine.Machine.{Machine}
 use Rattle.uc_folder.specs.declared.phases.Writer.{Writer}
-use Rattle.uc_folder.specs.declared.phases.Writer.TheVariants.{Making, Replacing, Settling, Appending, Syncing, Both, Closing}
+use Rattle.uc_folder.specs.declared.phases.Writer.TheVariants.{Making, Replacing, Settling, Appending, Syncing, Both, Spoiled, Closing}
+use Rattle.uc_folder.specs.declared.phases.NextLog.{NextLog}
+use Rattle.uc_folder.specs.declared.phases.NextLog.TheVariants.{Absent}
 use Rattle.uc_folder.specs.declared.phases.Checkpointer.{Checkpointer}
 use Rattle.uc_folder.specs.declared.phases.Checkpointer.TheVariants.{Idle}
 use Rattle.uc_folder.specs.Device.{Batch, first_whole, content, File, Device, Keep, first_number, upto, crashed, recovered}
-use Rattle.uc_folder.specs.Steps.{next_write, next_sync, next_checkpoint}
+use Rattle.uc_folder.specs.Steps.{next_write, next_make, next_sync, next_checkpoint, asking_next}
 use Rattle.uc_folder.specs.declared.listing.Base.{Base}
 use Rattle.uc_folder.specs.declared.listing.Listed.{Listed}
 use Rattle.uc_folder.specs.declared.listing.Found.{Found}
 use Rattle.uc_folder.specs.declared.listing.Missing.{Missing}
 use Rattle.uc_folder.specs.Listing.{IsListing, IsFoundIn}
 use Rattle.uc_folder.proofs.Names.{finds}
-use Rattle.uc_folder.specs.Worlds.{found, World, IsPrefixOf, IsReadable, Outcome, Done, NotDone, PartDone, DoneUntold, Event, Submit, AskSync, AskSwitch, AskCheckpoint, Writes, Syncs, Checkpoints, Crash, Restart, Reread, reread, first_of, answered, acked_after, acked_then, happens, opens, start, run, submitted}
+use Rattle.uc_folder.specs.Worlds.{found, World, IsPrefixOf, IsReadable, Outcome, Done, NotDone, PartDone, DoneUntold, Event, Submit, AskSync, AskNext, AskSwitch, AskCheckpoint, Writes, Makes, Syncs, Checkpoints, Crash, Restart, Reread, reread, first_of, answered, acked_after, acked_then, happens, opens, start, run, submitted}
 use Rattle.uc_folder.proofs.Lists.{prefix_refl, prefix_trans, prefix_under}
 use Rattle.uc_folder.proofs.Sound.{Sound, crash_sound}
 use Rattle.uc_folder.proofs.Opening.{j, read, sound_firm, opened_keeps, opened_sound, opened_reads, opened_prefix, opened_answered, opened_readable}
-use Rattle.uc_folder.proofs.Holding.{IsOpen, FitsWriter, Keeps}
+use Rattle.uc_folder.proofs.Holding.{IsOpen, IsMendable, FitsWriter, Keeps}
 use Rattle.uc_folder.proofs.Changes.{reread_sound}
-use Rattle.uc_folder.proofs.Writing.{world, answered_in, take_counted, take_more}
+use Rattle.uc_folder.proofs.Writing.{world, with_next, answered_in, take_counted, take_more}
 use Rattle.uc_folder.proofs.Adding.{marked_count}
 use Rattle.uc_folder.proofs.Marks.{IsFine, AreMarked, marked_whole, marks_after, marks_crashed, marks_reread, same_file}
+use Rattle.uc_folder.proofs.Next.{HasNext, makes_keep, next_happens}
 use Rattle.uc_folder.proofs.Switching.{syncs_keep}
 use Rattle.uc_folder.proofs.Checkpointing.{checkpoints_keep}
 use Rattle.uc_folder.proofs.Running.{writes_keep, submit_keeps, sync_keeps, switch_keeps, checkpoint_keeps}
@@ -34,21 +37,23 @@ use Rattle.uc_folder.proofs.Running.{writes_keep, submit_keeps, sync_keeps, swit
 pub crashed_sound : (w : World) (keeps : Keeps w) (logs bases : ℕ → Keep) → Sound (crashed logs bases w.device) w.machine.log keeps.sure w.parts keeps.firm
 crashed_sound w keeps logs bases = crash_sound w.device w.machine.log keeps.sure w.parts keeps.firm keeps.sound logs bases
 
-pub happens_keeps : (w : World) (e : Event) → Keeps w → Keeps (happens w e)
-happens_keeps w (Submit b) keeps = submit_keeps w.device w.machine w.parts w.batch w.acked b w.machine.writer w.machine.checkpointer keeps
-happens_keeps w AskSync keeps = sync_keeps w.device w.machine w.parts w.batch w.acked w.machine.writer w.machine.checkpointer keeps
-happens_keeps w AskSwitch keeps = switch_keeps w.device w.machine w.parts w.batch w.acked w.machine.writer w.machine.checkpointer keeps
-happens_keeps w (AskCheckpoint n past) keeps = checkpoint_keeps w.device w.machine w.parts w.batch w.acked n past w.machine.writer w.machine.checkpointer keeps
-happens_keeps w (Writes o) keeps = writes_keep w.device w.machine w.parts w.batch w.acked w.machine.checkpointer w.machine.writer o keeps
-happens_keeps w (Syncs o) keeps = syncs_keep w.device w.machine w.machine.checkpointer w.parts w.batch w.acked w.machine.writer o keeps
-happens_keeps w (Checkpoints o) keeps = checkpoints_keep w.device w.machine w.machine.writer w.parts w.batch w.acked w.machine.checkpointer o keeps
-happens_keeps w (Crash logs bases least top) keeps = opened_keeps (crashed logs bases w.device) w.machine.log keeps.sure w.parts keeps.firm (crashed_sound w keeps logs bases) w.machine w.batch w.acked least top keeps.acked_is
-happens_keeps w (Restart least top) keeps = opened_keeps w.device w.machine.log keeps.sure w.parts keeps.firm keeps.sound w.machine w.batch w.acked least top keeps.acked_is
-happens_keeps w (Reread keep least top) keeps = opened_keeps (reread keep w) w.machine.log keeps.sure w.parts keeps.firm (reread_sound w.device w.machine.log keeps.sure w.parts keeps.firm keeps.sound keep) w.machine w.batch w.acked least top keeps.acked_is
+pub happens_keeps : (w : World) (e : Event) → HasNext w → Keeps w → Keeps (happens w e)
+happens_keeps w (Submit b) fits keeps = submit_keeps w.device w.machine w.parts w.batch w.acked b w.machine.writer w.machine.checkpointer keeps
+happens_keeps w AskSync fits keeps = sync_keeps w.device w.machine w.parts w.batch w.acked w.machine.writer w.machine.checkpointer keeps
+happens_keeps w AskNext fits keeps = with_next w.device w.machine w.machine.checkpointer w.parts w.batch w.acked (asking_next w.machine.writer w.machine.next) w.machine.writer keeps
+happens_keeps w AskSwitch fits keeps = switch_keeps w.device w.machine w.parts w.batch w.acked w.machine.writer w.machine.checkpointer keeps
+happens_keeps w (AskCheckpoint n past) fits keeps = checkpoint_keeps w.device w.machine w.parts w.batch w.acked n past w.machine.writer w.machine.checkpointer keeps
+happens_keeps w (Writes o) fits keeps = writes_keep w.device w.machine w.parts w.batch w.acked w.machine.checkpointer w.machine.writer o fits keeps
+happens_keeps w (Makes o) fits keeps = makes_keep w.device w.machine w.machine.writer w.machine.checkpointer w.parts w.batch w.acked w.machine.next o keeps
+happens_keeps w (Syncs o) fits keeps = syncs_keep w.device w.machine w.machine.checkpointer w.parts w.batch w.acked w.machine.writer o keeps
+happens_keeps w (Checkpoints o) fits keeps = checkpoints_keep w.device w.machine w.machine.writer w.parts w.batch w.acked w.machine.checkpointer o keeps
+happens_keeps w (Crash logs bases least top sealed) fits keeps = opened_keeps (crashed logs bases w.device) w.machine.log keeps.sure w.parts keeps.firm (crashed_sound w keeps logs bases) w.machine w.batch w.acked least top sealed keeps.acked_is
+happens_keeps w (Restart least top sealed) fits keeps = opened_keeps w.device w.machine.log keeps.sure w.parts keeps.firm keeps.sound w.machine w.batch w.acked least top sealed keeps.acked_is
+happens_keeps w (Reread keep least top sealed) fits keeps = opened_keeps (reread keep w) w.machine.log keeps.sure w.parts keeps.firm (reread_sound w.device w.machine.log keeps.sure w.parts keeps.firm keeps.sound keep) w.machine w.batch w.acked least top sealed keeps.acked_is
 
-pub run_keeps : (es : List Event) (w : World) → Keeps w → Keeps (run es w)
-run_keeps [] w keeps = keeps
-run_keeps (e ∷ es) w keeps = run_keeps es (happens w e) (happens_keeps w e keeps)
+pub run_keeps : (es : List Event) (w : World) → HasNext w → Keeps w → Keeps (run es w) × HasNext (run es w)
+run_keeps [] w fits keeps = (keeps, fits)
+run_keeps (e ∷ es) w fits keeps = run_keeps es (happens w e) (next_happens w e keeps fits) (happens_keeps w e fits keeps)
 
 pub start_keeps : Keeps start
 start_keeps = record {
@@ -75,8 +80,14 @@ start_keeps = record {
   checkpointer = tt;
 }
 
+pub start_next : HasNext start
+start_next = (refl, tt)
+
 pub always_keeps : (es : List Event) → Keeps (run es start)
-always_keeps es = run_keeps es start start_keeps
+always_keeps es = (run_keeps es start start_next start_keeps).0
+
+pub always_next : (es : List Event) → HasNext (run es start)
+always_next es = (run_keeps es start start_next start_keeps).1
 
 -- ---- acknowledged batches stay
 
@@ -113,9 +124,19 @@ module _ (d : Device) (m : Machine) (c : Checkpointer) (parts : ℕ → List Bat
       let first : take m.synced (parts m.log) ≡ take m.synced own = ap (take m.synced) (sym begins.1) ∙ take-append-le m.synced own begins.0 few in
       subst (λ l. IsPrefixOf l (take n (parts m.log))) first (take_more m.synced n (parts m.log) le)))
 
+  spoiled_more : (firm front : List Batch) (n : ℕ) → front ++ batch ∷ [] ≡ parts m.log → IsMendable m.count m.synced firm (upto parts m.log) front (d.logs m.log) → m.synced ≤ n → IsPrefixOf acked firm → IsPrefixOf acked (first_of parts m.log n)
+  spoiled_more firm front n split is le has =
+      prefix_trans acked (upto parts m.log ++ take m.synced front) (first_of parts m.log n) (prefix_trans acked firm (upto parts m.log ++ take m.synced front) has is.told)
+      (prefix_under (upto parts m.log) (take m.synced front) (take n (parts m.log))
+      (let few = is.few in
+      let counted = is.counted in
+      let first : take m.synced (parts m.log) ≡ take m.synced front = ap (take m.synced) (sym split) ∙ take-append-le m.synced front (batch ∷ []) (omega (arith, few, counted)) in
+      subst (λ l. IsPrefixOf l (take n (parts m.log))) first (take_more m.synced n (parts m.log) le)))
+
   acked_synced : (w : Writer) (o : Outcome) → Keeps (inside w) → IsPrefixOf acked (happens (inside w) (Syncs o)).acked
   acked_synced (Syncing n) Done keeps = told_more keeps.firm (parts m.log) n keeps.writer.0 keeps.writer.1 keeps.acked_is (prefix_refl (parts m.log))
   acked_synced (Both n) Done keeps = told_more keeps.firm keeps.writer.0.0 n keeps.writer.0.2 keeps.writer.1 keeps.acked_is (batch ∷ [], keeps.writer.0.1)
+  acked_synced (Spoiled n) Done keeps = spoiled_more keeps.firm keeps.writer.0.0 n keeps.writer.0.1 keeps.writer.0.2 keeps.writer.1 keeps.acked_is
   acked_synced w Done keeps = prefix_refl acked
   acked_synced w NotDone keeps = none_synced w parts m.log acked
   acked_synced w PartDone keeps = none_synced w parts m.log acked
@@ -126,9 +147,10 @@ happens_acked w (Writes o) keeps = acked_written w.device w.machine w.machine.ch
 happens_acked w (Syncs o) keeps = acked_synced w.device w.machine w.machine.checkpointer w.parts w.batch w.acked w.machine.writer o keeps
 happens_acked w e keeps = prefix_refl w.acked
 
-pub run_acked : (es : List Event) (w : World) → Keeps w → IsPrefixOf w.acked (run es w).acked
-run_acked [] w keeps = prefix_refl w.acked
-run_acked (e ∷ es) w keeps = prefix_trans w.acked (happens w e).acked (run es (happens w e)).acked (happens_acked w e keeps) (run_acked es (happens w e) (happens_keeps w e keeps))
+pub run_acked : (es : List Event) (w : World) → HasNext w → Keeps w → IsPrefixOf w.acked (run es w).acked
+run_acked [] w fits keeps = prefix_refl w.acked
+run_acked (e ∷ es) w fits keeps =
+    prefix_trans w.acked (happens w e).acked (run es (happens w e)).acked (happens_acked w e keeps) (run_acked es (happens w e) (next_happens w e keeps fits) (happens_keeps w e fits keeps))
 
 pub run_more : (es fs : List Event) (w : World) → run (es ++ fs) w ≡ run fs (run es w)
 run_more [] fs w = refl
@@ -152,6 +174,10 @@ fine_sync : (d : Device) (w : Writer) (log : ℕ) → IsFine d (next_sync w log)
 fine_sync d Making log = tt
 fine_sync d w log = tt
 
+fine_make : (d : Device) (next : NextLog) (log : ℕ) → IsFine d (next_make next log)
+fine_make d Absent log = tt
+fine_make d next log = tt
+
 fine_checkpoint : (d : Device) (c : Checkpointer) → IsFine d (next_checkpoint c)
 fine_checkpoint d Idle = tt
 fine_checkpoint d c = tt
@@ -160,24 +186,25 @@ pub happens_marked : (w : World) (e : Event) → Keeps w → AreMarked w.device 
 happens_marked w (Writes o) keeps are =
     marks_after o w.batch w.parts w.device (next_write w.machine.writer w.machine.log w.machine.count w.machine.synced)
     (fine_write w.device w.machine keeps.firm (upto w.parts w.machine.log) (w.parts w.machine.log) w.batch w.machine.writer keeps.writer) are
+happens_marked w (Makes o) keeps are = marks_after o w.batch w.parts w.device (next_make w.machine.next w.machine.log) (fine_make w.device w.machine.next w.machine.log) are
 happens_marked w (Syncs o) keeps are = marks_after o w.batch w.parts w.device (next_sync w.machine.writer w.machine.log) (fine_sync w.device w.machine.writer w.machine.log) are
 happens_marked w (Checkpoints o) keeps are = marks_after o w.batch w.parts w.device (next_checkpoint w.machine.checkpointer) (fine_checkpoint w.device w.machine.checkpointer) are
-happens_marked w (Crash logs bases least top) keeps are = marks_crashed w.device logs bases are
-happens_marked w (Reread keep least top) keeps are = marks_reread w.machine.log keep w.device are
+happens_marked w (Crash logs bases least top sealed) keeps are = marks_crashed w.device logs bases are
+happens_marked w (Reread keep least top sealed) keeps are = marks_reread w.machine.log keep w.device are
 happens_marked w e keeps are = are
 
-pub run_marked : (es : List Event) (w : World) → Keeps w → AreMarked w.device → AreMarked (run es w).device
-run_marked [] w keeps are = are
-run_marked (e ∷ es) w keeps are = run_marked es (happens w e) (happens_keeps w e keeps) (happens_marked w e keeps are)
+pub run_marked : (es : List Event) (w : World) → HasNext w → Keeps w → AreMarked w.device → AreMarked (run es w).device
+run_marked [] w fits keeps are = are
+run_marked (e ∷ es) w fits keeps are = run_marked es (happens w e) (next_happens w e keeps fits) (happens_keeps w e fits keeps) (happens_marked w e keeps are)
 
 pub always_marked : (es : List Event) → AreMarked (run es start).device
-always_marked es = run_marked es start start_keeps (record { logs = λ k. (tt, tt); copy = refl })
+always_marked es = run_marked es start start_next start_keeps (record { logs = λ k. (tt, tt); copy = refl })
 
 -- ---- openings
 
 module _ (d : Device) (log sure : ℕ) (parts : ℕ → List Batch) (firm : List Batch) (sound : Sound d log sure parts firm) where
-  pub finds_reads : (m : Machine) (batch : Batch) (acked : List Batch) (least top : ℕ) → submitted (opens least top (record { device = d; machine = m; parts = parts; batch = batch; acked = acked })) ≡ recovered d
-  finds_reads m batch acked least top = opened_reads d log sure parts firm sound
+  pub finds_reads : (m : Machine) (batch : Batch) (acked : List Batch) (least top : ℕ) (sealed : Bool) → submitted (opens least top sealed (record { device = d; machine = m; parts = parts; batch = batch; acked = acked })) ≡ recovered d
+  finds_reads m batch acked least top sealed = opened_reads d log sure parts firm sound
 
   pub finds_prefix : IsPrefixOf (recovered d) (upto parts log ++ parts log)
   finds_prefix = subst (λ xs. IsPrefixOf xs (upto parts log ++ parts log)) (opened_reads d log sure parts firm sound) (opened_prefix d log sure parts firm sound)
@@ -199,8 +226,8 @@ module _ (es : List Event) (logs bases : ℕ → Keep) where
   keeps : Keeps w
   keeps = always_keeps es
 
-  pub crash_reads : (least top : ℕ) → submitted (happens w (Crash logs bases least top)) ≡ recovered (crashed logs bases w.device)
-  crash_reads least top = finds_reads (crashed logs bases w.device) w.machine.log keeps.sure w.parts keeps.firm (crashed_sound w keeps logs bases) w.machine w.batch w.acked least top
+  pub crash_reads : (least top : ℕ) (sealed : Bool) → submitted (happens w (Crash logs bases least top sealed)) ≡ recovered (crashed logs bases w.device)
+  crash_reads least top sealed = finds_reads (crashed logs bases w.device) w.machine.log keeps.sure w.parts keeps.firm (crashed_sound w keeps logs bases) w.machine w.batch w.acked least top sealed
 
   pub crash_prefix : IsPrefixOf (recovered (crashed logs bases w.device)) (submitted w)
   crash_prefix = finds_prefix (crashed logs bases w.device) w.machine.log keeps.sure w.parts keeps.firm (crashed_sound w keeps logs bases)
@@ -227,8 +254,8 @@ module _ (es : List Event) where
   keeps' : Keeps w'
   keeps' = always_keeps es
 
-  pub restart_reads : (least top : ℕ) → submitted (happens w' (Restart least top)) ≡ recovered w'.device
-  restart_reads least top = finds_reads w'.device w'.machine.log keeps'.sure w'.parts keeps'.firm keeps'.sound w'.machine w'.batch w'.acked least top
+  pub restart_reads : (least top : ℕ) (sealed : Bool) → submitted (happens w' (Restart least top sealed)) ≡ recovered w'.device
+  restart_reads least top sealed = finds_reads w'.device w'.machine.log keeps'.sure w'.parts keeps'.firm keeps'.sound w'.machine w'.batch w'.acked least top sealed
 
   pub restart_prefix : IsPrefixOf (recovered w'.device) (submitted w')
   restart_prefix = finds_prefix w'.device w'.machine.log keeps'.sure w'.parts keeps'.firm keeps'.sound
@@ -248,8 +275,8 @@ module _ (es : List Event) where
   reread_is : (keep : Keep) → Sound (reread keep w') w'.machine.log keeps'.sure w'.parts keeps'.firm
   reread_is keep = reread_sound w'.device w'.machine.log keeps'.sure w'.parts keeps'.firm keeps'.sound keep
 
-  pub reread_reads : (keep : Keep) (least top : ℕ) → submitted (happens w' (Reread keep least top)) ≡ recovered (reread keep w')
-  reread_reads keep least top = finds_reads (reread keep w') w'.machine.log keeps'.sure w'.parts keeps'.firm (reread_is keep) w'.machine w'.batch w'.acked least top
+  pub reread_reads : (keep : Keep) (least top : ℕ) (sealed : Bool) → submitted (happens w' (Reread keep least top sealed)) ≡ recovered (reread keep w')
+  reread_reads keep least top sealed = finds_reads (reread keep w') w'.machine.log keeps'.sure w'.parts keeps'.firm (reread_is keep) w'.machine w'.batch w'.acked least top sealed
 
   pub reread_prefix : (keep : Keep) → IsPrefixOf (recovered (reread keep w')) (submitted w')
   reread_prefix keep = finds_prefix (reread keep w') w'.machine.log keeps'.sure w'.parts keeps'.firm (reread_is keep)

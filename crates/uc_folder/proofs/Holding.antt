@@ -1,9 +1,9 @@
 -- The machine and its folder between any two events.
-use Rattle.std.proofs.Common.{◌≡◌, ℕ, ◌+◌, ◌≤◌, ◌<◌, true, false, ◌⊎◌, List, [], ◌∷◌, ◌++◌, length, take}
+use Rattle.std.proofs.Common.{◌≡◌, ℕ, ◌≤◌, ◌<◌, Bool, true, false, ◌⊎◌, List, [], ◌∷◌, ◌++◌, length, take}
 use Rattle.std.specs.Prelude.{⊤, Option, Some, None}
 use Rattle.uc_folder.specs.declared.machine.Machine.{Machine}
 use Rattle.uc_folder.specs.declared.phases.Writer.{Writer}
-use Rattle.uc_folder.specs.declared.phases.Writer.TheVariants.{Making, Founding, Naming, Clearing, SettingAside, Copying, SealingCopy, Replacing, Settling, Ready, Appending, Mending, Syncing, Both, Closing, Beginning, Entering, Failed}
+use Rattle.uc_folder.specs.declared.phases.Writer.TheVariants.{Making, Founding, Naming, Clearing, SettingAside, Copying, SealingCopy, Replacing, Settling, Ready, Appending, Mending, Syncing, Both, Spoiled, Closing, Failed}
 use Rattle.uc_folder.specs.declared.phases.Checkpointer.{Checkpointer}
 use Rattle.uc_folder.specs.declared.phases.Checkpointer.TheVariants.{Idle, Writing, Sealing, Renaming, Fixing, RemovingLog, RemovingBase}
 use Rattle.uc_folder.specs.Device.{Batch, first_whole, are_whole, File, Entry, Device, first_number, is_there, content, upto}
@@ -49,6 +49,17 @@ pub record IsCopy (part : List Batch) (f : File) : Type 0 where
 abbrev pub IsOpening : ℕ → List Batch → Entry → Type 0
 IsOpening count part e = IsRead part e.now × (e.before ≡ []) × (count ≡ length part)
 
+-- a log that is on the device as it is, with these batches
+pub record IsSealed (part : List Batch) (o : Option File) : Type 0 where
+  pub file : File
+  pub now : o ≡ Some file
+  pub is : IsWhole part file
+  pub fresh : file.suspect ≡ false
+
+abbrev pub IfSealed : Bool → List Batch → Option File → Type 0
+IfSealed true part o = IsSealed part o
+IfSealed false part o = ⊤
+
 -- a batch that is appended to a log
 abbrev pub IsAppended : ℕ → ℕ → List Batch → List Batch → List Batch → Batch → Entry → Type 0
 IsAppended count synced firm before part batch e = (front : List Batch) × (front ++ batch ∷ [] ≡ part) × IsOpen count synced firm before front e
@@ -67,11 +78,15 @@ pub record IsMendable (count synced : ℕ) (firm before front : List Batch) (e :
   pub few : synced ≤ count
   pub told : IsPrefixOf firm (before ++ take synced front)
 
+-- an append of a batch has failed there
+abbrev pub IsSpoiled : ℕ → ℕ → List Batch → List Batch → List Batch → Batch → Entry → Type 0
+IsSpoiled count synced firm before part batch e = (front : List Batch) × (front ++ batch ∷ [] ≡ part) × IsMendable count synced firm before front e
+
 abbrev pub FitsWriter : Device → ℕ → ℕ → ℕ → ℕ → List Batch → List Batch → List Batch → Batch → Writer → Type 0
 FitsWriter d log count synced base firm before part batch Making = ((d.logs log).now ≡ None) × (part ≡ []) × (count ≡ 0) × (synced ≡ 0) × Stands d base × (base ≤ log)
 FitsWriter d log count synced base firm before part batch Founding = IsNew (d.logs log).now × (part ≡ []) × (count ≡ 0) × (synced ≡ 0)
-FitsWriter d log count synced base firm before part batch (Naming top) = IsRead part (d.logs log).now × (count ≡ length part) × Stands d base × (base ≤ log)
-FitsWriter d log count synced base firm before part batch (Clearing k top) = IsOpening count part (d.logs log) × (log < k)
+FitsWriter d log count synced base firm before part batch (Naming top sealed) = IsRead part (d.logs log).now × (count ≡ length part) × Stands d base × (base ≤ log) × IfSealed sealed part (d.logs log).now
+FitsWriter d log count synced base firm before part batch (Clearing k top sealed) = IsOpening count part (d.logs log) × (log < k) × IfSealed sealed part (d.logs log).now
 FitsWriter d log count synced base firm before part batch SettingAside = IsOpening count part (d.logs log)
 FitsWriter d log count synced base firm before part batch Copying = IsOpening count part (d.logs log)
 FitsWriter d log count synced base firm before part batch SealingCopy = IsOpening count part (d.logs log) × IsCopy part d.copy
@@ -79,12 +94,11 @@ FitsWriter d log count synced base firm before part batch Replacing = IsOpening 
 FitsWriter d log count synced base firm before part batch Settling = (f : File) × ((d.logs log).now ≡ Some f) × IsWhole part f × (f.suspect ≡ false) × (count ≡ length part)
 FitsWriter d log count synced base firm before part batch Ready = IsOpen count synced firm before part (d.logs log)
 FitsWriter d log count synced base firm before part batch Appending = IsAppended count synced firm before part batch (d.logs log)
-FitsWriter d log count synced base firm before part batch Mending = (front : List Batch) × (front ++ batch ∷ [] ≡ part) × IsMendable count synced firm before front (d.logs log)
+FitsWriter d log count synced base firm before part batch Mending = IsSpoiled count synced firm before part batch (d.logs log)
 FitsWriter d log count synced base firm before part batch (Syncing n) = IsOpen count synced firm before part (d.logs log) × (synced ≤ n) × (n ≤ count)
 FitsWriter d log count synced base firm before part batch (Both n) = IsAppended count synced firm before part batch (d.logs log) × (synced ≤ n) × (n ≤ count)
+FitsWriter d log count synced base firm before part batch (Spoiled n) = IsSpoiled count synced firm before part batch (d.logs log) × (synced ≤ n) × (n ≤ count)
 FitsWriter d log count synced base firm before part batch Closing = IsOpen count synced firm before part (d.logs log)
-FitsWriter d log count synced base firm before part batch Beginning = (is : IsOpen count synced firm before part (d.logs log)) × IsWhole part is.file × (synced ≡ count)
-FitsWriter d log count synced base firm before part batch Entering = (is : IsOpen count synced firm before part (d.logs log)) × IsWhole part is.file × (synced ≡ count) × IsNew (d.logs (log + 1)).now × (log + 1 ≤ d.names)
 FitsWriter d log count synced base firm before part batch Failed = IsPrefixOf (take count part) (content (d.logs log).now)
 
 -- a base that may be made: of its log it has batches that are there

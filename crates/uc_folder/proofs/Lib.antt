@@ -7,11 +7,13 @@ mod Changes
 mod Writing
 mod Renewing
 mod Adding
-mod Switching
 mod Mending
 mod Checkpointing
+mod Next
+mod Switching
 mod Running
 mod Marks
 mod Names
 mod Histories
 mod Saying
+mod Numbered

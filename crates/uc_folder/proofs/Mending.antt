@@ -1,20 +1,21 @@
--- Cutting off what a failed append left keeps what holds.
+-- Cutting off what a failed append left keeps what holds, and so does a sync beside which it failed.
 use Rattle.std.proofs.Common.{◌≡◌, ℕ, ◌<◌, ◌≤◌, Bool, cond, ⊎_elim, List, [], ◌∷◌, ◌++◌, length, take, refl, sym, ap, ◌∙◌, subst, arith}
 use Rattle.std.specs.Prelude.{Some}
 use Rattle.std.specs.List.{AllByRecursion}
 use Rattle.std.proofs.lemmas.Bool.{cases_lt}
-use Rattle.std.proofs.lemmas.List.{append-nil, take-append-le, length-append, length-take-le}
+use Rattle.std.proofs.lemmas.List.{append-nil, take-append-le, length-append, length-take, length-take-le}
 use Rattle.uc_folder.specs.declared.machine.Machine.{Machine}
 use Rattle.uc_folder.specs.declared.phases.Writer.{Writer}
-use Rattle.uc_folder.specs.declared.phases.Writer.TheVariants.{Mending, Failed}
+use Rattle.uc_folder.specs.declared.phases.Writer.TheVariants.{Mending, Spoiled, Failed}
 use Rattle.uc_folder.specs.declared.phases.Checkpointer.{Checkpointer}
-use Rattle.uc_folder.specs.Device.{Batch, Record, first_whole, are_whole, File, Device, content, upto, at, cut, suspected, changed, changed_name}
-use Rattle.uc_folder.specs.Worlds.{World, IsPrefixOf, first_of, Outcome, Done, NotDone, PartDone, DoneUntold, Writes, happens}
+use Rattle.uc_folder.specs.Device.{Batch, Record, first_whole, are_whole, File, Device, content, upto, at, cut, synced, suspected, changed, changed_name, change_log}
+use Rattle.uc_folder.specs.Worlds.{World, IsPrefixOf, first_of, Outcome, Done, NotDone, PartDone, DoneUntold, Writes, Syncs, happens}
 use Rattle.uc_folder.proofs.Lists.{prefix_refl, prefix_trans, prefix_under, prefix_take, prefix_cancel, upto_same, at_here, at_other}
+use Rattle.uc_folder.proofs.Records.{first_take}
 use Rattle.uc_folder.proofs.Sound.{Sound, IsThere, IsLast, settled}
 use Rattle.uc_folder.proofs.Holding.{IsOpen, IsMendable, Attempt, Keeps}
-use Rattle.uc_folder.proofs.Changes.{entry_sound, shrunk_sound}
-use Rattle.uc_folder.proofs.Writing.{world, inside, with_file, filed, stepped, last_of, here, here_before, checkpointer_moves, answered_in, take_counted, most}
+use Rattle.uc_folder.proofs.Changes.{entry_sound, submitted_sound, shrunk_sound}
+use Rattle.uc_folder.proofs.Writing.{world, inside, with_file, filed, moved, stepped, last_of, here, here_before, checkpointer_moves, answered_in, take_counted, take_more, take_twice, most, synced_file, synced_is, synced_all, synced_first, synced_more}
 
 -- a base that is under way has nothing of what isn't firm
 attempt_shrinks : (log base : ℕ) (p q : ℕ → List Batch) (firm rest : List Batch) (n past : ℕ) → ((k : ℕ) → k < log → q k ≡ p k) → q log ++ rest ≡ p log → IsPrefixOf firm (upto p log ++ q log) → Attempt log base p firm n past →
@@ -137,12 +138,11 @@ module _ (d : Device) (m : Machine) (c : Checkpointer) (parts : ℕ → List Bat
         (subst (IsLast firm before (q log)) (sym (here d m c parts batch acked (cut m.count) f is.now)) (cut_last (q log) (subst (IsPrefixOf front) (sym q_is) (prefix_refl front))))
         (subst (AllByRecursion (IsLast firm before (settled ((file' (cut m.count)).logs log).now))) (sym (here_before d m c parts batch acked (cut m.count) ∙ is.named)) tt)
 
-  suspects : (keeps : Keeps (inside' Mending)) → Keeps (world (file' suspected) m Failed c parts batch acked)
-  suspects keeps =
-      let is = keeps.writer.2 in
-      filed d m c parts batch acked m.count m.synced Mending Failed suspected is.file is.now is.named keeps (last_of d m c parts batch acked Mending is.file is.now keeps)
+  suspects : (w : Writer) (keeps : Keeps (inside' w)) (front : List Batch) → IsMendable m.count m.synced keeps.firm before front (d.logs log) → Keeps (world (file' suspected) m Failed c parts batch acked)
+  suspects w keeps front is =
+      filed d m c parts batch acked m.count m.synced w Failed suspected is.file is.now is.named keeps (last_of d m c parts batch acked w is.file is.now keeps)
       (subst (IsPrefixOf (take m.count part)) (ap content is.now ∙ sym (ap content (here d m c parts batch acked suspected is.file is.now)))
-      (answered_in d log m.count m.synced m.base keeps.firm before part batch Mending keeps.writer))
+      (answered_in d log m.count m.synced m.base keeps.firm before part batch w keeps.writer))
 
   pub mending_keeps : (o : Outcome) → Keeps (inside' Mending) → Keeps (happens (inside' Mending) (Writes o))
   mending_keeps Done keeps =
@@ -163,8 +163,8 @@ module _ (d : Device) (m : Machine) (c : Checkpointer) (parts : ℕ → List Bat
             (subst (λ l. IsPrefixOf keeps.firm (before ++ l)) (sym (q_is keeps.firm front split is)) (firmly keeps.firm front split is)) attempt)
             keeps.checkpointer;
       }
-  mending_keeps NotDone keeps = suspects keeps
-  mending_keeps PartDone keeps = suspects keeps
+  mending_keeps NotDone keeps = suspects Mending keeps keeps.writer.0 keeps.writer.2
+  mending_keeps PartDone keeps = suspects Mending keeps keeps.writer.0 keeps.writer.2
   mending_keeps DoneUntold keeps =
       let front : List Batch = keeps.writer.0 in
       let split = keeps.writer.1 in
@@ -176,3 +176,108 @@ module _ (d : Device) (m : Machine) (c : Checkpointer) (parts : ℕ → List Bat
       filed (file' (cut m.count)) m c parts batch acked m.count m.synced Failed Failed suspected g' now (here_before d m c parts batch acked (cut m.count) ∙ is.named) done
       (last_of (file' (cut m.count)) m c parts batch acked Failed g' now done)
       (subst (IsPrefixOf (take m.count part)) (ap content now ∙ sym (ap content (here (file' (cut m.count)) m c parts batch acked suspected g' now))) (cut_answered keeps.firm front split is))
+
+  -- ---- a sync beside which the append has failed
+
+  module _ (n : ℕ) (firm front : List Batch) (split : front ++ batch ∷ [] ≡ part) (is : IsMendable m.count m.synced firm before front (d.logs log)) (from : m.synced ≤ n) (to : n ≤ m.count) where
+    abbrev synced' : File
+    synced' = synced_file n is.file is.fresh
+
+    synced_now : ((file' (synced n)).logs log).now ≡ Some synced'
+    synced_now = here d m c parts batch acked (synced n) is.file is.now ∙ ap (λ x. Some x) (synced_is n is.file is.fresh)
+
+    same_records : synced'.kept ++ synced'.waiting ≡ is.file.kept ++ is.file.waiting
+    same_records = synced_all n is.file is.fresh
+
+    first_same : take n part ≡ take n front
+    first_same = let counted = is.counted in ap (take n) (sym split) ∙ take-append-le n front (batch ∷ []) (omega (arith, counted, to))
+
+    -- the first batches are on the device
+    synced_enough : IsPrefixOf (take n front) (first_whole synced'.kept)
+    synced_enough =
+        let records = is.file.kept ++ is.file.waiting in
+        let read : take n front ≡ take n (first_whole records) = ap (take n) (sym is.all ∙ first_take m.count records) ∙ take_twice n m.count (first_whole records) to in
+        subst (λ l. IsPrefixOf l (first_whole synced'.kept)) (sym read)
+        (subst (IsPrefixOf (take n (first_whole records))) (sym (synced_first n is.file is.fresh)) (take_more n (most n is.file is.fresh) (first_whole records) (omega arith)))
+
+    synced_mendable : IsMendable m.count n (before ++ take n front) before front ((file' (synced n)).logs log)
+    synced_mendable =
+        let counted = is.counted in
+        let enough = is.enough in
+        let kept = length-take (most n is.file is.fresh) (is.file.kept ++ is.file.waiting) in
+        let first = length-take-le n front (omega (arith, counted, to)) in
+        let size = length-append (take n front) synced_enough.0 in
+        let all = ap length synced_enough.1 in
+        record {
+          file = synced';
+          now = synced_now;
+          named = here_before d m c parts batch acked (synced n) ∙ is.named;
+          fresh = is.fresh;
+          whole = ap (λ l. are_whole (take m.count l)) same_records ∙ is.whole;
+          all = ap (λ l. first_whole (take m.count l)) same_records ∙ is.all;
+          counted = counted;
+          enough = omega (arith, enough, kept, to);
+          marked = omega (arith, first, size, all);
+          few = to;
+          told = prefix_refl (before ++ take n front);
+        }
+
+    grows : IsPrefixOf firm (before ++ take n front)
+    grows = prefix_trans firm (before ++ take m.synced front) (before ++ take n front) is.told (prefix_under before (take m.synced front) (take n front) (take_more m.synced n front from))
+
+    reads_part : (sure : ℕ) → Sound d log sure parts firm → IsPrefixOf (first_whole (synced'.kept ++ synced'.waiting)) part
+    reads_part sure sound = subst (λ l. IsPrefixOf (first_whole l) part) (sym same_records) (subst (IsLast firm before part) is.now sound.last).0
+
+    spoiled_sound : (sure : ℕ) → Sound d log sure parts firm → Sound (file' (synced n)) log sure parts firm
+    spoiled_sound sure sound =
+        let last : IsLast firm before part (Some (synced n is.file)) =
+        subst (λ x. IsLast firm before part (Some x)) (sym (synced_is n is.file is.fresh)) (
+          reads_part sure sound,
+          prefix_trans firm (before ++ first_whole is.file.kept) (before ++ first_whole synced'.kept) (subst (IsLast firm before part) is.now sound.last).1
+              (prefix_under before (first_whole is.file.kept) (first_whole synced'.kept) (synced_more n is.file is.fresh)),
+        ) in
+        entry_sound d log sure parts firm sound (changed (synced n) (d.logs log)) d.names sound.named
+        (subst (IsLast firm before part) (sym (ap (changed_name (synced n)) is.now)) last)
+        (subst (AllByRecursion (IsLast firm before (settled (changed_name (synced n) (d.logs log).now)))) (sym is.named) tt)
+        (λ lt. (subst IsThere (sym (ap (changed_name (synced n)) is.now)) tt, (sound.begun lt).1))
+
+    spoiled_firmly : (sure : ℕ) → Sound d log sure parts firm → Sound (file' (synced n)) log sure parts (before ++ take n front)
+    spoiled_firmly sure sound =
+        submitted_sound (file' (synced n)) log sure parts firm (spoiled_sound sure sound) parts (before ++ take n front) (λ k lt. refl) (prefix_refl part) grows
+        (subst (IsLast (before ++ take n front) before part) (sym synced_now) (reads_part sure sound, prefix_under before (take n front) (first_whole synced'.kept) synced_enough))
+        (subst (AllByRecursion (IsLast (before ++ take n front) before (settled ((file' (synced n)).logs log).now))) (sym (here_before d m c parts batch acked (synced n) ∙ is.named)) tt)
+
+    same_read : content (d.logs log).now ≡ content ((file' (synced n)).logs log).now
+    same_read = ap content is.now ∙ (ap first_whole (sym same_records) ∙ sym (ap content synced_now))
+
+  pub spoiled_syncs : (n : ℕ) (o : Outcome) → Keeps (inside' (Spoiled n)) → Keeps (happens (inside' (Spoiled n)) (Syncs o))
+  spoiled_syncs n Done keeps =
+      let front : List Batch = keeps.writer.0.0 in
+      let split = keeps.writer.0.1 in
+      let is = keeps.writer.0.2 in
+      let from = keeps.writer.1 in
+      let to = keeps.writer.2 in
+      let more = first_of parts log n in
+      let same : before ++ take n front ≡ more = ap (λ l. before ++ l) (sym (first_same n keeps.firm front split is from to)) in
+      moved d m c parts batch acked (file' (synced n)) log m.count n parts batch more more (Spoiled n) Mending refl (λ k. refl) (omega arith) (λ k lt. refl) (prefix_refl part) keeps
+      (subst (IsPrefixOf keeps.firm) same (grows n keeps.firm front split is from to))
+      (subst (λ l. Sound (file' (synced n)) log keeps.sure parts l) same (spoiled_firmly n keeps.firm front split is from to keeps.sure keeps.sound))
+      (prefix_refl more)
+      (front, split, subst (λ l. IsMendable m.count n l before front ((file' (synced n)).logs log)) same (synced_mendable n keeps.firm front split is from to))
+  spoiled_syncs n NotDone keeps = suspects (Spoiled n) keeps keeps.writer.0.0 keeps.writer.0.2
+  spoiled_syncs n PartDone keeps = suspects (Spoiled n) keeps keeps.writer.0.0 keeps.writer.0.2
+  spoiled_syncs n DoneUntold keeps =
+      let front : List Batch = keeps.writer.0.0 in
+      let split = keeps.writer.0.1 in
+      let is = keeps.writer.0.2 in
+      let from = keeps.writer.1 in
+      let to = keeps.writer.2 in
+      let now = synced_now n keeps.firm front split is from to in
+      let answered' : IsPrefixOf (take m.count part) (content ((file' (synced n)).logs log).now) =
+      subst (IsPrefixOf (take m.count part)) (same_read n keeps.firm front split is from to) (answered_in d log m.count m.synced m.base keeps.firm before part batch (Spoiled n) keeps.writer) in
+      let done : Keeps (world (file' (synced n)) m Failed c parts batch acked) =
+      stepped d m c parts batch acked (file' (synced n)) m.count m.synced (Spoiled n) Failed refl (λ k. refl) keeps (spoiled_sound n keeps.firm front split is from to keeps.sure keeps.sound) answered' in
+      let g' = synced' n keeps.firm front split is from to in
+      filed (file' (synced n)) m c parts batch acked m.count m.synced Failed Failed suspected g' now (here_before d m c parts batch acked (synced n) ∙ is.named) done
+      (last_of (file' (synced n)) m c parts batch acked Failed g' now done)
+      (subst (IsPrefixOf (take m.count part)) (ap content now ∙ sym (ap content (here (file' (synced n)) m c parts batch acked suspected g' now))) answered')

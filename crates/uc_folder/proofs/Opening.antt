@@ -1,18 +1,18 @@
 -- An opening finds a folder in which it may go on.
-use Rattle.std.proofs.Common.{◌≡◌, ℕ, zero, suc, ◌<◌, ◌≤◌, Bool, true, false, cond, not, eqb, eq-eqb, ltb, ◌⊎◌, inl, inr, ⊎_elim, List, [], ◌∷◌, ◌++◌, append_assoc, length, drop, refl, sym, ap, ◌∙◌, subst, arith}
+use Rattle.std.proofs.Common.{◌≡◌, ℕ, zero, suc, ◌<◌, ◌≤◌, Bool, true, false, cond, not, ◌&&◌, eqb, eq-eqb, ltb, ◌⊎◌, inl, inr, ⊎_elim, List, [], ◌∷◌, ◌++◌, append_assoc, length, drop, refl, sym, ap, ◌∙◌, subst, arith}
 use Rattle.std.specs.Prelude.{Option, Some, None, max}
 use Rattle.std.specs.List.{AllByRecursion}
 use Rattle.std.proofs.lemmas.List.Prefix.{front_rest}
-use Rattle.std.proofs.lemmas.Bool.{cases_eq, cases_lt, cases_Bool, ne_eqb, le-ltb, lt-ltb}
+use Rattle.std.proofs.lemmas.Bool.{and_parts, cases_eq, cases_lt, cases_Bool, ne_eqb, le-ltb, lt-ltb}
 use Rattle.std.proofs.lemmas.List.{append-nil}
 use Rattle.uc_folder.specs.declared.machine.Machine.{Machine}
 use Rattle.uc_folder.specs.declared.phases.Writer.TheVariants.{Making, Naming}
-use Rattle.uc_folder.specs.Device.{Batch, first_whole, are_whole, are_damaged, records_of, File, Device, first_number, content, past_of, is_there, is_used, is_empty, highest, upto, after_base, recovered}
-use Rattle.uc_folder.specs.Worlds.{IsPrefixOf, IsReadable, is_intact, opens}
+use Rattle.uc_folder.specs.Device.{Batch, Record, first_whole, are_whole, are_damaged, records_of, File, Device, first_number, content, past_of, is_there, is_used, is_empty, highest, upto, after_base, recovered}
+use Rattle.uc_folder.specs.Worlds.{IsPrefixOf, IsReadable, is_intact, are_none, is_settled, opens}
 use Rattle.uc_folder.proofs.Lists.{prefix_refl, prefix_trans, prefix_under, prefix_onto, prefix_cancel, prefix_of_nil, upto_same, upto_more, upto_empty, highest_passes, highest_above, all_weaker}
 use Rattle.uc_folder.proofs.Records.{first_prefix}
 use Rattle.uc_folder.proofs.Sound.{IsWhole, IsBase, IsThere, IsGone, IsLog, IsUnused, IsLast, settled, Each, Sound}
-use Rattle.uc_folder.proofs.Holding.{IsRead, FitsWriter, Keeps}
+use Rattle.uc_folder.proofs.Holding.{IsRead, IfSealed, FitsWriter, Keeps}
 
 -- ---- files
 
@@ -21,6 +21,27 @@ whole_content xs f is = ap (λ l. first_whole (f.kept ++ l)) is.waiting ∙ (ap 
 
 pub whole_all : (xs : List Batch) (f : File) → IsWhole xs f → are_whole (f.kept ++ f.waiting) ≡ true
 whole_all xs f is = ap (λ l. are_whole (f.kept ++ l)) is.waiting ∙ (ap are_whole (append-nil f.kept) ∙ is.whole)
+
+-- a log of which nothing waits
+none_is : (rs : List Record) → are_none rs ≡ true → rs ≡ []
+none_is [] e = refl
+none_is (r ∷ rs) e = absurd (cc)
+
+not_true : (b : Bool) → not b ≡ true → b ≡ false
+not_true true e = absurd (cc)
+not_true false e = refl
+
+settled_file : (f : File) → is_settled (Some f) ≡ true → IsWhole (content (Some f)) f × (f.suspect ≡ false)
+settled_file f e =
+    let one = and_parts (are_whole f.kept) (are_none f.waiting && not f.suspect) e in
+    let two = and_parts (are_none f.waiting) (not f.suspect) one.1 in
+    let none : f.waiting ≡ [] = none_is f.waiting two.0 in
+    (record { kept = sym (ap (λ l. first_whole (f.kept ++ l)) none ∙ ap first_whole (append-nil f.kept)); whole = one.0; waiting = none }, not_true f.suspect two.1)
+
+if_sealed : (s t : Bool) (part : List Batch) (f : File) (o : Option File) → o ≡ Some f → part ≡ content (Some f) → is_settled (Some f) ≡ t → IfSealed (s && t) part o
+if_sealed false t part f o e same is = tt
+if_sealed true false part f o e same is = tt
+if_sealed true true part f o e same is = let both = settled_file f is in record { file = f; now = e; is = subst (λ xs. IsWhole xs f) (sym same) both.0; fresh = both.1 }
 
 log_content : (part : List Batch) (o : Option File) → IsLog part o → content o ≡ part
 log_content part None is = absurd is
@@ -330,20 +351,20 @@ module _ (d : Device) (log sure : ℕ) (parts : ℕ → List Batch) (firm : List
     none = read_none;
   }
 
-  fits : (batch : Batch) (top : ℕ) (o : Option File) → (d.logs j).now ≡ o → FitsWriter d j (length (content o)) 0 n firm (upto read j) (read j) batch (cond (is_there o) (Naming top) Making)
-  fits batch top None e = (e, read_at j n_j ∙ ap content e, refl, refl, n_there, n_j)
-  fits batch top (Some f) e =
+  fits : (batch : Batch) (top : ℕ) (sealed : Bool) (o : Option File) → (d.logs j).now ≡ o → FitsWriter d j (length (content o)) 0 n firm (upto read j) (read j) batch (cond (is_there o) (Naming top (sealed && is_settled o)) Making)
+  fits batch top sealed None e = (e, read_at j n_j ∙ ap content e, refl, refl, n_there, n_j)
+  fits batch top sealed (Some f) e =
       let same : read j ≡ content (Some f) = read_at j n_j ∙ ap content e in
-      (subst (IsRead (read j)) (sym e) (sym same), ap length (sym same), n_there, n_j)
+      (subst (IsRead (read j)) (sym e) (sym same), ap length (sym same), n_there, n_j, if_sealed sealed (is_settled (Some f)) (read j) f (d.logs j).now e same refl)
 
-  pub opened_keeps : (machine : Machine) (batch : Batch) (acked : List Batch) (least top : ℕ) → IsPrefixOf acked firm → Keeps (opens least top (record { device = d; machine = machine; parts = parts; batch = batch; acked = acked }))
-  opened_keeps machine batch acked least top has = record {
+  pub opened_keeps : (machine : Machine) (batch : Batch) (acked : List Batch) (least top : ℕ) (sealed : Bool) → IsPrefixOf acked firm → Keeps (opens least top sealed (record { device = d; machine = machine; parts = parts; batch = batch; acked = acked }))
+  opened_keeps machine batch acked least top sealed has = record {
     sure = sure;
     firm = firm;
     sound = opened_sound;
     acked_is = has;
     under = sure_below;
-    writer = fits batch top (d.logs j).now refl;
+    writer = fits batch top sealed (d.logs j).now refl;
     checkpointer = tt;
   }
 

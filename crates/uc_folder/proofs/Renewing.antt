@@ -13,7 +13,7 @@ use Rattle.uc_folder.specs.Worlds.{World, IsPrefixOf, first_of, Outcome, Done, N
 use Rattle.uc_folder.proofs.Lists.{prefix_refl, prefix_onto, at_here, at_other}
 use Rattle.uc_folder.proofs.Records.{part_first, part_whole}
 use Rattle.uc_folder.proofs.Sound.{IsWhole, IsThere, IsLast, settled, Each}
-use Rattle.uc_folder.proofs.Holding.{Stands, IsRead, IsNew, IsCopy, IsOpening, FitsWriter, FitsCheckpointer, Keeps}
+use Rattle.uc_folder.proofs.Holding.{Stands, IsRead, IsNew, IsCopy, IsOpening, IfSealed, FitsWriter, FitsCheckpointer, Keeps}
 use Rattle.uc_folder.proofs.Opening.{whole_content, whole_all, sound_firm}
 use Rattle.uc_folder.proofs.Changes.{later_sound, submitted_sound, named_sound, raised_sound, aside_sound}
 use Rattle.uc_folder.proofs.Writing.{world, inside, moved, stepped, waits, fails, edited, read_file, answered_in, take_counted}
@@ -98,41 +98,46 @@ module _ (d : Device) (m : Machine) (c : Checkpointer) (parts : ℕ → List Bat
   -- ---- names that were read
 
   -- there may be logs to clear
-  clears : (e : Device) (firm : List Batch) (b : Bool) (k top : ℕ) → log < k → IsOpening m.count part (e.logs log) → FitsAt e firm (cond b (Clearing k top) SettingAside)
-  clears e firm true k top lt is = (is, lt)
-  clears e firm false k top lt is = is
+  clears : (e : Device) (firm : List Batch) (b : Bool) (k top : ℕ) (sealed : Bool) → log < k → IsOpening m.count part (e.logs log) → IfSealed sealed part (e.logs log).now → FitsAt e firm (cond b (Clearing k top sealed) (cond sealed Settling SettingAside))
+  clears e firm true k top sealed lt is alike = (is, lt, alike)
+  clears e firm false k top true lt is alike = (alike.file, alike.now, alike.is, alike.fresh, is.2)
+  clears e firm false k top false lt is alike = is
 
   removes : (e : Device) (firm : List Batch) (b : Bool) (least sure : ℕ) → ltb least m.base ≡ b → sure ≡ m.base → FitsCheckpointer e log m.base sure parts firm (cond b (RemovingLog least) Idle)
   removes e firm true least sure lt same = (same, ltb-true least m.base lt)
   removes e firm false least sure lt same = tt
 
-  pub naming_keeps : (top : ℕ) (o : Outcome) → Keeps (inside' (Naming top)) → Keeps (happens (inside' (Naming top)) (Writes o))
-  naming_keeps top Done keeps = record {
+  pub naming_keeps : (top : ℕ) (sealed : Bool) (o : Outcome) → Keeps (inside' (Naming top sealed)) → Keeps (happens (inside' (Naming top sealed)) (Writes o))
+  naming_keeps top sealed Done keeps = record {
     sure = m.base;
     firm = keeps.firm;
     sound = raised_sound (sync_names d) log keeps.sure parts keeps.firm (named_sound d log keeps.sure parts keeps.firm keeps.sound) m.base keeps.under keeps.writer.3 (stands_there d m.base keeps.writer.2);
     acked_is = keeps.acked_is;
     under = omega arith;
-    writer = clears (sync_names d) keeps.firm (ltb log top) (log + 1) top (omega arith) (keeps.writer.0, refl, keeps.writer.1);
+    writer = clears (sync_names d) keeps.firm (ltb log top) (log + 1) top sealed (omega arith) (keeps.writer.0, refl, keeps.writer.1) keeps.writer.4;
     checkpointer = removes (sync_names d) keeps.firm (ltb m.least m.base) m.least m.base refl refl;
   }
-  naming_keeps top NotDone keeps = fails d m c parts batch acked (Naming top) keeps
-  naming_keeps top PartDone keeps = fails d m c parts batch acked (Naming top) keeps
-  naming_keeps top DoneUntold keeps = names_kept (Naming top) Failed keeps (answered_in d log m.count m.synced m.base keeps.firm (upto parts log) part batch (Naming top) keeps.writer)
+  naming_keeps top sealed NotDone keeps = fails d m c parts batch acked (Naming top sealed) keeps
+  naming_keeps top sealed PartDone keeps = fails d m c parts batch acked (Naming top sealed) keeps
+  naming_keeps top sealed DoneUntold keeps = names_kept (Naming top sealed) Failed keeps (answered_in d log m.count m.synced m.base keeps.firm (upto parts log) part batch (Naming top sealed) keeps.writer)
 
   -- a later log goes
-  clearing : (k top : ℕ) (v : Writer) (keeps : Keeps (inside' (Clearing k top))) → (IsOpening m.count part ((name_log k None d).logs log) → FitsAt (name_log k None d) keeps.firm v) → Keeps (world (name_log k None d) m v c parts batch acked)
-  clearing k top v keeps fits =
+  clearing : (k top : ℕ) (sealed : Bool) (v : Writer) (keeps : Keeps (inside' (Clearing k top sealed))) →
+      (IsOpening m.count part ((name_log k None d).logs log) → IfSealed sealed part ((name_log k None d).logs log).now → FitsAt (name_log k None d) keeps.firm v) → Keeps (world (name_log k None d) m v c parts batch acked)
+  clearing k top sealed v keeps fits =
       let lt = keeps.writer.1 in
-      stepped d m c parts batch acked (name_log k None d) m.count m.synced (Clearing k top) v refl (λ i. refl) keeps (later_sound d log keeps.sure parts keeps.firm keeps.sound k None lt tt)
-      (fits (subst (IsOpening m.count part) (sym (at_other k (stands_for None (d.logs k)) d.logs log (omega (arith, lt)))) keeps.writer.0))
+      let same : (name_log k None d).logs log ≡ d.logs log = at_other k (stands_for None (d.logs k)) d.logs log (omega (arith, lt)) in
+      stepped d m c parts batch acked (name_log k None d) m.count m.synced (Clearing k top sealed) v refl (λ i. refl) keeps (later_sound d log keeps.sure parts keeps.firm keeps.sound k None lt tt)
+      (fits (subst (IsOpening m.count part) (sym same) keeps.writer.0) (subst (λ (e : Entry). IfSealed sealed part e.now) (sym same) keeps.writer.2))
 
-  pub clearing_keeps : (k top : ℕ) (o : Outcome) → Keeps (inside' (Clearing k top)) → Keeps (happens (inside' (Clearing k top)) (Writes o))
-  clearing_keeps k top Done keeps = let lt = keeps.writer.1 in clearing k top (cond (ltb k top) (Clearing (k + 1) top) SettingAside) keeps (clears (name_log k None d) keeps.firm (ltb k top) (k + 1) top (omega (arith, lt)))
-  clearing_keeps k top NotDone keeps = fails d m c parts batch acked (Clearing k top) keeps
-  clearing_keeps k top PartDone keeps = fails d m c parts batch acked (Clearing k top) keeps
-  clearing_keeps k top DoneUntold keeps =
-      clearing k top Failed keeps (λ is. answered_in (name_log k None d) log m.count m.synced m.base keeps.firm (upto parts log) part batch SettingAside is)
+  pub clearing_keeps : (k top : ℕ) (sealed : Bool) (o : Outcome) → Keeps (inside' (Clearing k top sealed)) → Keeps (happens (inside' (Clearing k top sealed)) (Writes o))
+  clearing_keeps k top sealed Done keeps =
+      let lt = keeps.writer.1 in
+      clearing k top sealed (cond (ltb k top) (Clearing (k + 1) top sealed) (cond sealed Settling SettingAside)) keeps (clears (name_log k None d) keeps.firm (ltb k top) (k + 1) top sealed (omega (arith, lt)))
+  clearing_keeps k top sealed NotDone keeps = fails d m c parts batch acked (Clearing k top sealed) keeps
+  clearing_keeps k top sealed PartDone keeps = fails d m c parts batch acked (Clearing k top sealed) keeps
+  clearing_keeps k top sealed DoneUntold keeps =
+      clearing k top sealed Failed keeps (λ is alike. answered_in (name_log k None d) log m.count m.synced m.base keeps.firm (upto parts log) part batch SettingAside is)
 
   pub setting_keeps : (o : Outcome) → Keeps (inside' SettingAside) → Keeps (happens (inside' SettingAside) (Writes o))
   setting_keeps Done keeps = waits d m c parts batch acked SettingAside Copying keeps keeps.writer

@@ -5,11 +5,13 @@ use Rattle.std.proofs.lemmas.List.{append-nil}
 use Rattle.std.proofs.lemmas.Bool.{ltb-true, leb-true, eqb-true, and_parts, or_cases}
 use Rattle.uc_folder.specs.declared.machine.Machine.{Machine}
 use Rattle.uc_folder.specs.declared.phases.Writer.{Writer}
-use Rattle.uc_folder.specs.declared.phases.Writer.TheVariants.{Making, Founding, Naming, Clearing, SettingAside, Copying, SealingCopy, Replacing, Settling, Ready, Appending, Mending, Syncing, Both, Closing, Beginning, Entering}
+use Rattle.uc_folder.specs.declared.phases.Writer.TheVariants.{Making, Founding, Naming, Clearing, SettingAside, Copying, SealingCopy, Replacing, Settling, Ready, Appending, Mending, Syncing, Both, Closing}
+use Rattle.uc_folder.specs.declared.phases.NextLog.{NextLog}
+use Rattle.uc_folder.specs.declared.phases.NextLog.TheVariants.{Absent, Creating, Recording, Waiting}
 use Rattle.uc_folder.specs.declared.phases.Checkpointer.{Checkpointer}
 use Rattle.uc_folder.specs.declared.phases.Checkpointer.TheVariants.{Idle}
 use Rattle.uc_folder.specs.Device.{Batch, Device, upto, at}
-use Rattle.uc_folder.specs.Steps.{is_open, is_later, is_in_older, checkpointing}
+use Rattle.uc_folder.specs.Steps.{is_open, is_later, is_in_older, switching, checkpointing}
 use Rattle.uc_folder.specs.Worlds.{World, IsPrefixOf, Outcome, Done, NotDone, PartDone, DoneUntold, Submit, AskSync, AskSwitch, AskCheckpoint, Writes, first_of, happens}
 use Rattle.uc_folder.proofs.Lists.{prefix_refl, prefix_trans, prefix_under, prefix_take, upto_same, upto_more, at_here, at_other}
 use Rattle.uc_folder.proofs.Sound.{IsLast, last_weaker}
@@ -19,7 +21,8 @@ use Rattle.uc_folder.proofs.Writing.{world, moved, waits}
 use Rattle.uc_folder.proofs.Renewing.{making_keeps, founding_keeps, naming_keeps, clearing_keeps, setting_keeps, copying_keeps, sealing_copy_keeps, replacing_keeps, settling_keeps}
 use Rattle.uc_folder.proofs.Adding.{marked_count, appending_keeps, both_keeps}
 use Rattle.uc_folder.proofs.Mending.{mending_keeps}
-use Rattle.uc_folder.proofs.Switching.{closing_keeps, beginning_keeps, entering_keeps}
+use Rattle.uc_folder.proofs.Next.{HasNext}
+use Rattle.uc_folder.proofs.Switching.{closing_keeps}
 
 module _ (d : Device) (m : Machine) (parts : ℕ → List Batch) (batch : Batch) (acked : List Batch) where
   abbrev log : ℕ
@@ -30,26 +33,24 @@ module _ (d : Device) (m : Machine) (parts : ℕ → List Batch) (batch : Batch)
 
   -- ---- the writer
 
-  pub writes_keep : (c : Checkpointer) (w : Writer) (o : Outcome) → Keeps (inside w c) → Keeps (happens (inside w c) (Writes o))
-  writes_keep c Making o keeps = making_keeps d m c parts batch acked o keeps
-  writes_keep c Founding o keeps = founding_keeps d m c parts batch acked o keeps
-  writes_keep c (Naming top) o keeps = naming_keeps d m c parts batch acked top o keeps
-  writes_keep c (Clearing k top) o keeps = clearing_keeps d m c parts batch acked k top o keeps
-  writes_keep c SettingAside o keeps = setting_keeps d m c parts batch acked o keeps
-  writes_keep c Copying o keeps = copying_keeps d m c parts batch acked o keeps
-  writes_keep c SealingCopy o keeps = sealing_copy_keeps d m c parts batch acked o keeps
-  writes_keep c Replacing o keeps = replacing_keeps d m c parts batch acked o keeps
-  writes_keep c Settling o keeps = settling_keeps d m c parts batch acked o keeps
-  writes_keep c Appending o keeps = appending_keeps d m c parts batch acked o keeps
-  writes_keep c Mending o keeps = mending_keeps d m c parts batch acked o keeps
-  writes_keep c (Both n) o keeps = both_keeps d m c parts batch acked n o keeps
-  writes_keep c Closing o keeps = closing_keeps d m c parts batch acked o keeps
-  writes_keep c Beginning o keeps = beginning_keeps d m c parts batch acked o keeps
-  writes_keep c Entering o keeps = entering_keeps d m c parts batch acked o keeps
-  writes_keep c w Done keeps = keeps
-  writes_keep c w NotDone keeps = keeps
-  writes_keep c w PartDone keeps = keeps
-  writes_keep c w DoneUntold keeps = keeps
+  pub writes_keep : (c : Checkpointer) (w : Writer) (o : Outcome) → HasNext (inside w c) → Keeps (inside w c) → Keeps (happens (inside w c) (Writes o))
+  writes_keep c Making o fits keeps = making_keeps d m c parts batch acked o keeps
+  writes_keep c Founding o fits keeps = founding_keeps d m c parts batch acked o keeps
+  writes_keep c (Naming top sealed) o fits keeps = naming_keeps d m c parts batch acked top sealed o keeps
+  writes_keep c (Clearing k top sealed) o fits keeps = clearing_keeps d m c parts batch acked k top sealed o keeps
+  writes_keep c SettingAside o fits keeps = setting_keeps d m c parts batch acked o keeps
+  writes_keep c Copying o fits keeps = copying_keeps d m c parts batch acked o keeps
+  writes_keep c SealingCopy o fits keeps = sealing_copy_keeps d m c parts batch acked o keeps
+  writes_keep c Replacing o fits keeps = replacing_keeps d m c parts batch acked o keeps
+  writes_keep c Settling o fits keeps = settling_keeps d m c parts batch acked o keeps
+  writes_keep c Appending o fits keeps = appending_keeps d m c parts batch acked o keeps
+  writes_keep c Mending o fits keeps = mending_keeps d m c parts batch acked o keeps
+  writes_keep c (Both n) o fits keeps = both_keeps d m c parts batch acked n o keeps
+  writes_keep c Closing o fits keeps = closing_keeps d m c parts batch acked o fits keeps
+  writes_keep c w Done fits keeps = keeps
+  writes_keep c w NotDone fits keeps = keeps
+  writes_keep c w PartDone fits keeps = keeps
+  writes_keep c w DoneUntold fits keeps = keeps
 
   -- ---- requests
 
@@ -86,8 +87,14 @@ module _ (d : Device) (m : Machine) (parts : ℕ → List Batch) (batch : Batch)
   sync_keeps Appending c keeps = waits d m c parts batch acked Appending (Both m.count) keeps (keeps.writer, few keeps.firm (upto parts log) keeps.writer.0 keeps.writer.2, omega arith)
   sync_keeps w c keeps = keeps
 
+  switched : (next : NextLog) (c : Checkpointer) → Keeps (inside Ready c) → Keeps (inside (switching Ready next) c)
+  switched Absent c keeps = keeps
+  switched Creating c keeps = keeps
+  switched Recording c keeps = keeps
+  switched Waiting c keeps = waits d m c parts batch acked Ready Closing keeps keeps.writer
+
   pub switch_keeps : (w : Writer) (c : Checkpointer) → Keeps (inside w c) → Keeps (happens (inside w c) AskSwitch)
-  switch_keeps Ready c keeps = waits d m c parts batch acked Ready Closing keeps keeps.writer
+  switch_keeps Ready c keeps = switched m.next c keeps
   switch_keeps w c keeps = keeps
 
   -- of an older log all is firm, and of the present one nothing is taken

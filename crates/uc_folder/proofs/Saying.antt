@@ -4,19 +4,20 @@ use Rattle.std.proofs.lemmas.Bool.{and_parts}
 use Rattle.std.proofs.lemmas.List.{append-nil, take-append-le}
 use Rattle.uc_folder.specs.declared.machine.Machine.{Machine}
 use Rattle.uc_folder.specs.declared.phases.Writer.{Writer}
-use Rattle.uc_folder.specs.declared.phases.Writer.TheVariants.{Making, Settling, Ready, Syncing, Both, Closing, Entering, Failed, Mending}
+use Rattle.uc_folder.specs.declared.phases.Writer.TheVariants.{Making, Settling, Ready, Syncing, Both, Spoiled, Closing, Failed, Mending}
 use Rattle.uc_folder.specs.declared.phases.Checkpointer.{Checkpointer}
 use Rattle.uc_folder.specs.Device.{Batch, Device, upto, at, crashed}
 use Rattle.uc_folder.specs.Steps.{is_open}
-use Rattle.uc_folder.specs.Worlds.{World, IsPrefixOf, Outcome, Done, NotDone, PartDone, DoneUntold, Event, Submit, AskSync, AskSwitch, AskCheckpoint, Writes, Syncs, Checkpoints, Crash, Restart, Reread, reread, first_of, is_beside, are_beside, happens, run, start}
+use Rattle.uc_folder.specs.Worlds.{World, IsPrefixOf, Outcome, Done, NotDone, PartDone, DoneUntold, Event, Submit, AskSync, AskNext, AskSwitch, AskCheckpoint, Writes, Makes, Syncs, Checkpoints, Crash, Restart, Reread, reread, first_of, is_beside, are_beside, happens, run, start}
 use Rattle.uc_folder.proofs.Lists.{prefix_refl, prefix_trans, prefix_under, upto_same, upto_more, at_here, at_other}
 use Rattle.uc_folder.proofs.Sound.{Sound}
 use Rattle.uc_folder.proofs.Holding.{Keeps}
 use Rattle.uc_folder.proofs.Opening.{j, read, j_below, upto_read}
 use Rattle.uc_folder.proofs.Changes.{reread_sound}
-use Rattle.uc_folder.proofs.Writing.{world, take_counted}
+use Rattle.uc_folder.proofs.Writing.{world, take_counted, take_twice}
 use Rattle.uc_folder.proofs.Adding.{marked_count}
-use Rattle.uc_folder.proofs.Histories.{crashed_sound, happens_keeps, start_keeps}
+use Rattle.uc_folder.proofs.Next.{HasNext, next_happens}
+use Rattle.uc_folder.proofs.Histories.{crashed_sound, happens_keeps, start_next, start_keeps}
 
 -- all that the machine counts as synced was acknowledged
 abbrev pub Says : World → Type 0
@@ -24,12 +25,6 @@ Says w = IsPrefixOf (first_of w.parts w.machine.log w.machine.synced) w.acked
 
 upto_at : (parts : ℕ → List Batch) (log : ℕ) (xs : List Batch) → upto (at log xs parts) log ≡ upto parts log
 upto_at parts log xs = upto_same (at log xs parts) parts log (λ k lt. at_other log xs parts k (omega (arith, lt)))
-
-take_twice : (a b : ℕ) (xs : List Batch) → a ≤ b → take a (take b xs) ≡ take a xs
-take_twice zero b xs le = refl
-take_twice (suc a) zero xs le = absurd (omega (arith, le))
-take_twice (suc a) (suc b) [] le = refl
-take_twice (suc a) (suc b) (x ∷ xs) le = ap (λ l. x ∷ l) (take_twice a b xs (omega (arith, le)))
 
 module _ (d : Device) (m : Machine) (c : Checkpointer) (parts : ℕ → List Batch) (batch : Batch) (acked : List Batch) where
   abbrev inside : Writer → World
@@ -61,21 +56,18 @@ module _ (d : Device) (m : Machine) (c : Checkpointer) (parts : ℕ → List Bat
       subst (λ l. IsPrefixOf l acked) (sym same) says
 
   -- all of the log before is acknowledged
-  entered : Keeps (inside Entering) → Says (inside Entering) → Says (happens (inside Entering) (Writes Done))
-  entered keeps says =
+  entered : Keeps (inside Closing) → Says (happens (inside Closing) (Writes Done))
+  entered keeps =
       let next : ℕ = m.log + 1 in
       let q = at next [] parts in
-      let counted = keeps.writer.0.counted in
-      let same = keeps.writer.2 in
-      let all : first_of parts m.log m.synced ≡ upto parts (suc m.log) = ap (λ l. upto parts m.log ++ l) (take_counted m.synced (parts m.log) (same ∙ counted)) in
+      let all : first_of parts m.log m.count ≡ upto parts (suc m.log) = ap (λ l. upto parts m.log ++ l) (take_counted m.count (parts m.log) keeps.writer.counted) in
       let e : suc m.log ≡ next = omega arith in
       let here : upto parts (suc m.log) ≡ upto q next = subst (λ i. upto parts i ≡ upto q next) (sym e) (sym (upto_at parts next [])) in
-      subst (λ l. IsPrefixOf l acked) (all ∙ (here ∙ sym (append-nil (upto q next)))) says
+      subst (λ l. IsPrefixOf l (first_of parts m.log m.count)) (all ∙ (here ∙ sym (append-nil (upto q next)))) (prefix_refl (first_of parts m.log m.count))
 
   says_written : (w : Writer) (o : Outcome) → Keeps (inside w) → Says (inside w) → Says (happens (inside w) (Writes o))
   says_written Settling Done keeps says = prefix_refl (first_of parts m.log m.count)
-  says_written Closing Done keeps says = prefix_refl (first_of parts m.log m.count)
-  says_written Entering Done keeps says = entered keeps says
+  says_written Closing Done keeps says = entered keeps
   says_written Mending Done keeps says = cut_off keeps says
   says_written Making NotDone keeps says = says
   says_written Making PartDone keeps says = says
@@ -88,6 +80,7 @@ module _ (d : Device) (m : Machine) (c : Checkpointer) (parts : ℕ → List Bat
   says_synced : (w : Writer) (o : Outcome) → Says (inside w) → Says (happens (inside w) (Syncs o))
   says_synced (Syncing n) Done says = prefix_refl (first_of parts m.log n)
   says_synced (Both n) Done says = prefix_refl (first_of parts m.log n)
+  says_synced (Spoiled n) Done says = prefix_refl (first_of parts m.log n)
   says_synced Making NotDone says = says
   says_synced Making PartDone says = says
   says_synced Making DoneUntold says = says
@@ -110,25 +103,26 @@ says_happens : (w : World) (e : Event) → Keeps w → Says w → Says (happens 
 says_happens w (Submit b) keeps says = says_submitted w.device w.machine w.machine.checkpointer w.parts w.batch w.acked b w.machine.writer keeps says
 says_happens w (Writes o) keeps says = says_written w.device w.machine w.machine.checkpointer w.parts w.batch w.acked w.machine.writer o keeps says
 says_happens w (Syncs o) keeps says = says_synced w.device w.machine w.machine.checkpointer w.parts w.batch w.acked w.machine.writer o says
-says_happens w (Crash logs bases least top) keeps says = says_opened (crashed logs bases w.device) w.machine.log keeps.sure w.machine.synced w.parts keeps.firm w.acked (crashed_sound w keeps logs bases) says
-says_happens w (Restart least top) keeps says = says_opened w.device w.machine.log keeps.sure w.machine.synced w.parts keeps.firm w.acked keeps.sound says
-says_happens w (Reread keep least top) keeps says =
+says_happens w (Crash logs bases least top sealed) keeps says = says_opened (crashed logs bases w.device) w.machine.log keeps.sure w.machine.synced w.parts keeps.firm w.acked (crashed_sound w keeps logs bases) says
+says_happens w (Restart least top sealed) keeps says = says_opened w.device w.machine.log keeps.sure w.machine.synced w.parts keeps.firm w.acked keeps.sound says
+says_happens w (Reread keep least top sealed) keeps says =
     says_opened (reread keep w) w.machine.log keeps.sure w.machine.synced w.parts keeps.firm w.acked (reread_sound w.device w.machine.log keeps.sure w.parts keeps.firm keeps.sound keep) says
 says_happens w e keeps says = says
 
-says_run : (es : List Event) (w : World) → Keeps w → Says w → Says (run es w)
-says_run [] w keeps says = says
-says_run (e ∷ es) w keeps says = says_run es (happens w e) (happens_keeps w e keeps) (says_happens w e keeps says)
+says_run : (es : List Event) (w : World) → HasNext w → Keeps w → Says w → Says (run es w)
+says_run [] w fits keeps says = says
+says_run (e ∷ es) w fits keeps says = says_run es (happens w e) (next_happens w e keeps fits) (happens_keeps w e fits keeps) (says_happens w e keeps says)
 
 pub always_says : (es : List Event) → Says (run es start)
-always_says es = says_run es start start_keeps ([], refl)
+always_says es = says_run es start start_next start_keeps ([], refl)
 
 -- ---- a sync, and what happens beside it
 
--- a sync up to a number is under way, or the log failed
+-- a sync up to a number is under way, or an append has failed, or the log
 abbrev pub IsUnderWay : ℕ → List Batch → (ℕ → List Batch) → ℕ → Writer → Type 0
 IsUnderWay n xs parts log (Syncing k) = (k ≡ n) × IsPrefixOf xs (first_of parts log n)
 IsUnderWay n xs parts log (Both k) = (k ≡ n) × IsPrefixOf xs (first_of parts log n)
+IsUnderWay n xs parts log (Spoiled k) = Unit {0}
 IsUnderWay n xs parts log Failed = Unit {0}
 IsUnderWay n xs parts log w = ⊥
 
@@ -153,18 +147,21 @@ module _ (n : ℕ) (xs : List Batch) (d : Device) (m : Machine) (c : Checkpointe
         (prefix_under (upto parts m.log) (take n (parts m.log)) (take n (parts m.log ++ b ∷ [])) (take_grows n (parts m.log) (b ∷ []))))),
   )
   way_submitted b (Both k) is = is
+  way_submitted b (Spoiled k) is = is
   way_submitted b Failed is = is
   way_submitted b w is = absurd is
 
   way_asked : (w : Writer) → IsUnderWay n xs parts m.log w → IsUnderWayIn n xs (happens (inside' w) AskSync)
   way_asked (Syncing k) is = is
   way_asked (Both k) is = is
+  way_asked (Spoiled k) is = is
   way_asked Failed is = is
   way_asked w is = absurd is
 
   way_switched : (w : Writer) → IsUnderWay n xs parts m.log w → IsUnderWayIn n xs (happens (inside' w) AskSwitch)
   way_switched (Syncing k) is = is
   way_switched (Both k) is = is
+  way_switched (Spoiled k) is = is
   way_switched Failed is = is
   way_switched w is = absurd is
 
@@ -177,6 +174,10 @@ module _ (n : ℕ) (xs : List Batch) (d : Device) (m : Machine) (c : Checkpointe
   way_written (Both k) NotDone is = tt
   way_written (Both k) PartDone is = tt
   way_written (Both k) DoneUntold is = tt
+  way_written (Spoiled k) Done is = is
+  way_written (Spoiled k) NotDone is = is
+  way_written (Spoiled k) PartDone is = is
+  way_written (Spoiled k) DoneUntold is = is
   way_written Failed Done is = is
   way_written Failed NotDone is = is
   way_written Failed PartDone is = is
@@ -187,6 +188,7 @@ module _ (n : ℕ) (xs : List Batch) (d : Device) (m : Machine) (c : Checkpointe
   way_told : (w : Writer) → is_open w ≡ true → IsUnderWay n xs parts m.log w → IsPrefixOf xs (happens (inside' w) (Syncs Done)).acked
   way_told (Syncing k) e is = subst (λ i. IsPrefixOf xs (first_of parts m.log i)) (sym is.0) is.1
   way_told (Both k) e is = subst (λ i. IsPrefixOf xs (first_of parts m.log i)) (sym is.0) is.1
+  way_told (Spoiled k) e is = absurd (cc)
   way_told Failed e is = absurd (cc)
   way_told w e is = absurd is
 
@@ -194,13 +196,15 @@ way_happens : (n : ℕ) (xs : List Batch) (w : World) (e : Event) → is_beside 
 way_happens n xs w (Submit b) beside is = way_submitted n xs w.device w.machine w.machine.checkpointer w.parts w.batch w.acked b w.machine.writer is
 way_happens n xs w AskSync beside is = way_asked n xs w.device w.machine w.machine.checkpointer w.parts w.batch w.acked w.machine.writer is
 way_happens n xs w AskSwitch beside is = way_switched n xs w.device w.machine w.machine.checkpointer w.parts w.batch w.acked w.machine.writer is
+way_happens n xs w AskNext beside is = is
 way_happens n xs w (AskCheckpoint k past) beside is = is
 way_happens n xs w (Writes o) beside is = way_written n xs w.device w.machine w.machine.checkpointer w.parts w.batch w.acked w.machine.writer o is
+way_happens n xs w (Makes o) beside is = is
 way_happens n xs w (Checkpoints o) beside is = is
 way_happens n xs w (Syncs o) beside is = absurd (cc)
-way_happens n xs w (Crash logs bases least top) beside is = absurd (cc)
-way_happens n xs w (Restart least top) beside is = absurd (cc)
-way_happens n xs w (Reread keep least top) beside is = absurd (cc)
+way_happens n xs w (Crash logs bases least top sealed) beside is = absurd (cc)
+way_happens n xs w (Restart least top sealed) beside is = absurd (cc)
+way_happens n xs w (Reread keep least top sealed) beside is = absurd (cc)
 
 way_run : (n : ℕ) (xs : List Batch) (es : List Event) (w : World) → are_beside es ≡ true → IsUnderWayIn n xs w → IsUnderWayIn n xs (run es w)
 way_run n xs [] w beside is = is

@@ -1,22 +1,25 @@
 -- Syncs of the log, and going on in the next one, keep what holds.
-use Rattle.std.proofs.Common.{◌≡◌, ℕ, ◌+◌, ◌≤◌, List, [], ◌∷◌, ◌++◌, length, take, refl, sym, ap, ◌∙◌, subst, arith}
+use Rattle.std.proofs.Common.{◌≡◌, ℕ, suc, ◌+◌, ◌≤◌, List, [], ◌∷◌, ◌++◌, length, take, refl, sym, ap, ◌∙◌, subst, arith}
 use Rattle.std.specs.Prelude.{Some}
+use Rattle.std.specs.List.{AllByRecursion}
 use Rattle.std.proofs.lemmas.List.{take-append-le, take_all, drop_all}
 use Rattle.uc_folder.specs.declared.machine.Machine.{Machine}
 use Rattle.uc_folder.specs.declared.phases.Writer.{Writer}
-use Rattle.uc_folder.specs.declared.phases.Writer.TheVariants.{Ready, Appending, Syncing, Both, Closing, Beginning, Entering, Failed}
+use Rattle.uc_folder.specs.declared.phases.Writer.TheVariants.{Ready, Appending, Syncing, Both, Spoiled, Closing, Failed}
+use Rattle.uc_folder.specs.declared.phases.NextLog.TheVariants.{Absent}
 use Rattle.uc_folder.specs.declared.phases.Checkpointer.{Checkpointer}
-use Rattle.uc_folder.specs.Device.{Batch, first_whole, are_whole, File, Entry, Device, content, upto, at, empty_file, synced, suspected, stands_for, change_log, name_log, sync_names}
+use Rattle.uc_folder.specs.Device.{Batch, first_whole, are_whole, File, Entry, Device, content, upto, at, synced, suspected, changed, change_log}
 use Rattle.uc_folder.specs.Worlds.{World, IsPrefixOf, first_of, Outcome, Done, NotDone, PartDone, DoneUntold, Writes, Syncs, happens}
 use Rattle.uc_folder.proofs.Lists.{prefix_refl, prefix_trans, prefix_take, at_here, at_other}
 use Rattle.uc_folder.proofs.Records.{whole_front, whole_length}
 use Rattle.uc_folder.proofs.Sound.{Sound, IsWhole, IsThere, IsLog, IsLast}
-use Rattle.uc_folder.proofs.Holding.{IsNew, IsOpen, IsAppended, FitsWriter, Keeps}
+use Rattle.uc_folder.proofs.Holding.{IsNew, IsOpen, IsAppended, Keeps}
 use Rattle.uc_folder.proofs.Opening.{sound_firm}
-use Rattle.uc_folder.proofs.Changes.{later_sound, switched_sound, named_sound}
-use Rattle.uc_folder.proofs.Writing.{world, inside, moved, stepped, waits, fails, with_file, filed, last_of, here, answered_in, most, synced_file, synced_all, synced_first}
-use Rattle.uc_folder.proofs.Adding.{marked_count, synced_open, synced_sound, synced_firmly, synced_grows}
-use Rattle.uc_folder.proofs.Renewing.{empty_new}
+use Rattle.uc_folder.proofs.Changes.{switched_sound}
+use Rattle.uc_folder.proofs.Writing.{world, inside, moved, stepped, with_next, with_file, filed, last_of, here, here_before, most, synced_file, synced_all, synced_first}
+use Rattle.uc_folder.proofs.Adding.{marked_count, synced_now, synced_open, synced_sound, synced_firmly, synced_grows}
+use Rattle.uc_folder.proofs.Mending.{spoiled_syncs}
+use Rattle.uc_folder.proofs.Next.{IsNext, waiting_next}
 
 module _ (d : Device) (m : Machine) (c : Checkpointer) (parts : ℕ → List Batch) (batch : Batch) (acked : List Batch) where
   abbrev log : ℕ
@@ -98,6 +101,7 @@ module _ (d : Device) (m : Machine) (c : Checkpointer) (parts : ℕ → List Bat
   pub syncs_keep : (w : Writer) (o : Outcome) → Keeps (inside' w) → Keeps (happens (inside' w) (Syncs o))
   syncs_keep (Syncing n) o keeps = syncing_keeps n o keeps
   syncs_keep (Both n) o keeps = both_syncs n o keeps
+  syncs_keep (Spoiled n) o keeps = spoiled_syncs d m c parts batch acked n o keeps
   syncs_keep w Done keeps = keeps
   syncs_keep w NotDone keeps = keeps
   syncs_keep w PartDone keeps = keeps
@@ -122,58 +126,43 @@ module _ (d : Device) (m : Machine) (c : Checkpointer) (parts : ℕ → List Bat
   few_synced : (firm : List Batch) → IsOpen m.count m.synced firm before part (d.logs log) → m.synced ≤ m.count
   few_synced firm is = let le = marked_count m.count m.synced firm before part (d.logs log) is in let counted = is.counted in omega (arith, le, counted)
 
-  pub closing_keeps : (o : Outcome) → Keeps (inside' Closing) → Keeps (happens (inside' Closing) (Writes o))
-  closing_keeps Done keeps =
+  -- all of the log is on the device, and acknowledged
+  closes : (keeps : Keeps (inside' Closing)) → Keeps (world (file' (synced m.count)) (record m { count = m.count; synced = m.count }) Ready c parts batch (first_of parts log m.count))
+  closes keeps =
       let is = keeps.writer in
       let from = few_synced keeps.firm is in
       let more = first_of parts log m.count in
-      moved d m c parts batch acked (file' (synced m.count)) log m.count m.count parts batch more more Closing Beginning refl (λ k. refl) (omega arith) (λ k lt. refl) (prefix_refl part) keeps
+      moved d m c parts batch acked (file' (synced m.count)) log m.count m.count parts batch more more Closing Ready refl (λ k. refl) (omega arith) (λ k lt. refl) (prefix_refl part) keeps
       (synced_grows d m c parts batch acked m.count part keeps.firm is from)
       (synced_firmly d m c parts batch acked m.count part keeps.firm is keeps.sure keeps.sound (prefix_refl part) from (prefix_take m.count part))
-      (prefix_refl more) (synced_open d m c parts batch acked m.count part keeps.firm is from (omega arith), closed keeps.firm is, refl)
-  closing_keeps NotDone keeps = suspects Closing part m.count keeps keeps.writer (prefix_take m.count part)
-  closing_keeps PartDone keeps = suspects Closing part m.count keeps keeps.writer (prefix_take m.count part)
-  closing_keeps DoneUntold keeps = suspects_after Closing m.count part keeps keeps.writer (prefix_refl part) (prefix_take m.count part) (omega arith) (few_synced keeps.firm keeps.writer)
+      (prefix_refl more) (synced_open d m c parts batch acked m.count part keeps.firm is from (omega arith))
 
-  beginning : (v : Writer) (keeps : Keeps (inside' Beginning)) → (((is : IsOpen m.count m.synced keeps.firm before part ((name_log (log + 1) (Some empty_file) d).logs log)) × IsWhole part is.file × (m.synced ≡ m.count)) → FitsWriter (name_log (log + 1) (Some empty_file) d) log m.count m.synced m.base keeps.firm before part batch v) →
-      Keeps (world (name_log (log + 1) (Some empty_file) d) m v c parts batch acked)
-  beginning v keeps fits =
-      stepped d m c parts batch acked (name_log (log + 1) (Some empty_file) d) m.count m.synced Beginning v refl (λ k. refl) keeps (later_sound d log keeps.sure parts keeps.firm keeps.sound (log + 1) (Some empty_file) (omega arith) refl)
-      (fits (subst (λ (e : Entry). (is : IsOpen m.count m.synced keeps.firm before part e) × IsWhole part is.file × (m.synced ≡ m.count)) (sym (at_other (log + 1) (stands_for (Some empty_file) (d.logs (log + 1))) d.logs log (omega arith))) keeps.writer))
-
-  pub beginning_keeps : (o : Outcome) → Keeps (inside' Beginning) → Keeps (happens (inside' Beginning) (Writes o))
-  beginning_keeps Done keeps =
-      beginning Entering keeps (λ is. (
-        is.0,
-        is.1,
-        is.2,
-        subst (λ (e : Entry). IsNew e.now) (sym (at_here (log + 1) (stands_for (Some empty_file) (d.logs (log + 1))) d.logs)) (empty_new (d.logs (log + 1))),
-        omega arith,
-      ))
-  beginning_keeps NotDone keeps = waits d m c parts batch acked Beginning Ready keeps keeps.writer.0
-  beginning_keeps PartDone keeps = waits d m c parts batch acked Beginning Ready keeps keeps.writer.0
-  beginning_keeps DoneUntold keeps = beginning Ready keeps (λ is. is.0)
-
-  pub entering_keeps : (o : Outcome) → Keeps (inside' Entering) → Keeps (happens (inside' Entering) (Writes o))
-  entering_keeps Done keeps =
-      let is = keeps.writer.0 in
-      let new = keeps.writer.3 in
-      let next : ℕ = log + 1 in
+  -- the next log goes on, which is there and empty
+  enters : (keeps : Keeps (inside' Closing)) (next : ℕ) → next ≡ suc log → IsNew ((file' (synced m.count)).logs next).now → ((file' (synced m.count)).logs next).before ≡ [] → next ≤ d.names →
+      Keeps (world (file' (synced m.count)) (record m { log = next; count = 0; synced = 0 }) Ready c (at next [] parts) batch (first_of parts log m.count))
+  enters keeps next e new alone top =
+      let e' : Device = file' (synced m.count) in
+      let is = keeps.writer in
+      let from = few_synced keeps.firm is in
+      let all = first_of parts log m.count in
+      let done = closes keeps in
+      let now = synced_now d m c parts batch acked m.count part keeps.firm is in
       let q = at next [] parts in
       let more = before ++ part in
       let none : new.file.kept ++ new.file.waiting ≡ [] = ap (λ l. l ++ new.file.waiting) new.kept ∙ new.waiting in
       let empty : q next ≡ [] = at_here next [] parts in
-      let grows = sound_firm d log keeps.sure parts keeps.firm keeps.sound in
-      let sound = switched_sound (sync_names d) log keeps.sure parts keeps.firm (named_sound d log keeps.sure parts keeps.firm keeps.sound) next (omega arith) (subst (IsLog part) (sym is.now) keeps.writer.1) refl
-      (subst IsThere (sym new.now) tt, tt) keeps.writer.4 in
+      let grows = sound_firm e' log done.sure parts done.firm done.sound in
+      let named : (e'.logs log).before ≡ [] = here_before d m c parts batch acked (synced m.count) ∙ is.named in
+      let sound = switched_sound e' log done.sure parts done.firm done.sound next e (subst (IsLog part) (sym now) (closed keeps.firm is)) named
+      (subst IsThere (sym new.now) tt, subst (AllByRecursion IsThere) (sym alone) tt) top in
       let last = subst (IsLast more (upto q next) (q next)) new.now sound.last in
-      moved d m c parts batch acked (sync_names d) next 0 0 q batch acked more Entering Ready refl (λ k. refl) (omega arith) (λ k lt. at_other next [] parts k (omega (arith, lt)))
-      (subst (IsPrefixOf part) (sym (at_other next [] parts log (omega arith))) (prefix_refl part)) keeps grows sound
-      (prefix_trans acked keeps.firm more keeps.acked_is grows)
+      moved e' (record m { count = m.count; synced = m.count }) c parts batch all e' next 0 0 q batch all more Ready Ready refl (λ k. refl) (omega (arith, e)) (λ k lt. at_other next [] parts k (omega (arith, e, lt)))
+      (subst (IsPrefixOf part) (sym (at_other next [] parts log (omega (arith, e)))) (prefix_refl part)) done grows sound
+      (prefix_trans all done.firm more done.acked_is grows)
       (record {
         file = new.file;
         now = new.now;
-        named = refl;
+        named = alone;
         whole = ap are_whole none;
         all = ap first_whole none ∙ sym empty;
         fresh = new.fresh;
@@ -181,8 +170,15 @@ module _ (d : Device) (m : Machine) (c : Checkpointer) (parts : ℕ → List Bat
         marked = omega arith;
         told = subst (λ l. IsPrefixOf more (upto q next ++ l)) (ap first_whole new.kept) last.1;
       })
-  entering_keeps NotDone keeps = fails d m c parts batch acked Entering keeps
-  entering_keeps PartDone keeps = fails d m c parts batch acked Entering keeps
-  entering_keeps DoneUntold keeps =
-      stepped d m c parts batch acked (sync_names d) m.count m.synced Entering Failed refl (λ k. refl) keeps (named_sound d log keeps.sure parts keeps.firm keeps.sound)
-      (answered_in d log m.count m.synced m.base keeps.firm before part batch Entering keeps.writer)
+
+  pub closing_keeps : (o : Outcome) → IsNext d log Closing m.next → Keeps (inside' Closing) → Keeps (happens (inside' Closing) (Writes o))
+  closing_keeps Done fits keeps =
+      let is = waiting_next d log m.next fits in
+      let next : ℕ = log + 1 in
+      let e' : Device = file' (synced m.count) in
+      let same : e'.logs next ≡ d.logs next = at_other log (changed (synced m.count) (d.logs log)) d.logs next (omega arith) in
+      with_next e' (record m { log = next; count = 0; synced = 0 }) c (at next [] parts) batch (first_of parts log m.count) Absent Ready
+      (enters keeps next (omega arith) (subst (λ (x : Entry). IsNew x.now) (sym same) is.new) (ap (λ (x : Entry). x.before) same ∙ is.alone) is.named)
+  closing_keeps NotDone fits keeps = suspects Closing part m.count keeps keeps.writer (prefix_take m.count part)
+  closing_keeps PartDone fits keeps = suspects Closing part m.count keeps keeps.writer (prefix_take m.count part)
+  closing_keeps DoneUntold fits keeps = suspects_after Closing m.count part keeps keeps.writer (prefix_refl part) (prefix_take m.count part) (omega arith) (few_synced keeps.firm keeps.writer)

@@ -5,7 +5,8 @@ use Rattle.std.specs.List.{AllByRecursion}
 use Rattle.std.proofs.lemmas.List.{take-append-le, take-append-drop, length-append}
 use Rattle.uc_folder.specs.declared.machine.Machine.{Machine}
 use Rattle.uc_folder.specs.declared.phases.Writer.{Writer}
-use Rattle.uc_folder.specs.declared.phases.Writer.TheVariants.{Making, Founding, Naming, Clearing, SettingAside, Copying, SealingCopy, Replacing, Settling, Ready, Appending, Mending, Syncing, Both, Closing, Beginning, Entering, Failed}
+use Rattle.uc_folder.specs.declared.phases.Writer.TheVariants.{Making, Founding, Naming, Clearing, SettingAside, Copying, SealingCopy, Replacing, Settling, Ready, Appending, Mending, Syncing, Both, Spoiled, Closing, Failed}
+use Rattle.uc_folder.specs.declared.phases.NextLog.{NextLog}
 use Rattle.uc_folder.specs.declared.phases.Checkpointer.{Checkpointer}
 use Rattle.uc_folder.specs.declared.phases.Checkpointer.TheVariants.{Idle, Writing, Sealing, Renaming, Fixing, RemovingLog, RemovingBase}
 use Rattle.uc_folder.specs.Device.{Batch, first_whole, File, Entry, Device, first_number, content, upto, at, synced, changed, changed_name, change_log}
@@ -34,6 +35,12 @@ take_length (x ∷ xs) = ap (λ l. x ∷ l) (take_length xs)
 
 pub take_counted : {A : Type 0} (n : ℕ) (xs : List A) → n ≡ length xs → take n xs ≡ xs
 take_counted n xs e = ap (λ i. take i xs) e ∙ take_length xs
+
+pub take_twice : (a b : ℕ) (xs : List Batch) → a ≤ b → take a (take b xs) ≡ take a xs
+take_twice zero b xs le = refl
+take_twice (suc a) zero xs le = absurd (omega (arith, le))
+take_twice (suc a) (suc b) [] le = refl
+take_twice (suc a) (suc b) (x ∷ xs) le = ap (λ l. x ∷ l) (take_twice a b xs (omega (arith, le)))
 
 pub drop_length : {A : Type 0} (xs : List A) → drop (length xs) xs ≡ []
 drop_length [] = refl
@@ -117,8 +124,8 @@ mendable_answered count synced firm before part batch e front all is =
 pub answered_in : (d : Device) (log count synced base : ℕ) (firm before part : List Batch) (batch : Batch) (w : Writer) → FitsWriter d log count synced base firm before part batch w → IsPrefixOf (take count part) (content (d.logs log).now)
 answered_in d log count synced base firm before part batch Making fits = none_answered count part (content (d.logs log).now) fits.1
 answered_in d log count synced base firm before part batch Founding fits = none_answered count part (content (d.logs log).now) fits.1
-answered_in d log count synced base firm before part batch (Naming top) fits = read_answered count part (d.logs log).now fits.0
-answered_in d log count synced base firm before part batch (Clearing k top) fits = read_answered count part (d.logs log).now fits.0.0
+answered_in d log count synced base firm before part batch (Naming top sealed) fits = read_answered count part (d.logs log).now fits.0
+answered_in d log count synced base firm before part batch (Clearing k top sealed) fits = read_answered count part (d.logs log).now fits.0.0
 answered_in d log count synced base firm before part batch SettingAside fits = read_answered count part (d.logs log).now fits.0
 answered_in d log count synced base firm before part batch Copying fits = read_answered count part (d.logs log).now fits.0
 answered_in d log count synced base firm before part batch SealingCopy fits = read_answered count part (d.logs log).now fits.0.0
@@ -130,9 +137,8 @@ answered_in d log count synced base firm before part batch Appending fits = appe
 answered_in d log count synced base firm before part batch Mending fits = mendable_answered count synced firm before part batch (d.logs log) fits.0 fits.1 fits.2
 answered_in d log count synced base firm before part batch (Syncing n) fits = open_answered count count synced firm before part (d.logs log) fits.0
 answered_in d log count synced base firm before part batch (Both n) fits = appended_answered count synced firm before part batch (d.logs log) fits.0
+answered_in d log count synced base firm before part batch (Spoiled n) fits = mendable_answered count synced firm before part batch (d.logs log) fits.0.0 fits.0.1 fits.0.2
 answered_in d log count synced base firm before part batch Closing fits = open_answered count count synced firm before part (d.logs log) fits
-answered_in d log count synced base firm before part batch Beginning fits = open_answered count count synced firm before part (d.logs log) fits.0
-answered_in d log count synced base firm before part batch Entering fits = open_answered count count synced firm before part (d.logs log) fits.0
 answered_in d log count synced base firm before part batch Failed fits = fits
 
 -- ---- steps
@@ -154,6 +160,10 @@ module _ (d : Device) (m : Machine) (c : Checkpointer) (parts : ℕ → List Bat
     writer = fits;
     checkpointer = checkpointer_stays d e m.log over m.base keeps.sure parts q keeps.firm more c le partial bases same part grows keeps.checkpointer;
   }
+
+  -- nothing is known of the next log
+  pub with_next : (next : NextLog) (w : Writer) → Keeps (inside w) → Keeps (world d (record m { next = next }) w c parts batch acked)
+  with_next next w keeps = record { sure = keeps.sure; firm = keeps.firm; sound = keeps.sound; acked_is = keeps.acked_is; under = keeps.under; writer = keeps.writer; checkpointer = keeps.checkpointer }
 
   -- all that is firm stays
   pub stepped : (e : Device) (count synced : ℕ) (w v : Writer) → e.partial ≡ d.partial → ((k : ℕ) → (e.bases k).now ≡ (d.bases k).now) → (keeps : Keeps (inside w)) → Sound e m.log keeps.sure parts keeps.firm →

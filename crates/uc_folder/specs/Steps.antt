@@ -3,7 +3,9 @@ use Rattle.std.specs.Prelude.{ℕ, ◌+◌, Bool, true, false, nat_lt, nat_le, �
 use Rattle.uc_folder.specs.declared.machine.Machine.{Machine}
 use Rattle.uc_folder.specs.declared.listing.Found.{Found}
 use Rattle.uc_folder.specs.declared.phases.Writer.{Writer}
-use Rattle.uc_folder.specs.declared.phases.Writer.TheVariants.{Making, Founding, Naming, Clearing, SettingAside, Copying, SealingCopy, Replacing, Settling, Ready, Appending, Mending, Syncing, Both, Closing, Beginning, Entering, Failed}
+use Rattle.uc_folder.specs.declared.phases.Writer.TheVariants.{Making, Founding, Naming, Clearing, SettingAside, Copying, SealingCopy, Replacing, Settling, Ready, Appending, Mending, Syncing, Both, Spoiled, Closing, Failed}
+use Rattle.uc_folder.specs.declared.phases.NextLog.{NextLog}
+use Rattle.uc_folder.specs.declared.phases.NextLog.TheVariants.{Absent, Creating, Recording, Waiting}
 use Rattle.uc_folder.specs.declared.phases.Checkpointer.{Checkpointer}
 use Rattle.uc_folder.specs.declared.phases.Checkpointer.TheVariants.{Idle, Writing, Sealing, Renaming, Fixing, RemovingLog, RemovingBase}
 use Rattle.uc_folder.specs.declared.action.Action.{Action}
@@ -14,8 +16,8 @@ use Rattle.uc_folder.specs.declared.action.Action.TheVariants.{Nothing, CreateLo
 abbrev pub next_write : Writer → ℕ → ℕ → ℕ → Action
 next_write Making log count synced = CreateLog log
 next_write Founding log count synced = SyncNames
-next_write (Naming top) log count synced = SyncNames
-next_write (Clearing k top) log count synced = RemoveLog k
+next_write (Naming top sealed) log count synced = SyncNames
+next_write (Clearing k top sealed) log count synced = RemoveLog k
 next_write SettingAside log count synced = SetAside log
 next_write Copying log count synced = CopyLog log
 next_write SealingCopy log count synced = SyncCopy
@@ -26,22 +28,21 @@ next_write Appending log count synced = Append log synced
 next_write Mending log count synced = CutLog log count
 next_write (Syncing n) log count synced = Nothing
 next_write (Both n) log count synced = Append log synced
+next_write (Spoiled n) log count synced = Nothing
 next_write Closing log count synced = SyncLog log count
-next_write Beginning log count synced = CreateLog (log + 1)
-next_write Entering log count synced = SyncNames
 next_write Failed log count synced = Nothing
 
--- after the name of a log was removed, or none was
-abbrev pub clearing_after : ℕ → ℕ → Writer
-clearing_after k top = if nat_lt k top then Clearing (k + 1) top else SettingAside
+-- After the name of a log was removed, or none was. A sealed log is on the device as it is: its batches aren't copied.
+abbrev pub clearing_after : ℕ → ℕ → Bool → Writer
+clearing_after k top sealed = if nat_lt k top then Clearing (k + 1) top sealed else (if sealed then Settling else SettingAside)
 
--- The writer's phase after an operation that was done, or wasn't. After two refusals it goes on: that a batch can't be appended, if the
--- rest of it can be cut off, and that the next log can't be made.
+-- The writer's phase after an operation that was done, or wasn't. After one refusal it goes on: that a batch can't be appended, if the
+-- rest of it can be cut off.
 abbrev pub writer_after : Writer → Bool → ℕ → Writer
 writer_after Making true log = Founding
 writer_after Founding true log = Ready
-writer_after (Naming top) true log = clearing_after log top
-writer_after (Clearing k top) true log = clearing_after k top
+writer_after (Naming top sealed) true log = clearing_after log top sealed
+writer_after (Clearing k top sealed) true log = clearing_after k top sealed
 writer_after SettingAside true log = Copying
 writer_after Copying true log = SealingCopy
 writer_after SealingCopy true log = Replacing
@@ -53,30 +54,33 @@ writer_after Appending false log = Mending
 writer_after Mending true log = Ready
 writer_after (Syncing n) is_done log = Syncing n
 writer_after (Both n) true log = Syncing n
-writer_after Closing true log = Beginning
-writer_after Beginning true log = Entering
-writer_after Beginning false log = Ready
-writer_after Entering true log = Ready
+writer_after (Both n) false log = Spoiled n
+writer_after (Spoiled n) is_done log = Spoiled n
+writer_after Closing true log = Ready
 writer_after _ _ log = Failed
 
 -- the number of its log then
 abbrev pub log_after : Writer → Bool → ℕ → ℕ
-log_after Entering true log = log + 1
+log_after Closing true log = log + 1
 log_after _ _ log = log
 
 -- the number of batches that were appended to it
 abbrev pub count_after : Writer → Bool → ℕ → ℕ
 count_after Appending true count = count + 1
 count_after (Both n) true count = count + 1
-count_after Entering true count = 0
+count_after Closing true count = 0
 count_after _ _ count = count
 
 -- the number of them that are on the device for certain
 abbrev pub synced_after : Writer → Bool → ℕ → ℕ → ℕ
 synced_after Settling true count synced = count
-synced_after Closing true count synced = count
-synced_after Entering true count synced = 0
+synced_after Closing true count synced = 0
 synced_after _ _ count synced = synced
+
+-- the log after its log then
+abbrev pub next_after : Writer → Bool → NextLog → NextLog
+next_after Closing true next = Absent
+next_after _ _ next = next
 
 -- the removal of logs and bases before a base, from a number on
 abbrev pub removing_from : ℕ → ℕ → Checkpointer
@@ -84,7 +88,7 @@ removing_from k base = if nat_lt k base then RemovingLog k else Idle
 
 -- once the names that were read are on the device, what the newest base has is removed
 abbrev pub checkpointer_then : Writer → Bool → ℕ → ℕ → Checkpointer → Checkpointer
-checkpointer_then (Naming top) true least base c = removing_from least base
+checkpointer_then (Naming top sealed) true least base c = removing_from least base
 checkpointer_then _ _ least base c = c
 
 abbrev pub told_write : Machine → Bool → Machine
@@ -93,26 +97,47 @@ told_write m is_done = record m {
   count = count_after m.writer is_done m.count;
   synced = synced_after m.writer is_done m.count m.synced;
   writer = writer_after m.writer is_done m.log;
+  next = next_after m.writer is_done m.next;
   checkpointer = checkpointer_then m.writer is_done m.least m.base m.checkpointer;
 }
+
+-- ---- the next log, which is made while batches are appended
+
+abbrev pub next_make : NextLog → ℕ → Action
+next_make Creating log = CreateLog (log + 1)
+next_make Recording log = SyncNames
+next_make _ log = Nothing
+
+abbrev pub made_after : NextLog → Bool → NextLog
+made_after Creating true = Recording
+made_after Recording true = Waiting
+made_after Waiting is_done = Waiting
+made_after _ is_done = Absent
+
+abbrev pub told_make : Machine → Bool → Machine
+told_make m is_done = record m { next = made_after m.next is_done }
 
 -- ---- a sync of the log, beside which a batch may be appended
 
 abbrev pub next_sync : Writer → ℕ → Action
 next_sync (Syncing n) log = SyncLog log n
 next_sync (Both n) log = SyncLog log n
+next_sync (Spoiled n) log = SyncLog log n
 next_sync _ log = Nothing
 
 abbrev pub writer_synced : Writer → Bool → Writer
 writer_synced (Syncing n) true = Ready
 writer_synced (Both n) true = Appending
+writer_synced (Spoiled n) true = Mending
 writer_synced (Syncing n) false = Failed
 writer_synced (Both n) false = Failed
+writer_synced (Spoiled n) false = Failed
 writer_synced w is_done = w
 
 abbrev pub synced_then : Writer → Bool → ℕ → ℕ
 synced_then (Syncing n) true synced = n
 synced_then (Both n) true synced = n
+synced_then (Spoiled n) true synced = n
 synced_then w is_done synced = synced
 
 abbrev pub told_sync : Machine → Bool → Machine
@@ -186,10 +211,10 @@ syncing Ready count = Syncing count
 syncing Appending count = Both count
 syncing w count = w
 
--- the next log is to go on
-abbrev pub switching : Writer → Writer
-switching Ready = Closing
-switching w = w
+-- the next log is to go on, once it is there
+abbrev pub switching : Writer → NextLog → Writer
+switching Ready Waiting = Closing
+switching w next = w
 
 -- whether batches may be submitted
 abbrev pub is_open : Writer → Bool
@@ -198,6 +223,11 @@ is_open Appending = true
 is_open (Syncing n) = true
 is_open (Both n) = true
 is_open w = false
+
+-- the next log is to be made
+abbrev pub asking_next : Writer → NextLog → NextLog
+asking_next w Absent = if is_open w then Creating else Absent
+asking_next w next = next
 
 -- whether no base has as much
 abbrev pub is_later : ℕ → ℕ → ℕ → ℕ → Bool
@@ -218,9 +248,9 @@ checkpointing c may n new = c
 
 -- ---- an opening
 
--- the machine of the files that an opening found, and of a number of batches in the log that goes on
-abbrev pub opened : Found → ℕ → Machine
-opened f count = record {
+-- the machine of the files that an opening found, and of a number of batches in the log that goes on, which may be sealed
+abbrev pub opened : Found → ℕ → Bool → Machine
+opened f count sealed = record {
   log = f.log;
   count = count;
   synced = 0;
@@ -228,6 +258,7 @@ opened f count = record {
   least = f.least;
   tried = f.base;
   past = f.past;
-  writer = if f.is_there then Naming f.top else Making;
+  writer = if f.is_there then Naming f.top sealed else Making;
+  next = Absent;
   checkpointer = Idle;
 }

@@ -1,13 +1,13 @@
 -- The machine and the device together, over every list of events.
-use Rattle.std.specs.Prelude.{take, min, length, ◌≡◌, ℕ, ◌+◌, ◌≤◌, ◌<◌, Bool, true, false, ◌&&◌, List, [], ◌∷◌, ◌++◌, Option, Some, None, nat_lt, if◌then◌else◌}
-use Rattle.uc_folder.specs.Device.{Batch, Whole, Torn, File, Device, Keep, first_number, crashed, crashed_file, empty_file, appended, synced, cut, suspected, sealed, copied, rows_of, at, change_log, name_log, name_base, sync_names, write_copy, write_partial, records_of, content, are_whole, are_damaged, is_there, past_of, newest_base, last_log, upto}
+use Rattle.std.specs.Prelude.{not, take, min, length, ◌≡◌, ℕ, ◌+◌, ◌≤◌, ◌<◌, Bool, true, false, ◌&&◌, List, [], ◌∷◌, ◌++◌, Option, Some, None, nat_lt, if◌then◌else◌}
+use Rattle.uc_folder.specs.Device.{Batch, Record, Whole, Torn, File, Device, Keep, first_number, crashed, crashed_file, empty_file, appended, synced, cut, suspected, sealed, copied, rows_of, at, change_log, name_log, name_base, sync_names, write_copy, write_partial, records_of, content, are_whole, are_damaged, is_there, past_of, newest_base, last_log, upto}
 use Rattle.uc_folder.specs.declared.machine.Machine.{Machine}
 use Rattle.uc_folder.specs.declared.listing.Found.{Found}
 use Rattle.uc_folder.specs.declared.phases.Writer.{Writer}
-use Rattle.uc_folder.specs.declared.phases.Writer.TheVariants.{Settling, Ready, Mending, Syncing, Both, Closing, Entering}
+use Rattle.uc_folder.specs.declared.phases.Writer.TheVariants.{Settling, Ready, Mending, Syncing, Both, Spoiled, Closing}
 use Rattle.uc_folder.specs.declared.action.Action.{Action}
 use Rattle.uc_folder.specs.declared.action.Action.TheVariants.{Nothing, CreateLog, Append, SyncLog, CutLog, SyncNames, SetAside, CopyLog, SyncCopy, NameCopy, WriteBase, SyncBase, NameBase, RemoveLog, RemoveBase}
-use Rattle.uc_folder.specs.Steps.{next_write, told_write, next_sync, told_sync, next_checkpoint, told_checkpoint, submitting, syncing, switching, may_begin, checkpointing, opened}
+use Rattle.uc_folder.specs.Steps.{next_write, told_write, next_make, told_make, next_sync, told_sync, next_checkpoint, told_checkpoint, submitting, syncing, asking_next, switching, may_begin, checkpointing, opened}
 
 -- The folder and its machine; the batches that were submitted for each log, the one that was submitted last, and all that were
 -- acknowledged as synced.
@@ -89,22 +89,27 @@ pub data Event : Type 0 where
   Submit : Batch → Event
   -- all that was appended is to be synced
   AskSync : Event
-  -- the next log is to go on
+  -- the next log is to be made
+  AskNext : Event
+  -- it is to go on
   AskSwitch : Event
   -- a base is to be made of the logs before a number, and of some batches of the log of that number
   AskCheckpoint : ℕ → ℕ → Event
   -- the writer's next operation is carried out
   Writes : Outcome → Event
+  -- the next log is made, or its name is synced
+  Makes : Outcome → Event
   -- the sync of the log ends that was asked for: it takes effect here, on what had been appended when it was asked for
   Syncs : Outcome → Event
   -- the checkpointer's next operation is carried out
   Checkpoints : Outcome → Event
-  -- the machine crashes, and the folder is opened again: the listing tells the least number, and the greatest of a log
-  Crash : (ℕ → Keep) → (ℕ → Keep) → ℕ → ℕ → Event
+  -- The machine crashes, and the folder is opened again: the listing tells the least number, and the greatest of a log. It may be said
+  -- that the log that goes on is sealed.
+  Crash : (ℕ → Keep) → (ℕ → Keep) → ℕ → ℕ → Bool → Event
   -- the process ends, and the folder is opened again as it can be read
-  Restart : ℕ → ℕ → Event
+  Restart : ℕ → ℕ → Bool → Event
   -- the same, where of the log that was written only what is on the device can be read
-  Reread : Keep → ℕ → ℕ → Event
+  Reread : Keep → ℕ → ℕ → Bool → Event
 
 -- a batch is taken if the writer may append one
 abbrev pub parts_with : Writer → ℕ → Batch → (ℕ → List Batch) → ℕ → List Batch
@@ -120,7 +125,7 @@ batch_with w b old = old
 -- A batch that was cut off isn't submitted any more: it was refused. And nothing was submitted for the log that is entered.
 abbrev pub parts_after : Writer → Bool → ℕ → ℕ → (ℕ → List Batch) → ℕ → List Batch
 parts_after Mending true log count parts = at log (take count (parts log)) parts
-parts_after Entering true log count parts = at (log + 1) [] parts
+parts_after Closing true log count parts = at (log + 1) [] parts
 parts_after w done log count parts = parts
 
 -- the batches acknowledged as synced after an operation of the writer: all, once it has put the log on the device
@@ -133,6 +138,7 @@ acked_after w done all acked = acked
 abbrev pub acked_then : Writer → Bool → (ℕ → List Batch) → ℕ → List Batch → List Batch
 acked_then (Syncing n) true parts log acked = first_of parts log n
 acked_then (Both n) true parts log acked = first_of parts log n
+acked_then (Spoiled n) true parts log acked = first_of parts log n
 acked_then w done parts log acked = acked
 
 -- the result of an opening by the names that are listed
@@ -146,11 +152,22 @@ found d least top = record {
   top = top;
 }
 
+-- whether there is no record
+abbrev pub are_none : List Record → Bool
+are_none [] = true
+are_none (r ∷ rs) = false
+
+-- Whether nothing of a log waits. The premise: that a log is sealed is said only of such a one. A closed log says so by a last batch
+-- without operations, whose mark tells that all before it was on the device: marks are true (uc_log_crash, `AreTrue`).
+abbrev pub is_settled : Option File → Bool
+is_settled None = false
+is_settled (Some f) = are_whole f.kept && (are_none f.waiting && not f.suspect)
+
 -- the folder is opened: from then on what was read is what was submitted
-abbrev pub opens : ℕ → ℕ → World → World
-opens least top w = record {
+abbrev pub opens : ℕ → ℕ → Bool → World → World
+opens least top sealed w = record {
   device = w.device;
-  machine = opened (found w.device least top) (length (content (w.device.logs (last_log w.device)).now));
+  machine = opened (found w.device least top) (length (content (w.device.logs (last_log w.device)).now)) (sealed && is_settled (w.device.logs (last_log w.device)).now);
   parts = λ k. if nat_lt k (newest_base w.device) then w.parts k else content (w.device.logs k).now;
   batch = w.batch;
   acked = w.acked;
@@ -167,7 +184,8 @@ happens w (Submit b) = record w {
   batch = batch_with w.machine.writer b w.batch;
 }
 happens w AskSync = record w { machine = record w.machine { writer = syncing w.machine.writer w.machine.count } }
-happens w AskSwitch = record w { machine = record w.machine { writer = switching w.machine.writer } }
+happens w AskNext = record w { machine = record w.machine { next = asking_next w.machine.writer w.machine.next } }
+happens w AskSwitch = record w { machine = record w.machine { writer = switching w.machine.writer w.machine.next } }
 happens w (AskCheckpoint n past) = record w {
   machine = record w.machine {
     checkpointer = checkpointing w.machine.checkpointer (may_begin w.machine n (min past (length (w.parts n)))) n (min past (length (w.parts n)));
@@ -180,6 +198,10 @@ happens w (Writes outcome) = record {
   batch = w.batch;
   acked = acked_after w.machine.writer (is_done outcome) (first_of w.parts w.machine.log w.machine.count) w.acked;
 }
+happens w (Makes outcome) = record w {
+  device = device_after outcome w.batch w.parts w.device (next_make w.machine.next w.machine.log);
+  machine = told_make w.machine (is_done outcome);
+}
 happens w (Syncs outcome) = record w {
   device = device_after outcome w.batch w.parts w.device (next_sync w.machine.writer w.machine.log);
   machine = told_sync w.machine (is_done outcome);
@@ -189,16 +211,16 @@ happens w (Checkpoints outcome) = record w {
   device = device_after outcome w.batch w.parts w.device (next_checkpoint w.machine.checkpointer);
   machine = told_checkpoint w.machine (is_done outcome);
 }
-happens w (Crash logs bases least top) = opens least top (record w { device = crashed logs bases w.device })
-happens w (Restart least top) = opens least top w
-happens w (Reread keep least top) = opens least top (record w { device = reread keep w })
+happens w (Crash logs bases least top sealed) = opens least top sealed (record w { device = crashed logs bases w.device })
+happens w (Restart least top sealed) = opens least top sealed w
+happens w (Reread keep least top sealed) = opens least top sealed (record w { device = reread keep w })
 
 -- a folder without a file, which is opened
 abbrev pub new_device : Device
 new_device = record { logs = λ k. record { now = None; before = [] }; bases = λ k. record { now = None; before = [] }; copy = empty_file; partial = empty_file; names = first_number }
 
 abbrev pub start : World
-start = record { device = new_device; machine = opened (found new_device first_number first_number) 0; parts = λ k. []; batch = []; acked = [] }
+start = record { device = new_device; machine = opened (found new_device first_number first_number) 0 false; parts = λ k. []; batch = []; acked = [] }
 
 -- events, one after the other
 abbrev pub run : List Event → World → World
@@ -225,9 +247,9 @@ pub record IsReadable (d : Device) : Type 0 where
 -- an event that may happen beside a sync of the log: neither that ends nor the process
 abbrev pub is_beside : Event → Bool
 is_beside (Syncs o) = false
-is_beside (Crash logs bases least top) = false
-is_beside (Restart least top) = false
-is_beside (Reread keep least top) = false
+is_beside (Crash logs bases least top sealed) = false
+is_beside (Restart least top sealed) = false
+is_beside (Reread keep least top sealed) = false
 is_beside e = true
 
 abbrev pub are_beside : List Event → Bool
@@ -239,7 +261,7 @@ are_beside (e ∷ es) = is_beside e && are_beside es
 abbrev pub base_within_a_log : Batch → Batch → Batch → List Event
 base_within_a_log a b c =
     Writes Done ∷ Writes Done ∷
-    Submit a ∷ Writes Done ∷ AskSwitch ∷ Writes Done ∷ Writes Done ∷ Writes Done ∷
+    Submit a ∷ AskNext ∷ Makes Done ∷ Writes Done ∷ Makes Done ∷ AskSwitch ∷ Writes Done ∷
     Submit b ∷ Writes Done ∷ AskSync ∷ Submit c ∷ Writes Done ∷ Syncs Done ∷
-    AskSwitch ∷ Writes Done ∷ Writes Done ∷ Writes Done ∷
+    AskNext ∷ Makes Done ∷ Makes Done ∷ AskSwitch ∷ Writes Done ∷
     AskCheckpoint 2 1 ∷ Checkpoints Done ∷ Checkpoints Done ∷ Checkpoints Done ∷ Checkpoints Done ∷ Checkpoints Done ∷ Checkpoints Done ∷ []

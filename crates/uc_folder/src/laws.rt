@@ -2,7 +2,7 @@
 //! and however often the machine crashed and the process ended before.
 //!
 //! Proof steps: none does anything when it runs. Their contracts speak of definitions alone.
-ghost use Rattle.std.specs.Prelude.{◌≡◌, ◌==◌, ◌≤◌, ℕ, true, List, [], ◌∷◌, ◌++◌, None, Result, Ok};
+ghost use Rattle.std.specs.Prelude.{◌≡◌, ◌==◌, ◌≤◌, ℕ, Bool, true, List, [], ◌∷◌, ◌++◌, None, Result, Ok};
 ghost use Rattle.uc_folder.specs.declared.listing.Base.{Base};
 ghost use Rattle.uc_folder.specs.declared.listing.Listed.{Listed};
 ghost use Rattle.uc_folder.specs.declared.listing.Found.{Found};
@@ -43,8 +43,8 @@ pub fn a_crash_loses_nothing_acknowledged()
         IsPrefixOf (recovered (crashed logs bases (run events start).device)) (submitted (run events start)) }
     ensures acknowledged { (events : List Event) (logs bases : ℕ → Keep) →
         IsPrefixOf (run events start).acked (recovered (crashed logs bases (run events start).device)) }
-    ensures goes_on { (events : List Event) (logs bases : ℕ → Keep) (least top : ℕ) →
-        submitted (happens (run events start) (Crash logs bases least top)) ≡ recovered (crashed logs bases (run events start).device) }
+    ensures goes_on { (events : List Event) (logs bases : ℕ → Keep) (least top : ℕ) (sealed : Bool) →
+        submitted (happens (run events start) (Crash logs bases least top sealed)) ≡ recovered (crashed logs bases (run events start).device) }
     ensures stays { (events later : List Event) → IsPrefixOf (run events start).acked (run (events ++ later) start).acked }
 {}
 
@@ -60,8 +60,8 @@ pub fn a_process_that_ends_loses_nothing_answered()
     ensures prefix { (events : List Event) → IsPrefixOf (recovered (run events start).device) (submitted (run events start)) }
     ensures answered { (events : List Event) → IsPrefixOf (answered (run events start)) (recovered (run events start).device) }
     ensures acknowledged { (events : List Event) → IsPrefixOf (run events start).acked (recovered (run events start).device) }
-    ensures goes_on { (events : List Event) (least top : ℕ) →
-        submitted (happens (run events start) (Restart least top)) ≡ recovered (run events start).device }
+    ensures goes_on { (events : List Event) (least top : ℕ) (sealed : Bool) →
+        submitted (happens (run events start) (Restart least top sealed)) ≡ recovered (run events start).device }
 {}
 
 /// And if of the log that was written only what is on the device can be read, as a system may do after a sync that failed, all that was
@@ -72,8 +72,8 @@ pub fn a_log_read_from_the_device_loses_nothing_acknowledged()
         IsPrefixOf (recovered (reread keep (run events start))) (submitted (run events start)) }
     ensures acknowledged { (events : List Event) (keep : Keep) →
         IsPrefixOf (run events start).acked (recovered (reread keep (run events start))) }
-    ensures goes_on { (events : List Event) (keep : Keep) (least top : ℕ) →
-        submitted (happens (run events start) (Reread keep least top)) ≡ recovered (reread keep (run events start)) }
+    ensures goes_on { (events : List Event) (keep : Keep) (least top : ℕ) (sealed : Bool) →
+        submitted (happens (run events start) (Reread keep least top sealed)) ≡ recovered (reread keep (run events start)) }
 {}
 
 /// An opening that goes by the names which the folder lists isn't refused, and finds the files that the other laws speak of, after a crash

@@ -3,12 +3,15 @@ ghost use Rattle.std.specs.Prelude.{◌≡◌, ◌<◌, ◌^◌};
 ghost use Rattle.uc_folder.specs.Steps.{
   next_write,
   told_write,
+  next_make,
+  told_make,
   next_sync,
   told_sync,
   next_checkpoint,
   told_checkpoint,
   submitting,
   syncing,
+  asking_next,
   switching,
   may_begin,
   checkpointing,
@@ -20,7 +23,7 @@ ghost use Rattle.uc_folder.specs.Steps.{
 
 use crate::action::Action;
 use crate::listing::Found;
-use crate::phases::{Checkpointer, Writer};
+use crate::phases::{Checkpointer, NextLog, Writer};
 
 /// The state of a folder that is open.
 #[derive(Debug, Clone, Copy, PartialEq, Eq)]
@@ -41,14 +44,17 @@ pub struct Machine {
     pub past: u64,
     /// The phase of the writer.
     pub writer: Writer,
+    /// The log after the one that is written.
+    pub next: NextLog,
     /// The phase of the checkpointer.
     pub checkpointer: Checkpointer,
 }
 
 impl Machine {
-    /// The machine of a folder in which an opening found some files, and the number of batches that it read of the log that goes on.
-    pub fn open(found: Found, count: u64) -> Machine
-        ensures { result ≡ opened found count }
+    /// The machine of a folder in which an opening found some files, and the number of batches that it read of the log that goes on. That
+    /// is sealed if all that was read of it is on the device, as a closed log says: then it isn't copied.
+    pub fn open(found: Found, count: u64, is_sealed: bool) -> Machine
+        ensures { result ≡ opened found count is_sealed }
     {
         Machine {
             log: found.log,
@@ -59,24 +65,23 @@ impl Machine {
             tried: found.base,
             past: found.past,
             writer: if found.is_there {
-                Writer::Naming(found.top)
+                Writer::Naming(found.top, is_sealed)
             } else {
                 Writer::Making
             },
+            next: NextLog::Absent,
             checkpointer: Checkpointer::Idle,
         }
     }
 
     /// The writer's next operation.
     pub fn next_write(&self) -> Action
-        requires { self.now.log < 2 ^ 63 }
         ensures { result ≡ next_write self.now.writer self.now.log self.now.count self.now.synced }
     {
         match self.writer {
             Writer::Making => Action::CreateLog(self.log),
-            Writer::Founding | Writer::Naming(_) | Writer::Settling | Writer::Entering =>
-                Action::SyncNames,
-            Writer::Clearing(number, _) => Action::RemoveLog(number),
+            Writer::Founding | Writer::Naming(_, _) | Writer::Settling => Action::SyncNames,
+            Writer::Clearing(number, _, _) => Action::RemoveLog(number),
             Writer::SettingAside => Action::SetAside(self.log),
             Writer::Copying => Action::CopyLog(self.log),
             Writer::SealingCopy => Action::SyncCopy,
@@ -84,8 +89,8 @@ impl Machine {
             Writer::Appending | Writer::Both(_) => Action::Append(self.log, self.synced),
             Writer::Mending => Action::CutLog(self.log, self.count),
             Writer::Closing => Action::SyncLog(self.log, self.count),
-            Writer::Beginning => Action::CreateLog(self.log + 1),
-            Writer::Ready | Writer::Syncing(_) | Writer::Failed => Action::Nothing,
+            Writer::Ready | Writer::Syncing(_) | Writer::Spoiled(_) | Writer::Failed =>
+                Action::Nothing,
         }
     }
 
@@ -98,11 +103,13 @@ impl Machine {
         match (self.writer, is_done) {
             (Writer::Making, true) => self.writer = Writer::Founding,
             (Writer::Founding, true) => self.writer = Writer::Ready,
-            (Writer::Naming(top), true) => {
-                self.writer = clearing_after(self.log, top);
+            (Writer::Naming(top, is_sealed), true) => {
+                self.writer = clearing_after(self.log, top, is_sealed);
                 self.checkpointer = removing_from(self.least, self.base);
             }
-            (Writer::Clearing(number, top), true) => self.writer = clearing_after(number, top),
+            (Writer::Clearing(number, top, is_sealed), true) => {
+                self.writer = clearing_after(number, top, is_sealed);
+            }
             (Writer::SettingAside, true) => self.writer = Writer::Copying,
             (Writer::Copying, true) => self.writer = Writer::SealingCopy,
             (Writer::SealingCopy, true) => self.writer = Writer::Replacing,
@@ -111,7 +118,7 @@ impl Machine {
                 self.writer = Writer::Ready;
                 self.synced = self.count;
             }
-            (Writer::Ready | Writer::Syncing(_), _) => {}
+            (Writer::Ready | Writer::Syncing(_) | Writer::Spoiled(_), _) => {}
             (Writer::Appending, true) => {
                 self.writer = Writer::Ready;
                 self.count += 1;
@@ -122,20 +129,39 @@ impl Machine {
                 self.writer = Writer::Syncing(synced);
                 self.count += 1;
             }
+            (Writer::Both(synced), false) => self.writer = Writer::Spoiled(synced),
             (Writer::Closing, true) => {
-                self.writer = Writer::Beginning;
-                self.synced = self.count;
-            }
-            (Writer::Beginning, true) => self.writer = Writer::Entering,
-            (Writer::Beginning, false) => self.writer = Writer::Ready,
-            (Writer::Entering, true) => {
                 self.writer = Writer::Ready;
                 self.log += 1;
                 self.count = 0;
                 self.synced = 0;
+                self.next = NextLog::Absent;
             }
             _ => self.writer = Writer::Failed,
         }
+    }
+
+    /// The operation by which the next log is made, while batches are appended to this one.
+    pub fn next_make(&self) -> Action
+        requires { self.now.log < 2 ^ 63 }
+        ensures { result ≡ next_make self.now.next self.now.log }
+    {
+        match self.next {
+            NextLog::Creating => Action::CreateLog(self.log + 1),
+            NextLog::Recording => Action::SyncNames,
+            NextLog::Absent | NextLog::Waiting => Action::Nothing,
+        }
+    }
+
+    /// Learns how that went. If it wasn't done, the next log may be asked for again.
+    pub fn told_make(&mut self, is_done: bool)
+        ensures { self.new ≡ told_make self.old is_done }
+    {
+        self.next = match (self.next, is_done) {
+            (NextLog::Creating, true) => NextLog::Recording,
+            (NextLog::Recording, true) | (NextLog::Waiting, _) => NextLog::Waiting,
+            _ => NextLog::Absent,
+        };
     }
 
     /// The sync of the log that is under way. A batch may be appended beside it.
@@ -143,7 +169,8 @@ impl Machine {
         ensures { result ≡ next_sync self.now.writer self.now.log }
     {
         match self.writer {
-            Writer::Syncing(count) | Writer::Both(count) => Action::SyncLog(self.log, count),
+            Writer::Syncing(count) | Writer::Both(count) | Writer::Spoiled(count) =>
+                Action::SyncLog(self.log, count),
             _ => Action::Nothing,
         }
     }
@@ -161,7 +188,13 @@ impl Machine {
                 self.writer = Writer::Appending;
                 self.synced = count;
             }
-            (Writer::Syncing(_) | Writer::Both(_), false) => self.writer = Writer::Failed,
+            (Writer::Spoiled(count), true) => {
+                self.writer = Writer::Mending;
+                self.synced = count;
+            }
+            (Writer::Syncing(_) | Writer::Both(_) | Writer::Spoiled(_), false) => {
+                self.writer = Writer::Failed;
+            }
             _ => {}
         }
     }
@@ -239,11 +272,21 @@ impl Machine {
         }
     }
 
-    /// The next log is to go on. Nothing changes unless the writer is ready.
-    pub fn ask_switch(&mut self)
-        ensures { self.new ≡ record self.old { writer = switching self.old.writer } }
+    /// The next log is to be made. Nothing changes unless the folder is open, and none is made.
+    pub fn ask_next(&mut self)
+        ensures { self.new ≡ record self.old { next = asking_next self.old.writer self.old.next } }
     {
-        if let Writer::Ready = self.writer {
+        let is_open = self.is_open();
+        if let (NextLog::Absent, true) = (self.next, is_open) {
+            self.next = NextLog::Creating;
+        }
+    }
+
+    /// The next log is to go on. Nothing changes unless it is there and the writer is ready.
+    pub fn ask_switch(&mut self)
+        ensures { self.new ≡ record self.old { writer = switching self.old.writer self.old.next } }
+    {
+        if let (Writer::Ready, NextLog::Waiting) = (self.writer, self.next) {
             self.writer = Writer::Closing;
         }
     }
@@ -276,11 +319,13 @@ impl Machine {
 }
 
 /// The writer's phase after the name of a number was removed, or none was, where others may follow up to another number.
-fn clearing_after(number: u64, top: u64) -> Writer
-    ensures { result ≡ clearing_after number top }
+fn clearing_after(number: u64, top: u64, is_sealed: bool) -> Writer
+    ensures { result ≡ clearing_after number top is_sealed }
 {
     if number < top {
-        Writer::Clearing(number + 1, top)
+        Writer::Clearing(number + 1, top, is_sealed)
+    } else if is_sealed {
+        Writer::Settling
     } else {
         Writer::SettingAside
     }

@@ -1,4 +1,4 @@
-//! [`Writer`] and [`Checkpointer`]: the two that work on a folder.
+//! [`Writer`], [`NextLog`] and [`Checkpointer`]: the three that work on a folder.
 
 /// The phase of the writer. Up to [`Writer::Settling`] it is of an opening.
 #[derive(Debug, Clone, Copy, PartialEq, Eq)]
@@ -7,10 +7,11 @@ pub enum Writer {
     Making,
     /// Its name is synced.
     Founding,
-    /// The names that were read are synced. The number is the greatest of a log.
-    Naming(u64),
+    /// The names that were read are synced. The number is the greatest of a log, and the log that goes on may be sealed: then it needs
+    /// no copy.
+    Naming(u64, bool),
     /// The log of a number is removed, which has no batch. Those after it follow, up to another number.
-    Clearing(u64, u64),
+    Clearing(u64, u64, bool),
     /// The bytes that the log has after its batches are set aside.
     SettingAside,
     /// Its batches are written to a new file.
@@ -31,14 +32,25 @@ pub enum Writer {
     Syncing(u64),
     /// Both: a batch is appended beside a sync up to a number of records.
     Both(u64),
-    /// The log is synced, and no record follows.
+    /// An append has failed beside such a sync. What it left is cut off once the sync is done.
+    Spoiled(u64),
+    /// The log is synced, and no record follows. Then the next one goes on.
     Closing,
-    /// The next log is made.
-    Beginning,
-    /// Its name is synced.
-    Entering,
     /// Nothing any more: what the log holds isn't known. The folder has to be opened again.
     Failed,
+}
+
+/// The state of the log after the present one. Batches are appended meanwhile.
+#[derive(Debug, Clone, Copy, PartialEq, Eq)]
+pub enum NextLog {
+    /// There is none.
+    Absent,
+    /// It is made.
+    Creating,
+    /// Its name is synced.
+    Recording,
+    /// It is there, and may go on.
+    Waiting,
 }
 
 /// The phase of the checkpointer.

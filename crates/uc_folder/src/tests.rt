@@ -25,7 +25,18 @@ fn checkpointed(machine: &mut Machine) -> Action {
     action
 }
 
-/// A batch is appended beside a sync of the one before it, in a new folder. Then the next log goes on.
+/// The operation by which the next log is made, which is done.
+fn next_made(machine: &mut Machine) -> Action {
+    if machine.log > 9 {
+        return Action::Nothing;
+    }
+    let action = machine.next_make();
+    machine.told_make(true);
+    action
+}
+
+/// A batch is appended beside a sync of the one before it, in a new folder, and another one while the next log is made. Then that goes
+/// on.
 fn grow(machine: &mut Machine) -> [Action; 8] {
     let made = written(machine);
     let named = written(machine);
@@ -33,17 +44,20 @@ fn grow(machine: &mut Machine) -> [Action; 8] {
     let first = written(machine);
     machine.ask_sync();
     machine.submit();
+    machine.ask_next();
     let done = synced(machine);
+    let next = next_made(machine);
     let second = written(machine);
+    let recorded = next_made(machine);
     machine.ask_switch();
     [
         made,
         named,
         first,
         done,
+        next,
         second,
-        written(machine),
-        written(machine),
+        recorded,
         written(machine),
     ]
 }
@@ -76,7 +90,7 @@ fn empty() -> Found {
 
 #[test]
 fn a_log_grows_and_a_base_lets_it_go(rt: HostRuntime) {
-    let mut machine = Machine::open(empty(), 0);
+    let mut machine = Machine::open(empty(), 0, false);
     let grown = grow(&mut machine);
     assert_eq!(rt;
         grown,
@@ -85,10 +99,10 @@ fn a_log_grows_and_a_base_lets_it_go(rt: HostRuntime) {
             Action::SyncNames,
             Action::Append(1, 0),
             Action::SyncLog(1, 1),
-            Action::Append(1, 1),
-            Action::SyncLog(1, 2),
             Action::CreateLog(2),
+            Action::Append(1, 1),
             Action::SyncNames,
+            Action::SyncLog(1, 2),
         ]
     );
     let shrunk = shrink(&mut machine);
@@ -102,6 +116,56 @@ fn a_log_grows_and_a_base_lets_it_go(rt: HostRuntime) {
             Action::RemoveLog(1),
             Action::RemoveBase(1),
             Action::Nothing,
+        ]
+    );
+    assert!(rt; machine.is_open());
+}
+
+/// An append fails beside a sync, and what it left is cut off once that is done.
+fn spoil(machine: &mut Machine) -> [Action; 4] {
+    machine.submit();
+    machine.ask_sync();
+    let append = refused(machine);
+    let wait = written(machine);
+    let sync = synced(machine);
+    [append, wait, sync, written(machine)]
+}
+
+/// The writer's next operation, which isn't done.
+fn refused(machine: &mut Machine) -> Action {
+    if machine.log > 9 || machine.count > 9 {
+        return Action::Nothing;
+    }
+    let action = machine.next_write();
+    machine.told_write(false);
+    action
+}
+
+#[test]
+fn a_sealed_log_is_not_copied_and_a_spoiled_one_is_mended(rt: HostRuntime) {
+    let found = Found {
+        top: 2,
+        is_there: true,
+        ..empty()
+    };
+    let mut machine = Machine::open(found, 5, true);
+    let opened = [
+        written(&mut machine),
+        written(&mut machine),
+        written(&mut machine),
+    ];
+    assert_eq!(rt;
+        opened,
+        [Action::SyncNames, Action::RemoveLog(2), Action::SyncNames]
+    );
+    let spoiled = spoil(&mut machine);
+    assert_eq!(rt;
+        spoiled,
+        [
+            Action::Append(1, 5),
+            Action::Nothing,
+            Action::SyncLog(1, 5),
+            Action::CutLog(1, 5),
         ]
     );
     assert!(rt; machine.is_open());

@@ -20,22 +20,48 @@ struct Extent {
     last: u64,
 }
 
-/// Writes a base with the rows of a view, for which the log of a number goes on. It ends at the view's last sequence, which its name
-/// has too. Returns how many bytes it has. It has its name once all is on the device, and was read again. A check before each piece
-/// may end it. If it isn't written, the device has nothing of it.
-pub(crate) fn write(
-    folder: &dyn Folder,
+/// A base that is being written. If it isn't named, the device has nothing of it.
+pub(crate) struct Base<'a> {
+    folder: &'a dyn Folder,
     number: u64,
-    view: &View,
-    check: impl Fn() -> Result<(), Error>,
-) -> Result<u64, Error> {
-    let mut file = Partial::create(folder, Name::Partial(number).text())?;
-    let written = write_rows(&mut file, view, &check)?;
-    file.sync()?;
-    verify(folder, number, written, &check)?;
-    file.rename(&Name::Base(number, Some(written.last)).text())?;
-    folder.sync().map_err(Error::of_file(""))?;
-    Ok(written.length)
+    file: Partial<'a>,
+    written: Extent,
+}
+
+impl<'a> Base<'a> {
+    /// Writes the rows of a view, for which the log of a number goes on, under a temporary name. A check before each piece may end it.
+    pub(crate) fn write(
+        folder: &'a dyn Folder,
+        number: u64,
+        view: &View,
+        check: &impl Fn() -> Result<(), Error>,
+    ) -> Result<Base<'a>, Error> {
+        let mut file = Partial::create(folder, Name::Partial(number).text())?;
+        let written = write_rows(&mut file, view, check)?;
+        Ok(Base {
+            folder,
+            number,
+            file,
+            written,
+        })
+    }
+
+    /// Waits until all of it is on the device, and reads it again.
+    pub(crate) fn sync(&mut self, check: &impl Fn() -> Result<(), Error>) -> Result<(), Error> {
+        self.file.sync()?;
+        verify(self.folder, self.number, self.written, check)
+    }
+
+    /// Its size in bytes.
+    pub(crate) fn length(&self) -> u64 {
+        self.written.length
+    }
+
+    /// Gives it its name, which has the view's last sequence.
+    pub(crate) fn rename(self) -> Result<(), Error> {
+        let name = Name::Base(self.number, Some(self.written.last));
+        self.file.rename(&name.text())
+    }
 }
 
 /// Writes the rows of a view, and its last sequence.

@@ -1,6 +1,6 @@
 //! Checkpoints, which let logs go.
 
-use crate::base_file;
+use crate::base_file::Base;
 use crate::error::Error;
 use crate::event::Event;
 use crate::folder::{File, Folder};
@@ -12,7 +12,7 @@ use std::sync::atomic::Ordering;
 use std::sync::{Arc, MutexGuard};
 use std::thread;
 use std::time::Instant;
-use ucstore::View;
+use ucstore::{FolderAction, View};
 
 /// From how many bytes on a log is synced again before it is locked for that, and how often at most.
 const FEW_BYTES: u64 = 64 << 10;
@@ -65,26 +65,67 @@ impl Shared {
             .log_bytes()
             .saturating_add(self.options.checkpoint_least);
         self.checkpoint_due.store(due, Ordering::Relaxed);
-        let (number, last) = (begun.number, begun.view.last());
+        self.write_base(&begun, begun_at)
+    }
+
+    /// Does what the machine asks for until a checkpoint is there, and what it has is removed elsewhere.
+    fn write_base(&self, begun: &Begun, begun_at: Instant) -> Result<(), Error> {
+        let (folder, last) = (&*begun.folder, begun.view.last());
         let check = || match self.is_closing.load(Ordering::Acquire) {
             true => Err(Error::Closed),
             false => Ok(()),
         };
-        let bytes = base_file::write(&*begun.folder, number, &begun.view, check)?;
-        if let Some(log) = &mut *lock(&self.log) {
-            log.forget_before(number, last);
+        let name = Name::Base(begun.number, Some(last));
+        let (mut base, mut bytes, mut removal, mut is_there) = (None, 0, None, false);
+        loop {
+            let action = self.with_log(|log| log.next_checkpoint())?;
+            let outcome = match action {
+                FolderAction::WriteBase(number, _) => {
+                    Base::write(folder, number, &begun.view, &check).map(|written| {
+                        bytes = written.length();
+                        base = Some(written);
+                    })
+                }
+                FolderAction::SyncBase => base.as_mut().map_or(Ok(()), |base| base.sync(&check)),
+                FolderAction::NameBase(..) => base.take().map_or(Ok(()), Base::rename),
+                FolderAction::SyncNames => folder.sync().map_err(Error::of_file("")),
+                FolderAction::RemoveLog(number) => {
+                    remove(folder, &mut removal, |it| it == Name::Log(number))
+                }
+                FolderAction::RemoveBase(number) => remove(
+                    folder,
+                    &mut removal,
+                    |it| matches!(it, Name::Base(it, _) if it == number),
+                ),
+                _ => break,
+            };
+            self.with_log(|log| log.told_checkpoint(outcome.is_ok()))?;
+            outcome?;
+            if action == FolderAction::SyncNames {
+                is_there = true;
+                self.with_log(|log| log.forget_before(begun.number, last))?;
+                self.checkpoint_due
+                    .store(self.options.checkpoint_least, Ordering::Relaxed);
+                self.counts.checkpoints.add(1);
+                self.counts.base_bytes.add(bytes);
+                self.events.push(Event::Checkpointed {
+                    file: name.text(),
+                    bytes,
+                    took: begun_at.elapsed(),
+                });
+            }
         }
-        self.checkpoint_due
-            .store(self.options.checkpoint_least, Ordering::Relaxed);
-        self.counts.checkpoints.add(1);
-        self.counts.base_bytes.add(bytes);
-        let name = Name::Base(number, Some(last));
-        self.events.push(Event::Checkpointed {
-            file: name.text(),
-            bytes,
-            took: begun_at.elapsed(),
-        });
-        remove_before(&*begun.folder, number, name)
+        // Files with temporary names, and bases of the same number that have less.
+        remove(folder, &mut removal, |it| match it {
+            Name::Partial(number) => is_there && number < begun.number,
+            Name::Base(..) => is_there && it < name,
+            _ => false,
+        })
+    }
+
+    /// Does something with the log, unless the database is closed.
+    fn with_log<T>(&self, work: impl FnOnce(&mut Log) -> T) -> Result<T, Error> {
+        lock(&self.log).as_mut().map(work).ok_or(Error::Closed)
     }
 
     /// Goes on in a new log, and takes a view of what was logged before.
@@ -93,10 +134,12 @@ impl Shared {
         let Some(log) = &mut *log else {
             return Ok(None);
         };
+        let view = lock(&self.store).view()?;
+        log.ask_checkpoint(log.number(), 0);
         Ok(Some(Begun {
             folder: Arc::clone(&log.folder),
-            number: log.number,
-            view: lock(&self.store).view()?,
+            number: log.number(),
+            view,
         }))
     }
 
@@ -104,18 +147,20 @@ impl Shared {
     /// all of the view.
     fn begin_checkpoint_to(&self, view: &View) -> Result<Option<Begun>, Error> {
         let last = view.last();
-        let is_needed = |log: &Log| log.number_behind(last).is_some() && log.before < last;
-        let log = self.switch_if(is_needed)?;
-        let Some(log) = &*log else {
+        let is_needed = |log: &Log| log.place_behind(last).is_some() && log.before < last;
+        let mut log = self.switch_if(is_needed)?;
+        let Some(log) = &mut *log else {
             return Ok(None);
         };
-        let Some(number) = log.number_behind(last) else {
+        let Some((number, past)) = log.place_behind(last) else {
             return Ok(None);
         };
+        let view = view.again()?;
+        log.ask_checkpoint(number, past);
         Ok(Some(Begun {
             folder: Arc::clone(&log.folder),
             number,
-            view: view.again()?,
+            view,
         }))
     }
 
@@ -137,15 +182,16 @@ impl Shared {
         let _switching = lock(&self.switching);
         let mut guard = lock(&self.log);
         self.check()?;
-        let (folder, number) = match &mut *guard {
+        let folder = match &mut *guard {
             Some(log) if is_needed(log) => {
                 log.get_ready()?;
-                (Arc::clone(&log.folder), log.number + 1)
+                log.ask_next();
+                Arc::clone(&log.folder)
             }
             _ => return Ok(guard),
         };
         drop(guard);
-        let next = create_log(&*folder, number)?;
+        let next = self.make_next(&*folder)?;
         let mut guard = self.sync_most()?;
         if let Some(log) = &mut *guard {
             let last = lock(&self.store).last();
@@ -153,6 +199,30 @@ impl Shared {
                 .map_err(|refusal| self.refuse(refusal))?;
         }
         Ok(guard)
+    }
+
+    /// Makes the file of the next log, whose name is on the device then. The log isn't locked meanwhile.
+    fn make_next(&self, folder: &dyn Folder) -> Result<Box<dyn File>, Error> {
+        let name = self.with_log(|log| Name::Log(log.number() + 1).text())?;
+        let mut made = None;
+        loop {
+            let outcome = match self.with_log(|log| log.next_make())? {
+                FolderAction::CreateLog(_) => folder
+                    .create(&name)
+                    .map(|file| made = Some(file))
+                    .map_err(Error::of_file(&name)),
+                FolderAction::SyncNames => folder.sync().map_err(Error::of_file("")),
+                // It was made before, and the log couldn't go on in it.
+                _ => {
+                    return match made {
+                        Some(file) => Ok(file),
+                        None => folder.open(&name).map_err(Error::of_file(&name)),
+                    };
+                }
+            };
+            self.with_log(|log| log.told_make(outcome.is_ok()))?;
+            outcome?;
+        }
     }
 
     /// Syncs the log until few bytes are left, which came meanwhile. Returns it locked.
@@ -213,28 +283,23 @@ impl Shared {
     }
 }
 
-/// Makes the file of a log, whose name is on the device then. If that fails there is none, as far as that can be done.
-fn create_log(folder: &dyn Folder, number: u64) -> Result<Box<dyn File>, Error> {
-    let name = Name::Log(number).text();
-    let file = folder.create(&name).map_err(Error::of_file(&name))?;
-    if let Err(error) = folder.sync() {
-        let _ = folder.remove(&name);
-        return Err(Error::of_file("")(error));
-    }
-    Ok(file)
-}
-
-/// Removes the logs before a number, and bases before one.
-fn remove_before(folder: &dyn Folder, number: u64, base: Name) -> Result<(), Error> {
-    for text in folder.names().map_err(Error::of_file(""))? {
-        let is_older = match Name::of(&text) {
-            Some(Name::Log(it) | Name::Partial(it)) => it < number,
-            Some(other @ Name::Base(..)) => other < base,
-            _ => false,
-        };
-        if is_older {
-            folder.remove(&text).map_err(Error::of_file(&text))?;
+/// Removes files that are listed. The names are read once.
+fn remove(
+    folder: &dyn Folder,
+    listed: &mut Option<Vec<Name>>,
+    is_asked: impl Fn(Name) -> bool,
+) -> Result<(), Error> {
+    let names = match listed {
+        Some(names) => names,
+        None => {
+            let texts = folder.names().map_err(Error::of_file(""))?;
+            listed.insert(texts.iter().filter_map(|text| Name::of(text)).collect())
         }
+    };
+    while let Some(place) = names.iter().position(|name| is_asked(*name)) {
+        let text = names[place].text();
+        folder.remove(&text).map_err(Error::of_file(&text))?;
+        names.swap_remove(place);
     }
     Ok(())
 }

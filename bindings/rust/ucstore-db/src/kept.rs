@@ -15,17 +15,19 @@ pub(crate) struct SetAside {
     pub(crate) bytes: u64,
 }
 
-/// Writes the first bytes of a log to a new file, which is on the device then and takes its place.
-pub(crate) fn renew(folder: &dyn Folder, number: u64, length: u64) -> Result<(), Error> {
-    let name = Name::Log(number);
-    let mut windows = Windows::of(folder, name)?;
-    if windows.length() == 0 {
-        return Ok(());
-    }
+/// Writes the first bytes of a log to a new file.
+pub(crate) fn copy_of(folder: &dyn Folder, number: u64, length: u64) -> Result<Partial<'_>, Error> {
+    let mut windows = Windows::of(folder, Name::Log(number))?;
     let mut copy = Partial::create(folder, Name::NewLog(number).text())?;
     append_part(&mut copy, &mut windows, 0, length)?;
+    Ok(copy)
+}
+
+/// Writes the first bytes of a log to a new file, which is on the device then and takes its place.
+pub(crate) fn renew(folder: &dyn Folder, number: u64, length: u64) -> Result<(), Error> {
+    let mut copy = copy_of(folder, number, length)?;
     copy.sync()?;
-    copy.rename(&name.text())?;
+    copy.rename(&Name::Log(number).text())?;
     folder.sync().map_err(Error::of_file(""))
 }
 

@@ -5,31 +5,35 @@ use crate::ending::Ending;
 use crate::error::Error;
 use crate::folder::{File, Folder};
 use crate::kept::SetAside;
-use crate::lock;
 use crate::mark;
 use crate::name::Name;
 use crate::unready::Unready;
 use std::io;
 use std::panic::{catch_unwind, AssertUnwindSafe};
 use std::sync::{Arc, Mutex};
-use std::time::{Duration, Instant};
+use std::time::Instant;
+use ucstore::{FolderAction, FolderMachine};
 
 /// A handle by which a log is synced while another one appends to it.
-type SyncHandle = Arc<Mutex<Box<dyn File>>>;
+pub(crate) type SyncHandle = Arc<Mutex<Box<dyn File>>>;
 
-/// The log that a database writes, and the folder that it is in.
+/// The log that a database writes, and the folder that it is in. Its machine says what is done next, and what may be acknowledged.
 pub(crate) struct Log {
     pub(crate) folder: Arc<dyn Folder>,
+    machine: FolderMachine,
     writer: Writer,
     /// There is one once it was needed.
     sync_handle: Option<SyncHandle>,
-    pub(crate) number: u64,
     /// The sequence before its first one.
     pub(crate) before: u64,
     /// Its size in bytes.
     pub(crate) length: u64,
-    /// The number of them that are on the device for certain.
+    /// The number of them that are on the device for certain: those of the batches that the machine counts as synced.
     synced: u64,
+    /// The number of bytes when the sync was asked for that is under way.
+    asked: u64,
+    /// The number of syncs that the machine was told of.
+    told: u64,
     /// Whether a closing record stands after them, which goes before the next one is written.
     is_closed: bool,
     /// Whether another log says what was acknowledged. Then a close writes nothing: who was taken for dead may be closed late.
@@ -46,6 +50,8 @@ pub(crate) struct Older {
     pub(crate) number: u64,
     /// The sequence before its first one.
     pub(crate) before: u64,
+    /// The number of its batches.
+    pub(crate) batches: u64,
     /// Its size in bytes.
     pub(crate) length: u64,
 }
@@ -65,21 +71,12 @@ pub(crate) enum Refusal {
     Lasts(Error),
 }
 
-/// A sync that needs no lock of the log.
+/// A sync of a log that is under way in a thread that doesn't lock it.
 pub(crate) struct SyncApart {
-    handle: SyncHandle,
-    /// The log, and the bytes that it had when this was begun.
+    begun: Instant,
     number: u64,
-    length: u64,
-}
-
-/// The work that is left to have a log on the device.
-pub(crate) enum Syncing {
-    Nothing,
-    /// While it is written to.
-    Apart(SyncApart),
-    /// While it is locked: no second handle can be had.
-    Here,
+    /// The number of syncs that the machine was told of before.
+    told: u64,
 }
 
 impl Log {
@@ -95,21 +92,28 @@ impl Log {
     ) -> Log {
         let log = Log {
             folder,
+            machine: unready.machine(),
             is_closed: unready.ending == Ending::Closed,
             is_part,
             writer: Writer::Unready(unready),
             sync_handle: None,
-            number: last.number,
             before: last.before,
             length: last.length,
             // All is written anew before something is appended, unless it is on the device.
             synced: last.length,
+            asked: last.length,
+            told: 0,
             older,
             based,
             counts: Arc::clone(counts),
         };
         log.count_bytes();
         log
+    }
+
+    /// Its number.
+    pub(crate) fn number(&self) -> u64 {
+        self.machine.log()
     }
 
     /// Counts the bytes of the logs for those who ask without the lock.
@@ -122,8 +126,10 @@ impl Log {
         let Writer::Unready(unready) = &self.writer else {
             return Ok(None);
         };
-        let set_aside = unready.get_ready(&*self.folder)?;
-        let name = Name::Log(self.number).text();
+        // What failed before begins again.
+        self.machine = unready.machine();
+        let set_aside = unready.get_ready(&*self.folder, &mut self.machine)?;
+        let name = Name::Log(self.number()).text();
         let file = self.folder.open(&name).map_err(Error::of_file(&name))?;
         self.writer = Writer::Ready(file);
         Ok(set_aside)
@@ -148,39 +154,96 @@ impl Log {
 
     /// Waits until all bytes are on the device.
     pub(crate) fn sync(&mut self) -> Result<(), Error> {
-        if self.synced < self.length {
-            let begun = Instant::now();
-            self.ask(|file| file.sync())?;
-            self.counts.add_sync(begun.elapsed());
-            self.synced = self.length;
+        while !self.is_synced() {
+            if !self.is_syncing() {
+                self.ask_sync();
+            }
+            if !self.is_syncing() {
+                return Err(self.failed());
+            }
+            self.finish_sync()?;
         }
         Ok(())
     }
 
-    /// Begins a sync of all bytes, which needs the log no more.
-    pub(crate) fn begin_sync(&mut self) -> Syncing {
-        if self.synced == self.length {
-            return Syncing::Nothing;
-        }
-        if self.sync_handle.is_none() {
-            let opened = self.folder.open(&Name::Log(self.number).text());
-            self.sync_handle = opened.ok().map(|file| Arc::new(Mutex::new(file)));
-        }
-        match &self.sync_handle {
-            Some(handle) => Syncing::Apart(SyncApart {
-                handle: Arc::clone(handle),
-                number: self.number,
-                length: self.length,
-            }),
-            None => Syncing::Here,
-        }
+    /// Whether all of its batches may be acknowledged as synced. What an opening has read is answered as it was.
+    fn is_synced(&self) -> bool {
+        matches!(self.writer, Writer::Unready(_)) || self.machine.synced() == self.machine.count()
     }
 
-    /// Notes that a sync is done that was begun before.
-    pub(crate) fn note_synced(&mut self, done: &SyncApart, took: Duration) {
-        self.counts.add_sync(took);
-        if done.number == self.number {
-            self.synced = self.synced.max(done.length);
+    /// Whether a sync is under way.
+    fn is_syncing(&self) -> bool {
+        self.machine.next_sync() != FolderAction::Nothing
+    }
+
+    /// The error that the machine does nothing any more.
+    fn failed(&self) -> Error {
+        refusal(self.number())(io::Error::other("an operation failed before"))
+    }
+
+    /// Asks the machine for a sync of all bytes.
+    fn ask_sync(&mut self) {
+        self.machine.ask_sync();
+        self.asked = self.length;
+    }
+
+    /// Does the sync that is under way, if there is one, and tells the machine.
+    fn finish_sync(&mut self) -> Result<(), Error> {
+        if !self.is_syncing() {
+            return Ok(());
+        }
+        let begun = Instant::now();
+        let outcome = self.ask(|file| file.sync());
+        self.tell_sync(begun, outcome)
+    }
+
+    /// Tells the machine how a sync went.
+    fn tell_sync(&mut self, begun: Instant, outcome: Result<(), Error>) -> Result<(), Error> {
+        self.machine.told_sync(outcome.is_ok());
+        self.told += 1;
+        outcome?;
+        self.counts.add_sync(begun.elapsed());
+        self.synced = self.asked;
+        Ok(())
+    }
+
+    /// A handle of the log by which it is synced while it is appended to, if there is something to sync, and one can be had.
+    pub(crate) fn sync_handle(&mut self) -> Option<SyncHandle> {
+        if self.is_synced() {
+            return None;
+        }
+        if self.sync_handle.is_none() {
+            let opened = self.folder.open(&Name::Log(self.number()).text());
+            self.sync_handle = opened.ok().map(|file| Arc::new(Mutex::new(file)));
+        }
+        self.sync_handle.clone()
+    }
+
+    /// Begins a sync of all bytes by a handle, which needs the log no more. There is none if the handle is of an older log, or nothing is
+    /// left to sync.
+    pub(crate) fn begin_sync(&mut self, handle: &SyncHandle) -> Option<SyncApart> {
+        let own = self.sync_handle.as_ref();
+        if self.is_synced() || !own.is_some_and(|own| Arc::ptr_eq(own, handle)) {
+            return None;
+        }
+        self.ask_sync();
+        self.is_syncing().then(|| SyncApart {
+            begun: Instant::now(),
+            number: self.number(),
+            told: self.told,
+        })
+    }
+
+    /// Notes how a sync went that was begun before. Another thread may have done it meanwhile.
+    pub(crate) fn end_sync(
+        &mut self,
+        apart: &SyncApart,
+        outcome: io::Result<()>,
+    ) -> Result<(), Error> {
+        let outcome = outcome.map_err(refusal(apart.number));
+        match apart.told == self.told {
+            true => self.tell_sync(apart.begun, outcome),
+            false => outcome,
         }
     }
 
@@ -198,12 +261,12 @@ impl Log {
             return Ok(());
         }
         let length = self.length;
-        match self.append_whole(&mark::closing_record(length, last)?) {
-            Ok(()) => self.sync()?,
+        let record = mark::closing_record(length, last)?;
+        if self.ask(|file| file.append(&record)).is_err() {
             // All that was acknowledged is there without it, as on a full device.
-            Err(Refusal::Passes(_)) => return Ok(()),
-            Err(Refusal::Lasts(error)) => return Err(error),
+            return self.ask(|file| file.cut(length).and_then(|()| file.sync()));
         }
+        self.ask(|file| file.sync())?;
         self.is_closed = true;
         Ok(())
     }
@@ -214,12 +277,17 @@ impl Log {
         older + self.length
     }
 
-    /// The number of the log that goes on after a sequence, if that isn't in a base.
-    pub(crate) fn number_behind(&self, sequence: u64) -> Option<u64> {
+    /// The place of a base that goes up to a sequence, if none does: the number of the log that goes on after it, and a number in the order
+    /// of the batches that it has of that.
+    pub(crate) fn place_behind(&self, sequence: u64) -> Option<(u64, u64)> {
         let older = self.older.iter().map(|log| (log.number, log.before));
-        let mut all = older.chain([(self.number, self.before)]);
-        let found = all.rfind(|(_, before)| *before <= sequence)?;
-        (self.based < sequence).then_some(found.0)
+        let mut all = older.chain([(self.number(), self.before)]);
+        let (number, before) = all.rfind(|(_, before)| *before <= sequence)?;
+        let past = match before == sequence {
+            true => 0,
+            false => sequence + 1,
+        };
+        (self.based < sequence).then_some((number, past))
     }
 
     /// Forgets the logs before one, which a base holds up to a sequence.
@@ -229,23 +297,67 @@ impl Log {
         self.count_bytes();
     }
 
+    /// Asks for the next log.
+    pub(crate) fn ask_next(&mut self) {
+        self.machine.ask_next();
+    }
+
+    /// The operation by which the next log is made.
+    pub(crate) fn next_make(&self) -> FolderAction {
+        self.machine.next_make()
+    }
+
+    /// Tells whether that was done.
+    pub(crate) fn told_make(&mut self, is_done: bool) {
+        self.machine.told_make(is_done);
+    }
+
+    /// Asks for a base at a place.
+    pub(crate) fn ask_checkpoint(&mut self, number: u64, past: u64) {
+        self.machine.ask_checkpoint(number, past);
+    }
+
+    /// The next operation of a checkpoint.
+    pub(crate) fn next_checkpoint(&self) -> FolderAction {
+        self.machine.next_checkpoint()
+    }
+
+    /// Tells whether that was done.
+    pub(crate) fn told_checkpoint(&mut self, is_done: bool) {
+        self.machine.told_checkpoint(is_done);
+    }
+
     /// Goes on in the next log after a sequence, whose name is on the device, once all bytes of this one are.
     pub(crate) fn switch(&mut self, next: Box<dyn File>, last: u64) -> Result<(), Refusal> {
         // A closing record that its process didn't sync may be torn by a crash, and an older log has to be whole.
         self.reopen()?;
-        self.sync().map_err(Refusal::Lasts)?;
+        self.finish_sync().map_err(Refusal::Lasts)?;
+        let ended = Older {
+            number: self.number(),
+            before: self.before,
+            batches: self.machine.count(),
+            length: self.length,
+        };
+        self.machine.ask_switch();
+        let FolderAction::SyncLog(..) = self.machine.next_write() else {
+            return Err(Refusal::Passes(self.failed()));
+        };
+        // One that changes nothing is left out.
+        if self.machine.synced() < self.machine.count() {
+            let begun = Instant::now();
+            let outcome = self.ask(|file| file.sync());
+            self.machine.told_write(outcome.is_ok());
+            outcome.map_err(Refusal::Lasts)?;
+            self.counts.add_sync(begun.elapsed());
+        } else {
+            self.machine.told_write(true);
+        }
         self.writer = Writer::Ready(next);
         self.sync_handle = None;
-        self.older.push(Older {
-            number: self.number,
-            before: self.before,
-            length: self.length,
-        });
-        self.number += 1;
+        self.told += 1;
+        self.older.push(ended);
         self.before = last;
-        self.length = 0;
-        self.synced = 0;
-        self.is_closed = false;
+        (self.length, self.synced, self.asked) = (0, 0, 0);
         Ok(())
     }
 
@@ -263,24 +375,41 @@ impl Log {
     /// Appends a record, or nothing: what a failure leaves of it is cut off.
     fn append_whole(&mut self, record: &[u8]) -> Result<(), Refusal> {
         let length = self.length;
-        if let Err(error) = self.ask(|file| file.append(record)) {
-            let cut = self.ask(|file| file.cut(length).and_then(|()| file.sync()));
-            return Err(match cut {
-                Ok(()) => {
-                    self.synced = length;
-                    Refusal::Passes(error)
+        self.machine.submit();
+        let (mut refused, mut is_mended) = (None, false);
+        loop {
+            match self.machine.next_write() {
+                FolderAction::Append(..) => {
+                    let outcome = self.ask(|file| file.append(record));
+                    self.machine.told_write(outcome.is_ok());
+                    match outcome {
+                        Ok(()) => self.length += record.len() as u64,
+                        Err(error) => refused = Some(error),
+                    }
                 }
-                Err(_) => Refusal::Lasts(error),
-            });
+                FolderAction::CutLog(..) => {
+                    let outcome = self.ask(|file| file.cut(length).and_then(|()| file.sync()));
+                    is_mended = outcome.is_ok();
+                    self.machine.told_write(is_mended);
+                }
+                // It is cut off once the sync beside it is done.
+                _ if refused.is_some() && self.is_syncing() => {
+                    let _ = self.finish_sync();
+                }
+                _ => break,
+            }
         }
-        self.length += record.len() as u64;
         self.count_bytes();
-        Ok(())
+        match refused {
+            None => Ok(()),
+            Some(error) if is_mended => Err(Refusal::Passes(error)),
+            Some(error) => Err(Refusal::Lasts(error)),
+        }
     }
 
     /// Asks the log's file for something.
     fn ask(&mut self, work: impl FnOnce(&mut dyn File) -> io::Result<()>) -> Result<(), Error> {
-        let number = self.number;
+        let number = self.number();
         match &mut self.writer {
             Writer::Ready(file) => ask_device(|| work(&mut **file)).map_err(refusal(number)),
             Writer::Unready(_) => Ok(()),
@@ -288,14 +417,9 @@ impl Log {
     }
 }
 
-impl SyncApart {
-    /// Waits until the bytes are on the device. Returns how long it took.
-    pub(crate) fn run(&self) -> Result<Duration, Error> {
-        let begun = Instant::now();
-        let mut file = lock(&self.handle);
-        ask_device(|| file.sync()).map_err(refusal(self.number))?;
-        Ok(begun.elapsed())
-    }
+/// Waits until the bytes of a log are on the device.
+pub(crate) fn sync_apart(file: &mut dyn File) -> io::Result<()> {
+    ask_device(|| file.sync())
 }
 
 /// The error of a log's file. Its name isn't needed before.

@@ -47,7 +47,8 @@ pub(crate) struct Recovery {
     number: u64,
     /// The sequence before its first one.
     before: u64,
-    /// Where they end.
+    /// The number of its batches, and where they end.
+    batches: u64,
     length: u64,
     /// The end after them.
     ending: Ending,
@@ -166,6 +167,7 @@ impl Recovery {
             number: files.found.base,
             files,
             before: 0,
+            batches: 0,
             length: 0,
             ending: Ending::Whole,
             torn: None,
@@ -246,7 +248,8 @@ impl Recovery {
             let Some(log) = self.older.pop() else {
                 break;
             };
-            (self.number, self.before, self.length) = (log.number, log.before, log.length);
+            (self.number, self.before) = (log.number, log.before);
+            (self.batches, self.length) = (log.batches, log.length);
             self.ending = Ending::Whole;
         }
     }
@@ -275,7 +278,7 @@ impl Recovery {
         // Where the log goes on is found there, also if nothing of it is read.
         self.moments.reach(&self.store, self.length)?;
         self.before = self.based;
-        self.length = 0;
+        (self.batches, self.length) = (0, 0);
         self.begin = match sequence {
             Some(_) => Begin::InBase,
             None => Begin::Anywhere,
@@ -289,6 +292,7 @@ impl Recovery {
             self.older.push(Older {
                 number: self.number,
                 before: self.before,
+                batches: self.batches,
                 length: self.length,
             });
             self.number = number;
@@ -308,7 +312,7 @@ impl Recovery {
         let tell = |offset| reading.tell(name, offset);
         let replay = Replay::of(&self.store, windows, begin, &mut self.moments, tell)?;
         reading.end(name, windows.length());
-        self.length = replay.end;
+        (self.batches, self.length) = (replay.batches, replay.end);
         self.is_enough = replay.is_enough();
         self.ending = ending_of(windows, &replay, self.store.last())?;
         match self.ending.clone() {
@@ -339,19 +343,27 @@ impl Recovery {
         counts: &Arc<Counts>,
     ) -> Result<(Opened, Log), Error> {
         let is_new = !self.files.found.is_there;
+        let logs = self.files.logs();
+        let mut found = self.files.found;
+        // Later logs that are given up go before the machine begins.
+        if self.is_enough {
+            found.top = found.log;
+        }
         let unready = Unready {
             operator: (!self.files.has_operator).then_some(self.operator),
-            number: self.number,
-            is_new,
+            found,
+            batches: self.batches,
             length: self.length,
             ending: self.ending,
             torn: self.torn,
-            logs: self.files.logs(),
+            gives_up: self.is_enough,
+            logs,
             spent: self.files.spent,
         };
         let last = Older {
             number: self.number,
             before: self.before,
+            batches: self.batches,
             length: self.length,
         };
         let (older, based) = (self.older, self.based);

@@ -28,6 +28,8 @@ pub(crate) enum Begin {
 pub(crate) struct Replay {
     /// Where the last whole batch ends.
     pub(crate) end: u64,
+    /// The number of batches up to there.
+    pub(crate) batches: u64,
     pub(crate) stop: Stop,
 }
 
@@ -51,7 +53,7 @@ struct Walk<'a, 'b> {
     moments: &'a mut Moments,
     /// Where the next batch begins.
     offset: u64,
-    /// The number of batches before the window.
+    /// The number of batches that were written.
     batches: u64,
     may_skip_first: bool,
 }
@@ -73,11 +75,14 @@ impl Replay {
     ) -> Result<Replay, Error> {
         let passed = match begin {
             Begin::InBase => pass_over(windows, store.last())?,
-            Begin::Behind | Begin::Anywhere => Some(0),
+            Begin::Behind | Begin::Anywhere => Some((0, 0)),
         };
-        let Some(offset) = passed else {
-            let (end, stop) = (0, Stop::Gap);
-            return Ok(Replay { end, stop });
+        let Some((offset, passed)) = passed else {
+            return Ok(Replay {
+                end: 0,
+                batches: 0,
+                stop: Stop::Gap,
+            });
         };
         windows.seek(offset)?;
         let mut walk = Walk {
@@ -90,8 +95,11 @@ impl Replay {
         };
         loop {
             if let Some(stop) = walk.write_window(&mut tell)? {
-                let end = walk.offset;
-                return Ok(Replay { end, stop });
+                return Ok(Replay {
+                    end: walk.offset,
+                    batches: passed + walk.batches,
+                    stop,
+                });
             }
         }
     }
@@ -106,7 +114,7 @@ impl Walk<'_, '_> {
             last: self.store.last(),
         };
         let mut replay = log_writes_at(self.windows.bytes(), place).replay(self.store);
-        let mut batches = 0;
+        let before = self.batches;
         let ended = loop {
             let (end, last) = (begin + replay.offset(), replay.last());
             self.offset = end;
@@ -124,13 +132,12 @@ impl Walk<'_, '_> {
                 replayed = replay.write_next(true)?;
             }
             match replayed {
-                Replayed::Batch => batches += 1,
+                Replayed::Batch => self.batches += 1,
                 Replayed::Gap => return Ok(Some(Stop::Gap)),
                 Replayed::Ended(ended) => break ended,
             }
         };
-        let ended = numbered(ended, self.batches);
-        self.batches += batches;
+        let ended = numbered(ended, before);
         match self.windows.go_on(self.offset, ended)? {
             ControlFlow::Continue(offset) => {
                 self.offset = offset;
@@ -162,10 +169,10 @@ pub(crate) fn closing_sequence(windows: &Windows, offset: u64) -> Result<Option<
     Ok(is_whole.then_some(sequence))
 }
 
-/// Passes over what a log has up to a sequence, if it begins there or before it. Returns where that ends; none if no batch ends there:
-/// then what the log has isn't what the base was made of.
-fn pass_over(windows: &mut Windows, last: u64) -> Result<Option<u64>, Error> {
-    let (mut offset, mut before, mut is_first) = (0, 0, true);
+/// Passes over what a log has up to a sequence, if it begins there or before it. Returns where that ends, and how many batches it is;
+/// none if no batch ends there: then what the log has isn't what the base was made of.
+fn pass_over(windows: &mut Windows, last: u64) -> Result<Option<(u64, u64)>, Error> {
+    let (mut offset, mut before, mut is_first, mut batches) = (0, 0, true, 0);
     loop {
         let begin = windows.begin();
         let place = LogPlace {
@@ -176,19 +183,20 @@ fn pass_over(windows: &mut Windows, last: u64) -> Result<Option<u64>, Error> {
         while let Some(write) = writes.next_write()? {
             let sequence = write.sequence;
             if is_first && sequence > last {
-                return Ok(Some(0));
+                return Ok(Some((0, 0)));
             }
             (is_first, before) = (false, sequence);
+            batches += u64::from(writes.is_between_batches());
             if sequence >= last {
                 let is_found = sequence == last && writes.is_between_batches();
-                return Ok(is_found.then_some(begin + writes.offset()));
+                return Ok(is_found.then_some((begin + writes.offset(), batches)));
             }
         }
         offset = begin + writes.offset();
         let ended = writes.ended().expect("no write is left");
         match windows.go_on(offset, ended)? {
             ControlFlow::Continue(place) => offset = place,
-            ControlFlow::Break(_) => return Ok(is_first.then_some(offset)),
+            ControlFlow::Break(_) => return Ok(is_first.then_some((offset, batches))),
         }
     }
 }

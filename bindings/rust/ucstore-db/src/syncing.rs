@@ -2,7 +2,7 @@
 
 use crate::error::Error;
 use crate::lock;
-use crate::log::{Log, Syncing};
+use crate::log::{sync_apart, Log};
 use crate::shared::Shared;
 use std::sync::atomic::Ordering;
 use std::sync::MutexGuard;
@@ -20,24 +20,33 @@ impl Shared {
     /// Syncs the log, unless it failed before: what a failed sync leaves isn't known. The log isn't locked meanwhile, but if it has no
     /// second handle. Returns it locked; there is none in memory, and once the database is closed.
     pub(crate) fn sync_log(&self) -> Result<MutexGuard<'_, Option<Log>>, Error> {
-        let mut guard = lock(&self.log);
-        self.check()?;
-        let Some(log) = &mut *guard else {
-            return Ok(guard);
-        };
-        match log.begin_sync() {
-            Syncing::Nothing => {}
-            Syncing::Here => log.sync().map_err(|error| self.fail(error))?,
-            Syncing::Apart(apart) => {
-                drop(guard);
-                let took = apart.run().map_err(|error| self.fail(error))?;
-                guard = lock(&self.log);
-                if let Some(log) = &mut *guard {
-                    log.note_synced(&apart, took);
-                }
+        loop {
+            let mut guard = lock(&self.log);
+            self.check()?;
+            let Some(log) = &mut *guard else {
+                return Ok(guard);
+            };
+            let Some(handle) = log.sync_handle() else {
+                log.sync().map_err(|error| self.fail(error))?;
+                return Ok(guard);
+            };
+            drop(guard);
+            // One thread at a time asks for a sync and tells how it went.
+            let mut file = lock(&handle);
+            let mut guard = lock(&self.log);
+            self.check()?;
+            let Some(apart) = guard.as_mut().and_then(|log| log.begin_sync(&handle)) else {
+                continue;
+            };
+            drop(guard);
+            let outcome = sync_apart(&mut **file);
+            let mut guard = lock(&self.log);
+            if let Some(log) = &mut *guard {
+                log.end_sync(&apart, outcome)
+                    .map_err(|error| self.fail(error))?;
             }
+            return Ok(guard);
         }
-        Ok(guard)
     }
 
     /// Syncs once a period, until the database closes.

@@ -64,6 +64,8 @@ pub const UCSTORE_HAS_CHECKPOINT: i32 = 27;
 pub const UCSTORE_SEQUENCE_GAP: i32 = 28;
 /// Log missing.
 pub const UCSTORE_LOG_MISSING: i32 = 29;
+/// Folder is not open.
+pub const UCSTORE_NO_FOLDER: i32 = 30;
 
 /// The memtables: they hold a put or a deletion of the key, or a range deletion over it.
 pub const UCSTORE_MEMTABLE: u32 = 0;
@@ -177,6 +179,36 @@ pub struct ucstore_folder_found {
     pub log: u64,
     pub top: u64,
     pub is_there: bool,
+}
+
+/// The machine of a folder.
+#[repr(C)]
+#[derive(Clone, Copy, Debug, Default, PartialEq, Eq)]
+pub struct ucstore_folder_state {
+    pub log: u64,
+    pub count: u64,
+    pub synced: u64,
+    pub base: u64,
+    pub least: u64,
+    pub tried: u64,
+    pub past: u64,
+    pub at: u64,
+    pub top: u64,
+    pub number: u64,
+    pub part: u64,
+    pub writer: u32,
+    pub next: u32,
+    pub checkpointer: u32,
+    pub is_sealed: bool,
+}
+
+/// A file operation.
+#[repr(C)]
+#[derive(Clone, Copy, Debug, Default, PartialEq, Eq)]
+pub struct ucstore_folder_step {
+    pub number: u64,
+    pub count: u64,
+    pub kind: u32,
 }
 
 extern "C" {
@@ -466,5 +498,40 @@ extern "C" {
         logs_length: usize,
         found: *mut ucstore_folder_found,
         missing: *mut u64,
+    ) -> i32;
+    pub fn ucstore_folder_open(
+        found: *const ucstore_folder_found,
+        count: u64,
+        is_sealed: bool,
+        state: *mut ucstore_folder_state,
+    ) -> i32;
+    pub fn ucstore_folder_next_write(
+        state: *const ucstore_folder_state,
+        step: *mut ucstore_folder_step,
+    ) -> i32;
+    pub fn ucstore_folder_next_make(
+        state: *const ucstore_folder_state,
+        step: *mut ucstore_folder_step,
+    ) -> i32;
+    pub fn ucstore_folder_next_sync(
+        state: *const ucstore_folder_state,
+        step: *mut ucstore_folder_step,
+    ) -> i32;
+    pub fn ucstore_folder_next_checkpoint(
+        state: *const ucstore_folder_state,
+        step: *mut ucstore_folder_step,
+    ) -> i32;
+    pub fn ucstore_folder_told_write(state: *mut ucstore_folder_state, is_done: bool) -> i32;
+    pub fn ucstore_folder_told_make(state: *mut ucstore_folder_state, is_done: bool) -> i32;
+    pub fn ucstore_folder_told_sync(state: *mut ucstore_folder_state, is_done: bool) -> i32;
+    pub fn ucstore_folder_told_checkpoint(state: *mut ucstore_folder_state, is_done: bool) -> i32;
+    pub fn ucstore_folder_submit(state: *mut ucstore_folder_state) -> i32;
+    pub fn ucstore_folder_ask_sync(state: *mut ucstore_folder_state) -> i32;
+    pub fn ucstore_folder_ask_next(state: *mut ucstore_folder_state) -> i32;
+    pub fn ucstore_folder_ask_switch(state: *mut ucstore_folder_state) -> i32;
+    pub fn ucstore_folder_ask_checkpoint(
+        state: *mut ucstore_folder_state,
+        number: u64,
+        past: u64,
     ) -> i32;
 }

@@ -79,7 +79,7 @@ pub use batch::Batch;
 pub use checkpoint::Checkpoint;
 pub use ended::{BatchFault, Ended, LogFault};
 pub use error::Error;
-pub use folder::{FolderFiles, ListedBase, ListedLog, MissingLog};
+pub use folder::{FolderAction, FolderFiles, FolderMachine, ListedBase, ListedLog, MissingLog};
 pub use job::{EndedJob, Job};
 pub use log::{log_writes, log_writes_at, LogPlace, LogWrites, Operation, Write};
 pub use lookup_source::LookupSource;

@@ -4,7 +4,8 @@ use Rattle.uc_folder.specs.Device.{Keep, crashed, recovered}
 use Rattle.uc_folder.specs.Steps.{is_open, syncing}
 use Rattle.uc_folder.specs.Worlds.{World, Event, AskSync, Syncs, Done, IsPrefixOf, answered, are_beside, happens, run, start}
 use Rattle.uc_folder.proofs.Lists.{prefix_refl, prefix_trans}
-use Rattle.uc_folder.proofs.Histories.{happens_keeps, always_keeps, run_acked, run_more, crash_acked}
+use Rattle.uc_folder.proofs.Next.{next_happens}
+use Rattle.uc_folder.proofs.Histories.{happens_keeps, always_next, always_keeps, run_acked, run_more, crash_acked}
 use Rattle.uc_folder.proofs.Saying.{IsUnderWay, sync_covers}
 use Rattle.uc_folder.proofs.laws.every_ms_loses_only_what_came_after_a_sync.Goals as goal
 
@@ -23,7 +24,7 @@ covers events beside later logs bases are open' is =
     let rest : run all start ≡ run later (happens (run es start) (Syncs Done)) = run_more es (Syncs Done ∷ later) start in
     let done : World = happens (run es start) (Syncs Done) in
     let stays : IsPrefixOf done.acked (run all start).acked =
-    subst (λ (x : World). IsPrefixOf done.acked x.acked) (sym rest) (run_acked later done (happens_keeps (run es start) (Syncs Done) (always_keeps es))) in
+    subst (λ (x : World). IsPrefixOf done.acked x.acked) (sym rest) (run_acked later done (next_happens (run es start) (Syncs Done) (always_keeps es) (always_next es)) (happens_keeps (run es start) (Syncs Done) (always_next es) (always_keeps es))) in
     prefix_trans (answered w) done.acked (recovered (crashed logs bases (run all start).device)) told
     (prefix_trans done.acked (run all start).acked (recovered (crashed logs bases (run all start).device)) stays (crash_acked all logs bases))
 
