@@ -5,7 +5,7 @@ use crate::error::Error;
 use crate::event::Event;
 use crate::folder::{File, Folder};
 use crate::lock;
-use crate::log::Log;
+use crate::log::{Log, Machine};
 use crate::name::Name;
 use crate::shared::Shared;
 use std::sync::atomic::Ordering;
@@ -21,6 +21,7 @@ const MOST_SYNCS: usize = 3;
 /// The contents of a checkpoint, and its place.
 struct Begun {
     folder: Arc<dyn Folder>,
+    machine: Machine,
     /// The number of the log that goes on after its last sequence.
     number: u64,
     view: View,
@@ -78,7 +79,7 @@ impl Shared {
         let name = Name::Base(begun.number, Some(last));
         let (mut base, mut bytes, mut removal, mut is_there) = (None, 0, None, false);
         loop {
-            let action = self.with_log(|log| log.next_checkpoint())?;
+            let action = lock(&begun.machine).next_checkpoint();
             let outcome = match action {
                 FolderAction::WriteBase(number, _) => {
                     Base::write(folder, number, &begun.view, &check).map(|written| {
@@ -99,11 +100,13 @@ impl Shared {
                 ),
                 _ => break,
             };
-            self.with_log(|log| log.told_checkpoint(outcome.is_ok()))?;
+            lock(&begun.machine).told_checkpoint(outcome.is_ok());
             outcome?;
             if action == FolderAction::SyncNames {
                 is_there = true;
-                self.with_log(|log| log.forget_before(begun.number, last))?;
+                if let Some(log) = &mut *lock(&self.log) {
+                    log.forget_before(begun.number, last);
+                }
                 self.checkpoint_due
                     .store(self.options.checkpoint_least, Ordering::Relaxed);
                 self.counts.checkpoints.add(1);
@@ -123,11 +126,6 @@ impl Shared {
         })
     }
 
-    /// Does something with the log, unless the database is closed.
-    fn with_log<T>(&self, work: impl FnOnce(&mut Log) -> T) -> Result<T, Error> {
-        lock(&self.log).as_mut().map(work).ok_or(Error::Closed)
-    }
-
     /// Goes on in a new log, and takes a view of what was logged before.
     fn begin_checkpoint(&self) -> Result<Option<Begun>, Error> {
         let mut log = self.switch_if(|_| true)?;
@@ -135,10 +133,12 @@ impl Shared {
             return Ok(None);
         };
         let view = lock(&self.store).view()?;
-        log.ask_checkpoint(log.number(), 0);
+        let number = log.number();
+        lock(&log.machine).ask_checkpoint(number, 0);
         Ok(Some(Begun {
             folder: Arc::clone(&log.folder),
-            number: log.number(),
+            machine: Arc::clone(&log.machine),
+            number,
             view,
         }))
     }
@@ -156,9 +156,10 @@ impl Shared {
             return Ok(None);
         };
         let view = view.again()?;
-        log.ask_checkpoint(number, past);
+        lock(&log.machine).ask_checkpoint(number, past);
         Ok(Some(Begun {
             folder: Arc::clone(&log.folder),
+            machine: Arc::clone(&log.machine),
             number,
             view,
         }))
@@ -182,16 +183,15 @@ impl Shared {
         let _switching = lock(&self.switching);
         let mut guard = lock(&self.log);
         self.check()?;
-        let folder = match &mut *guard {
+        let (folder, machine) = match &mut *guard {
             Some(log) if is_needed(log) => {
                 log.get_ready()?;
-                log.ask_next();
-                Arc::clone(&log.folder)
+                (Arc::clone(&log.folder), Arc::clone(&log.machine))
             }
             _ => return Ok(guard),
         };
         drop(guard);
-        let next = self.make_next(&*folder)?;
+        let next = make_next(&*folder, &machine)?;
         let mut guard = self.sync_most()?;
         if let Some(log) = &mut *guard {
             let last = lock(&self.store).last();
@@ -199,30 +199,6 @@ impl Shared {
                 .map_err(|refusal| self.refuse(refusal))?;
         }
         Ok(guard)
-    }
-
-    /// Makes the file of the next log, whose name is on the device then. The log isn't locked meanwhile.
-    fn make_next(&self, folder: &dyn Folder) -> Result<Box<dyn File>, Error> {
-        let name = self.with_log(|log| Name::Log(log.number() + 1).text())?;
-        let mut made = None;
-        loop {
-            let outcome = match self.with_log(|log| log.next_make())? {
-                FolderAction::CreateLog(_) => folder
-                    .create(&name)
-                    .map(|file| made = Some(file))
-                    .map_err(Error::of_file(&name)),
-                FolderAction::SyncNames => folder.sync().map_err(Error::of_file("")),
-                // It was made before, and the log couldn't go on in it.
-                _ => {
-                    return match made {
-                        Some(file) => Ok(file),
-                        None => folder.open(&name).map_err(Error::of_file(&name)),
-                    };
-                }
-            };
-            self.with_log(|log| log.told_make(outcome.is_ok()))?;
-            outcome?;
-        }
     }
 
     /// Syncs the log until few bytes are left, which came meanwhile. Returns it locked.
@@ -280,6 +256,31 @@ impl Shared {
     fn long_log(&self, data: u64) -> u64 {
         let least = self.checkpoint_due.load(Ordering::Relaxed);
         least.max(data.saturating_mul(self.options.checkpoint_ratio))
+    }
+}
+
+/// Makes the file of the next log, whose name is on the device then. The log isn't locked meanwhile.
+fn make_next(folder: &dyn Folder, machine: &Machine) -> Result<Box<dyn File>, Error> {
+    lock(machine).ask_next();
+    let name = Name::Log(lock(machine).log() + 1).text();
+    let mut made = None;
+    loop {
+        let action = lock(machine).next_make();
+        let outcome = match action {
+            FolderAction::CreateLog(_) => folder
+                .create(&name)
+                .map(|file| made = Some(file))
+                .map_err(Error::of_file(&name)),
+            FolderAction::SyncNames => folder.sync().map_err(Error::of_file("")),
+            _ => break,
+        };
+        lock(machine).told_make(outcome.is_ok());
+        outcome?;
+    }
+    match made {
+        Some(file) => Ok(file),
+        // It was made before, and the log couldn't go on in it.
+        None => folder.open(&name).map_err(Error::of_file(&name)),
     }
 }
 

@@ -5,6 +5,7 @@ use crate::ending::Ending;
 use crate::error::Error;
 use crate::folder::{File, Folder};
 use crate::kept::SetAside;
+use crate::lock;
 use crate::mark;
 use crate::name::Name;
 use crate::unready::Unready;
@@ -17,10 +18,13 @@ use ucstore::{FolderAction, FolderMachine};
 /// A handle by which a log is synced while another one appends to it.
 pub(crate) type SyncHandle = Arc<Mutex<Box<dyn File>>>;
 
+/// The machine of a folder, which says what is done next. It outlives the log, for a checkpoint that is under way at a close.
+pub(crate) type Machine = Arc<Mutex<FolderMachine>>;
+
 /// The log that a database writes, and the folder that it is in. Its machine says what is done next, and what may be acknowledged.
 pub(crate) struct Log {
     pub(crate) folder: Arc<dyn Folder>,
-    machine: FolderMachine,
+    pub(crate) machine: Machine,
     writer: Writer,
     /// There is one once it was needed.
     sync_handle: Option<SyncHandle>,
@@ -92,7 +96,7 @@ impl Log {
     ) -> Log {
         let log = Log {
             folder,
-            machine: unready.machine(),
+            machine: Arc::new(Mutex::new(unready.machine())),
             is_closed: unready.ending == Ending::Closed,
             is_part,
             writer: Writer::Unready(unready),
@@ -113,7 +117,7 @@ impl Log {
 
     /// Its number.
     pub(crate) fn number(&self) -> u64 {
-        self.machine.log()
+        lock(&self.machine).log()
     }
 
     /// Counts the bytes of the logs for those who ask without the lock.
@@ -127,8 +131,10 @@ impl Log {
             return Ok(None);
         };
         // What failed before begins again.
-        self.machine = unready.machine();
-        let set_aside = unready.get_ready(&*self.folder, &mut self.machine)?;
+        let mut machine = lock(&self.machine);
+        *machine = unready.machine();
+        let set_aside = unready.get_ready(&*self.folder, &mut machine)?;
+        drop(machine);
         let name = Name::Log(self.number()).text();
         let file = self.folder.open(&name).map_err(Error::of_file(&name))?;
         self.writer = Writer::Ready(file);
@@ -168,12 +174,13 @@ impl Log {
 
     /// Whether all of its batches may be acknowledged as synced. What an opening has read is answered as it was.
     fn is_synced(&self) -> bool {
-        matches!(self.writer, Writer::Unready(_)) || self.machine.synced() == self.machine.count()
+        let machine = lock(&self.machine);
+        matches!(self.writer, Writer::Unready(_)) || machine.synced() == machine.count()
     }
 
     /// Whether a sync is under way.
     fn is_syncing(&self) -> bool {
-        self.machine.next_sync() != FolderAction::Nothing
+        lock(&self.machine).next_sync() != FolderAction::Nothing
     }
 
     /// The error that the machine does nothing any more.
@@ -183,7 +190,7 @@ impl Log {
 
     /// Asks the machine for a sync of all bytes.
     fn ask_sync(&mut self) {
-        self.machine.ask_sync();
+        lock(&self.machine).ask_sync();
         self.asked = self.length;
     }
 
@@ -199,7 +206,7 @@ impl Log {
 
     /// Tells the machine how a sync went.
     fn tell_sync(&mut self, begun: Instant, outcome: Result<(), Error>) -> Result<(), Error> {
-        self.machine.told_sync(outcome.is_ok());
+        lock(&self.machine).told_sync(outcome.is_ok());
         self.told += 1;
         outcome?;
         self.counts.add_sync(begun.elapsed());
@@ -297,36 +304,6 @@ impl Log {
         self.count_bytes();
     }
 
-    /// Asks for the next log.
-    pub(crate) fn ask_next(&mut self) {
-        self.machine.ask_next();
-    }
-
-    /// The operation by which the next log is made.
-    pub(crate) fn next_make(&self) -> FolderAction {
-        self.machine.next_make()
-    }
-
-    /// Tells whether that was done.
-    pub(crate) fn told_make(&mut self, is_done: bool) {
-        self.machine.told_make(is_done);
-    }
-
-    /// Asks for a base at a place.
-    pub(crate) fn ask_checkpoint(&mut self, number: u64, past: u64) {
-        self.machine.ask_checkpoint(number, past);
-    }
-
-    /// The next operation of a checkpoint.
-    pub(crate) fn next_checkpoint(&self) -> FolderAction {
-        self.machine.next_checkpoint()
-    }
-
-    /// Tells whether that was done.
-    pub(crate) fn told_checkpoint(&mut self, is_done: bool) {
-        self.machine.told_checkpoint(is_done);
-    }
-
     /// Goes on in the next log after a sequence, whose name is on the device, once all bytes of this one are.
     pub(crate) fn switch(&mut self, next: Box<dyn File>, last: u64) -> Result<(), Refusal> {
         // A closing record that its process didn't sync may be torn by a crash, and an older log has to be whole.
@@ -335,22 +312,25 @@ impl Log {
         let ended = Older {
             number: self.number(),
             before: self.before,
-            batches: self.machine.count(),
+            batches: lock(&self.machine).count(),
             length: self.length,
         };
-        self.machine.ask_switch();
-        let FolderAction::SyncLog(..) = self.machine.next_write() else {
+        lock(&self.machine).ask_switch();
+        let action = lock(&self.machine).next_write();
+        if action == FolderAction::Nothing {
             return Err(Refusal::Passes(self.failed()));
+        }
+        // A sync that changes nothing is left out.
+        let is_synced = self.is_synced();
+        let begun = Instant::now();
+        let outcome = match is_synced {
+            true => Ok(()),
+            false => self.ask(|file| file.sync()),
         };
-        // One that changes nothing is left out.
-        if self.machine.synced() < self.machine.count() {
-            let begun = Instant::now();
-            let outcome = self.ask(|file| file.sync());
-            self.machine.told_write(outcome.is_ok());
-            outcome.map_err(Refusal::Lasts)?;
+        lock(&self.machine).told_write(outcome.is_ok());
+        outcome.map_err(Refusal::Lasts)?;
+        if !is_synced {
             self.counts.add_sync(begun.elapsed());
-        } else {
-            self.machine.told_write(true);
         }
         self.writer = Writer::Ready(next);
         self.sync_handle = None;
@@ -375,13 +355,14 @@ impl Log {
     /// Appends a record, or nothing: what a failure leaves of it is cut off.
     fn append_whole(&mut self, record: &[u8]) -> Result<(), Refusal> {
         let length = self.length;
-        self.machine.submit();
+        lock(&self.machine).submit();
         let (mut refused, mut is_mended) = (None, false);
         loop {
-            match self.machine.next_write() {
+            let action = lock(&self.machine).next_write();
+            match action {
                 FolderAction::Append(..) => {
                     let outcome = self.ask(|file| file.append(record));
-                    self.machine.told_write(outcome.is_ok());
+                    lock(&self.machine).told_write(outcome.is_ok());
                     match outcome {
                         Ok(()) => self.length += record.len() as u64,
                         Err(error) => refused = Some(error),
@@ -390,7 +371,7 @@ impl Log {
                 FolderAction::CutLog(..) => {
                     let outcome = self.ask(|file| file.cut(length).and_then(|()| file.sync()));
                     is_mended = outcome.is_ok();
-                    self.machine.told_write(is_mended);
+                    lock(&self.machine).told_write(is_mended);
                 }
                 // It is cut off once the sync beside it is done.
                 _ if refused.is_some() && self.is_syncing() => {
