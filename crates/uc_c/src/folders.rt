@@ -235,8 +235,8 @@ pub extern "C" fn ucstore_folder_ask_switch(state: &mut State) -> i32
 #[unsafe(no_mangle)]
 pub extern "C" fn ucstore_folder_ask_checkpoint(state: &mut State, number: u64, past: u64) -> i32
     ensures asked { IfMachine result state.old (λ m. state.new ≡ state_of (record m {
-          checkpointer = checkpointing m.checkpointer (may_begin m number past) number past;
-        })) }
+      checkpointer = checkpointing m.checkpointer (may_begin m number past) number past;
+    })) }
     ensures untold { (result ≡ OK) ⊎ (state.new ≡ state.old) }
 {
     let Some(mut machine) = state.machine() else {
