@@ -66,7 +66,7 @@ impl Shared {
                 Ok(true) => {}
                 // No run more may be until a compaction has ended.
                 Ok(false) => drop(self.wait_for_work_until(lock(&self.store), HANDOVER)),
-                // Allocation failed: the next write wakes this thread for another try.
+                // Allocation failed: the next write wakes this thread for another try, or a close for its end.
                 Err(_) => drop(self.wait_for_work(lock(&self.store))),
             }
         }
@@ -192,10 +192,59 @@ fn is_flush(job: &mut Job) -> bool {
 #[cfg(test)]
 mod tests {
     use super::*;
+    use crate::event::Listener;
     use crate::options::Options;
+    use std::sync::{mpsc, Arc, Barrier};
     use std::thread;
     use std::time::Duration;
     use ucstore::Batch;
+
+    /// Panics unless the threads that compact end soon once the database closes.
+    fn ends_soon(shared: Arc<Shared>, work: impl FnOnce(&Shared) + Send + 'static) {
+        let (sender, ended) = mpsc::channel();
+        thread::spawn(move || {
+            work(&shared);
+            let _ = sender.send(());
+        });
+        ended
+            .recv_timeout(Duration::from_secs(20))
+            .expect("a thread waits for work although the database closes");
+    }
+
+    #[test]
+    fn a_close_beside_an_event_ends_the_compactor() {
+        let told = Arc::new(Barrier::new(2));
+        let closed = Arc::new(Barrier::new(2));
+        let (at_event, after_close) = (Arc::clone(&told), Arc::clone(&closed));
+        let options = Options {
+            events: Some(Listener::new(move |_: &Event| {
+                at_event.wait();
+                after_close.wait();
+            })),
+            ..Options::default()
+        };
+        let shared = Arc::new(Shared::open(None, &options).unwrap());
+        shared.events.push(Event::Stalled { runs: 0 });
+        let closing = Arc::clone(&shared);
+        let closer = thread::spawn(move || {
+            told.wait();
+            // The compactor holds no lock here, and waits for no work yet.
+            assert!(!closing.begin_close());
+            closed.wait();
+        });
+        ends_soon(shared, Shared::compact_until_closed);
+        closer.join().unwrap();
+    }
+
+    #[test]
+    fn nobody_waits_for_work_after_a_close() {
+        let shared = Arc::new(Shared::open(None, &Options::default()).unwrap());
+        assert!(!shared.begin_close());
+        assert!(shared.begin_close());
+        ends_soon(shared, |shared| {
+            drop(shared.wait_for_work(lock(&shared.store)));
+        });
+    }
 
     #[test]
     fn a_write_waits_until_a_job_has_ended() {

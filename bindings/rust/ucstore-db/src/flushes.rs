@@ -200,9 +200,7 @@ mod tests {
             shared.gathered.store(0, Ordering::Relaxed);
             assert!(shared.run(flush).unwrap());
             writer.join().unwrap();
-            shared.is_closing.store(true, Ordering::Release);
-            drop(lock(&shared.store));
-            shared.work.notify_all();
+            shared.begin_close();
         });
     }
 

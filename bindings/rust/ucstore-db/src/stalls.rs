@@ -134,11 +134,25 @@ impl Shared {
         Instant::now()
     }
 
-    /// Waits until there may be a job, or one has ended.
+    /// Waits until there may be a job, or one has ended, or the database closes. A close wakes those that wait once: whoever comes after
+    /// that doesn't wait.
     pub(crate) fn wait_for_work<'a>(&self, store: MutexGuard<'a, Store>) -> MutexGuard<'a, Store> {
+        if self.is_closing.load(Ordering::Acquire) {
+            return store;
+        }
         self.work
             .wait(store)
             .unwrap_or_else(PoisonError::into_inner)
+    }
+
+    /// Begins to close the database, and wakes the threads that wait for work. Returns whether it was closing before.
+    pub(crate) fn begin_close(&self) -> bool {
+        let was_closing = self.is_closing.swap(true, Ordering::AcqRel);
+        // With the lock: a thread that has seen that it wasn't closing waits by now.
+        let store = lock(&self.store);
+        self.work.notify_all();
+        drop(store);
+        was_closing
     }
 
     /// Waits as [`wait_for_work`](Shared::wait_for_work) does, for a while at most.

@@ -8,7 +8,6 @@ use std::cell::Cell;
 use std::mem;
 use std::panic::{catch_unwind, AssertUnwindSafe};
 use std::process;
-use std::sync::atomic::Ordering;
 use std::sync::{Arc, Mutex, PoisonError};
 use std::thread::{self, JoinHandle, Thread, ThreadId};
 use std::time::Duration;
@@ -86,16 +85,13 @@ impl Workers {
             return Err(Error::Closed);
         }
         let worker = WORKER.get();
-        if self.shared.is_closing.swap(true, Ordering::AcqRel) {
+        if self.shared.begin_close() {
             if worker.is_none() {
                 drop(lock(&self.threads));
             }
             return Err(Error::Closed);
         }
         let mut threads = lock(&self.threads);
-        let store = lock(&self.shared.store);
-        self.shared.work.notify_all();
-        drop(store);
         for thread in threads.drain(..) {
             thread.thread().unpark();
             // One that reports an event may close the database, and ends after that.
