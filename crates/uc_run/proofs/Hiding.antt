@@ -1,6 +1,6 @@
 -- The fragment over a key hides it where one of its range deletions is seen.
 use Rattle.std.proofs.Common.{◌≡◌, ℕ, Bool, true, false, cond, List, [], ◌∷◌, Some, None, filter, refl, sym, ap, ◌∙◌}
-use Rattle.std.specs.Prelude.{◌&&◌, ◌||◌, is_some, nat_le, option_map}
+use Rattle.std.specs.Prelude.{◌&&◌, ◌||◌, is_some, nat_le}
 use Rattle.std.specs.List.{find, list_any, slice_get}
 use Rattle.uc_run_entry.specs.Fragment.{Fragment}
 use Rattle.uc_run_entry.specs.Run.{covers}
@@ -42,8 +42,8 @@ module _ (at : ℕ) (key : List ℕ) where
   hiding-covering fs = find_both (λ f. covers f key) (λ f. seen at f.seqs) fs
 
   -- where the same fragments are over the key, the same one hides it
-  pub same_hiding : (over fs : List Fragment) → covering over ≡ covering fs → option_map (λ f. f.end) (find (hides at key) over) ≡ option_map (λ f. f.end) (find (hides at key) fs)
-  same_hiding over fs same = ap (option_map (λ f. f.end)) (hiding-covering over ∙ ap (find (λ f. seen at f.seqs)) same ∙ sym (hiding-covering fs))
+  pub same_hiding : (over fs : List Fragment) → covering over ≡ covering fs → find (hides at key) over ≡ find (hides at key) fs
+  same_hiding over fs same = hiding-covering over ∙ ap (find (λ f. seen at f.seqs)) same ∙ sym (hiding-covering fs)
 
   -- none is over it
   pub none_hides : (fs : List Fragment) → covering fs ≡ [] → find (hides at key) fs ≡ None

@@ -20,6 +20,7 @@ pub mod Decided
 pub mod RankOrder
 pub mod Ties
 pub mod LeastKey
+pub mod LastKey
 pub mod Passing
 pub mod NearPlace
 pub mod FoundThere

@@ -18,3 +18,5 @@ pub mod Filters
 pub mod NumberBlocks
 pub mod Heads
 pub mod HeldHeads
+pub mod BackCursors
+pub mod HeldBackCursors

@@ -6,8 +6,9 @@
 //!
 //! A [`Run`] is immutable. It keeps its points, packed, in blocks of 16 in order of key, and a Bloom filter of their keys
 //! (`filter.rt`). A contract sees it as its contents (`uc_run_entry`'s `specs/Run.antt`); only the contracts of
-//! [`Run::blocks`] and [`Run::fence`] speak of blocks. A [`Cursor`] walks over a run in order of key, and
-//! [`Heads`] has the next keys of several cursors. Read `run.rt`, then `lookup.rt`, `cursor.rt` and `heads.rt`.
+//! [`Run::blocks`] and [`Run::fence`] speak of blocks. A [`Cursor`] walks over a run in order of key, a
+//! [`BackCursor`] against it, and [`Heads`] has the next keys of several cursors. Read `run.rt`, then `lookup.rt`, `cursor.rt`,
+//! `back_cursor.rt` and `heads.rt`.
 //!
 //! This crate re-exports the public items of `uc_run_entry` that runs are made of.
 //!
@@ -16,6 +17,7 @@
 //! Tests: `tests/runs.py`, `tests/drawn.py`.
 #![tactic(auto)]
 
+mod back_cursor;
 mod common_front;
 mod cursor;
 mod entry_ref;
@@ -45,6 +47,7 @@ mod slots;
 mod sought_key;
 mod texts;
 
+pub use back_cursor::BackCursor;
 pub use cursor::Cursor;
 pub use hashing::key_hash;
 pub use heads::{Head, Heads, lesser};

@@ -89,16 +89,40 @@ fn is_any_by(seqs: &Seqs, at: u64) -> bool
     seqs.newest_at_or_below(at).is_some()
 }
 
+/// The fragment over the key, if that has a range deletion at or below the sequence.
+fn hiding_fragment<'a>(fragments: &'a [Fragment], key: &[u8], at: u64) -> Option<&'a Fragment>
+    requires order { AreInOrder fragments.now }
+    requires falling { AllByRecursion (λ f. IsFalling f.seqs) fragments.now }
+    ensures { option_map (λ f. f.now) result ≡ find (hides at key.now) fragments.now }
+{
+    let fragment = covering_fragment(fragments, key)?;
+    if is_any_by(fragment.seqs(), at) {
+        Some(fragment)
+    } else {
+        None
+    }
+}
+
 /// The end of the fragment over the key, if that has a range deletion at or below the sequence.
 pub(crate) fn end_of_hiding<'a>(fragments: &'a [Fragment], key: &[u8], at: u64) -> Option<&'a [u8]>
     requires order { AreInOrder fragments.now }
     requires falling { AllByRecursion (λ f. IsFalling f.seqs) fragments.now }
     ensures { option_map (λ end. end.now) result ≡ option_map (λ f. f.end) (find (hides at key.now) fragments.now) }
 {
-    let fragment = covering_fragment(fragments, key)?;
-    if is_any_by(fragment.seqs(), at) {
-        Some(fragment.end())
-    } else {
-        None
-    }
+    let fragment = hiding_fragment(fragments, key, at)?;
+    Some(fragment.end())
+}
+
+/// The beginning of the fragment over the key, if that has a range deletion at or below the sequence.
+pub(crate) fn begin_of_hiding<'a>(
+    fragments: &'a [Fragment],
+    key: &[u8],
+    at: u64,
+) -> Option<&'a [u8]>
+    requires order { AreInOrder fragments.now }
+    requires falling { AllByRecursion (λ f. IsFalling f.seqs) fragments.now }
+    ensures { option_map (λ begin. begin.now) result ≡ option_map (λ f. f.begin) (find (hides at key.now) fragments.now) }
+{
+    let fragment = hiding_fragment(fragments, key, at)?;
+    Some(fragment.begin())
 }

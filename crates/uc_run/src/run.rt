@@ -10,11 +10,13 @@ ghost use Rattle.uc_run_entry.specs.Seek as seek;
 ghost use Rattle.uc_run_entry.specs.PlainList.{plain_list};
 ghost use Rattle.uc_model.specs.Meaning.{effect_on};
 ghost use Rattle.uc_run_entry.specs.Packed as packed;
+ghost use Rattle.uc_run.specs.BackCursors.{end_place};
 ghost use Rattle.uc_run.specs.Blocks.{blocks_of, fence_of};
 ghost use Rattle.uc_run.specs.Fences.{IsFenced};
 ghost use Rattle.uc_run.specs.Filters.{AdmitsAll};
 ghost use Rattle.uc_run.specs.NextKey.{IsNextKey};
 
+use crate::back_cursor::BackCursor;
 use crate::cursor::Cursor;
 use crate::fences::{Fences, fences_of, found_by_fences, seek_by_fences};
 use crate::filter::{Filter, filter_in_threads, filter_of};
@@ -26,6 +28,7 @@ use crate::sought_key::SoughtKey;
 use std::alloc::{AllocError, Global};
 use std::marker::{Model, Sync};
 use std::thread::{Threads, join};
+use uc_bytes::Bytes;
 use uc_oper::{Effect, EffectRef, Operator};
 use uc_run_entry::{Entry, Fragment, Fragments, WhatRef, plain_list_does_what_is_found};
 use uc_run_points::{PointSlice, Points, points_of};
@@ -269,6 +272,14 @@ impl Run {
         ensures { result ≡ record { run = self.now; place = seek.seek_place self.now.points low.now false } }
     {
         Cursor::before(self, low)
+    }
+
+    /// A walk over the run against the order of key, before the first point whose key is at or above `high`, or at the end if that
+    /// is `None`. It costs the logarithm of the number of points.
+    pub fn back_cursor(&self, high: &Option<Bytes>) -> BackCursor<'_>
+        ensures { result ≡ record { run = self.now; place = end_place self.now.points high.now } }
+    {
+        BackCursor::below(self, high)
     }
 
     /// The least key of a point that is at or above `low` (above it if `strict`).

@@ -1,4 +1,4 @@
-use Rattle.std.proofs.Common.{List, filter, ap, ◌∙◌}
+use Rattle.std.proofs.Common.{List, filter, option_map, ap, ◌∙◌}
 use Rattle.uc_run_entry.specs.Fragment.{Fragment}
 use Rattle.uc_run_entry.specs.Run.{covers}
 use Rattle.uc_run.specs.Cursors.{Standing}
@@ -12,5 +12,5 @@ returns c =
     let run = c.self.inside.run.now in
     let same = c.fragments_near-over.ensures.covering ∙ ap (λ (fs : List Fragment). filter (λ f. covers f key) fs) c.fragments.ensures in
     c.end_of_hiding.ensures
-    ∙ same_hiding c.args.at key c.fragments_near-over.result.now run.fragments same
+    ∙ ap (option_map (λ (f : Fragment). f.end)) (same_hiding c.args.at key c.fragments_near-over.result.now run.fragments same)
     ∙ ap (λ (s : Standing). hidden_to s.run key c.args.at) c.self.view_is

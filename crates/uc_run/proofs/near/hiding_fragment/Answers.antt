@@ -5,13 +5,12 @@ use Rattle.uc_run_entry.specs.Order.{IsFalling}
 use Rattle.uc_run_entry.specs.Run.{covers}
 use Rattle.uc_run_entry.proofs.Points.{all-filtered}
 use Rattle.uc_run.proofs.Hiding.{seen, none_hides, one_hides}
-use Rattle.uc_run.proofs.near.end_of_hiding.Goals as goal
+use Rattle.uc_run.proofs.near.hiding_fragment.Goals as goal
 
 pub returns-in_err-fragment : goal.returns-in_err-fragment
 returns-in_err-fragment c =
     let none : filter (λ f. covers f c.args.key.now) c.args.fragments.now ≡ [] = search rules in
-    ap (option_map (λ (end : Bor (List ℕ)). end.now)) c.from_residual.ensures
-    ∙ sym (ap (option_map (λ (f : Fragment). f.end)) (none_hides c.args.at c.args.key.now c.args.fragments.now none))
+    ap (option_map (λ (f : Bor Fragment). f.now)) c.from_residual.ensures ∙ sym (none_hides c.args.at c.args.key.now c.args.fragments.now none)
 
 pub is_any_by-requires : goal.is_any_by-requires
 is_any_by-requires c =
@@ -23,11 +22,10 @@ pub returns-then-is_any_by : goal.returns-then-is_any_by
 returns-then-is_any_by c =
     let fragment = c.in_ok-fragment.fragment.now in
     let passes : seen c.args.at fragment.seqs ≡ true = ap (seen c.args.at) (sym c.seqs.ensures) ∙ sym c.is_any_by.ensures ∙ c.if-is_any_by.true in
-    ap Some c.end.ensures
-    ∙ sym (ap (option_map (λ (f : Fragment). f.end)) (one_hides c.args.at c.args.key.now c.args.fragments.now fragment true c.in_ok-fragment.ensures.some passes))
+    sym (one_hides c.args.at c.args.key.now c.args.fragments.now fragment true c.in_ok-fragment.ensures.some passes)
 
 pub returns-else-is_any_by : goal.returns-else-is_any_by
 returns-else-is_any_by c =
     let fragment = c.in_ok-fragment.fragment.now in
     let fails : seen c.args.at fragment.seqs ≡ false = ap (seen c.args.at) (sym c.seqs.ensures) ∙ sym c.is_any_by.ensures ∙ c.if-is_any_by.false in
-    sym (ap (option_map (λ (f : Fragment). f.end)) (one_hides c.args.at c.args.key.now c.args.fragments.now fragment false c.in_ok-fragment.ensures.some fails))
+    sym (one_hides c.args.at c.args.key.now c.args.fragments.now fragment false c.in_ok-fragment.ensures.some fails)

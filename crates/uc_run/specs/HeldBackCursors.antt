@@ -1,0 +1,11 @@
+-- How a walk against the order of points is held.
+use Rattle.std.specs.Prelude.{◌≤◌, length}
+use Rattle.uc_run.specs.Cursors.{Standing}
+use Rattle.uc_run.specs.declared.back_cursor.BackCursor.TheInside.{Inside}
+
+abbrev pub standing : Inside → Standing
+standing c = record { run = c.run.now; place = c.place }
+
+-- its place is one among the points, or at their end
+abbrev pub IsInside : Inside → Type 0
+IsInside c = c.place ≤ length c.run.now.points
