@@ -67,7 +67,7 @@ module _ (low : List ℕ) (strict : Bool) where
     abbrev points_in : List X → List Entry
     points_in runs = points_of (map run_of runs)
 
-    points-more : (runs : List X) (r : X) → points_in (runs ++ r ∷ []) ≡ points_in runs ++ (run_of r).points
+    pub points-more : (runs : List X) (r : X) → points_in (runs ++ r ∷ []) ≡ points_in runs ++ (run_of r).points
     points-more [] r = append-nil (run_of r).points
     points-more (x ∷ xs) r =
         ap (λ (ps : List Entry). (run_of x).points ++ ps) (points-more xs r) ∙ sym (append_assoc (run_of x).points (points_in xs) (run_of r).points)

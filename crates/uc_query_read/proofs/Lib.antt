@@ -12,3 +12,5 @@ pub mod AnswerLaws
 pub mod Later
 pub mod Beside
 pub mod Oldest
+pub mod BackKeys
+pub mod BackStanding

@@ -6,3 +6,5 @@ pub mod Dead
 pub mod Query
 pub mod Answers
 pub mod Scans
+pub mod Back
+pub mod HeldBackWalks

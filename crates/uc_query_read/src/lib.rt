@@ -17,6 +17,7 @@
 mod answer;
 mod answer_laws;
 mod answering;
+mod back_walk;
 mod behind;
 mod cursors;
 mod dead_keys;

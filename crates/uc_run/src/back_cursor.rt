@@ -6,7 +6,7 @@ ghost use Rattle.uc_run_entry.specs.Order.{entry_cmp};
 ghost use Rattle.uc_run_entry.specs.PlainList.{plain_list};
 ghost use Rattle.uc_run_entry.specs.Run.{IsRun};
 ghost use Rattle.uc_run_entry.specs.Seek.{seek_place};
-ghost use Rattle.uc_run.specs.BackCursors.{end_place, hidden_from, last_key, IsPreviousKey};
+ghost use Rattle.uc_run.specs.BackCursors.{end_place, hidden_from, last_key, point_before, IsPreviousKey};
 ghost use Rattle.uc_run.specs.Cursors.{has_ranges};
 ghost use Rattle.uc_run.specs.Fences.{IsFenced};
 
@@ -31,6 +31,8 @@ const FEW_POINTS: usize = 8;
 pub struct BackCursor<'a> {
     run: &'a Run,
     place: usize,
+    /// The key of the point just before the place, if there is one.
+    key: Option<&'a [u8]>,
 }
 
 impl<'a> Model for BackCursor<'a> {
@@ -76,14 +78,24 @@ fn end_in(run: &Run, high: &Option<Bytes>) -> usize
     }
 }
 
+/// The key of the point just before a place. It costs a step for each point before that in its quarter of a block.
+fn key_before(run: &Run, place: usize) -> Option<&[u8]>
+    ensures { option_map (λ key. key.now) result ≡ option_map (λ p. p.key) (point_before run.now.points place) }
+{
+    let point = run.entries().get(place.checked_sub(1)?)?;
+    Some(point.key())
+}
+
 impl<'a> BackCursor<'a> {
     /// Before the first point whose key is at or above `high`, or at the end if that is `None`. It costs a search by the fences.
     pub(crate) fn below(run: &'a Run, high: &Option<Bytes>) -> BackCursor<'a>
         ensures { result ≡ record { run = run.now; place = end_place run.now.points high.now } }
     {
+        let place = end_in(run, high);
         BackCursor {
             run,
-            place: end_in(run, high),
+            place,
+            key: key_before(run, place),
         }
     }
 
@@ -95,24 +107,15 @@ impl<'a> BackCursor<'a> {
         self.run.recall();
     }
 
-    /// The key of the last point that isn't passed.
-    fn last_key(&self) -> Option<&'a [u8]>
-        ensures { option_map (λ key. key.now) result ≡ last_key self.now }
-    {
-        let place = self.place.checked_sub(1)?;
-        let point = self.run.entries().get(place)?;
-        Some(point.key())
-    }
-
-    /// The key of the last point that isn't passed, without a search. After `back_cursor(high)` it is the greatest key below `high`. It
-    /// costs a step for each point before it in its quarter of a block.
+    /// The key of the last point that isn't passed, without a search. After `back_cursor(high)` it is the greatest key below `high`.
+    #[inline]
     pub fn key(&self) -> Option<&'a [u8]>
         ensures there { option_map (λ key. key.now) result ≡ last_key self.now }
         ensures last { (high : Option (List ℕ)) → self.now.place ≡ end_place self.now.run.points high →
             IsPreviousKey self.now.run.points high (option_map (λ key. key.now) result) }
     {
-        self.recall_run();
-        self.last_key()
+        self.run.recall();
+        self.key
     }
 
     /// Whether the run has range deletions.
@@ -134,6 +137,7 @@ impl<'a> BackCursor<'a> {
     {
         self.run.recall();
         self.place = place_before(self.run.entries(), self.run.fences(), self.place, key);
+        self.key = key_before(self.run, self.place);
     }
 
     /// The effect of the run's writes at or below a sequence on a key, if the walk's place is just before the key's points. It costs

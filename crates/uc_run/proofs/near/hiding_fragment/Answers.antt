@@ -1,4 +1,4 @@
-use Rattle.std.proofs.Common.{rules, ◌≡◌, ℕ, true, false, List, Some, Bor, sym, ap, ◌∙◌, subst, option_map, filter, []}
+use Rattle.std.proofs.Common.{rules, ◌≡◌, ℕ, true, false, List, Bor, sym, ap, ◌∙◌, subst, option_map, filter, []}
 use Rattle.std.specs.List.{AllByRecursion}
 use Rattle.uc_run_entry.specs.Fragment.{Fragment}
 use Rattle.uc_run_entry.specs.Order.{IsFalling}

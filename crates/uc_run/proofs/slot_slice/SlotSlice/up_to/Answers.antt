@@ -1,4 +1,4 @@
-use Rattle.std.proofs.Common.{rules, refl, ◌≡◌, ◌≤◌, List, length, take, drop, ap, sym, ◌∙◌, subst, arith}
+use Rattle.std.proofs.Common.{rules, refl, ◌≡◌, ◌≤◌, List, length, take, drop, ap, sym, ◌∙◌, arith}
 use Rattle.uc_bytes.specs.declared.write.Write.{Write}
 use Rattle.uc_run.specs.Slots.{end_before}
 use Rattle.uc_run.proofs.PackedWrites.{length-writes, end_within, cut_order, cut_writes}

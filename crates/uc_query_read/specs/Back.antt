@@ -1,0 +1,32 @@
+-- The place of a walk over the points of several runs against the order of their keys.
+use Rattle.std.specs.Prelude.{◌≡◌, ℕ, false, List, Option, Some, None, min, reverse, if◌then◌else◌}
+use Rattle.std.specs.Ordering.{is_lt}
+use Rattle.uc_bytes.specs.Bytes.{bytes_cmp}
+use Rattle.uc_run_entry.specs.Run.{Contents}
+use Rattle.uc_run_entry.specs.Seek.{seek_place}
+use Rattle.uc_run.specs.BackCursors.{end_place}
+use Rattle.uc_run.specs.Cursors.{Standing}
+use Rattle.uc_compact.specs.Inputs.{points_of}
+use Rattle.uc_query_read.specs.Ahead.{keys_ahead}
+use Rattle.uc_query_read.specs.Walks.{Walk}
+
+-- the runs, and their keys at or above `low`, and below `high` if there is one: the greatest first
+abbrev pub back_walk_at : List ℕ → Option (List ℕ) → List Contents → Walk
+back_walk_at low high runs = record { runs = runs; keys = reverse (keys_ahead (points_of runs) low false high) }
+
+-- before a run's points at and above `high`; at their end if there is none
+abbrev pub standing_below : Option (List ℕ) → Contents → Standing
+standing_below high run = record { run = run; place = end_place run.points high }
+
+abbrev pub StandsBelow : Option (List ℕ) → Standing → Type 0
+StandsBelow high c = c.place ≡ end_place c.run.points high
+
+-- before the points at and above a key, never forward
+abbrev pub passed_back : List ℕ → Standing → Standing
+passed_back key c = record { run = c.run; place = min c.place (seek_place c.run.points key false) }
+
+-- the greater of two keys, if there are two; else the one there is
+abbrev pub greater_of : Option (List ℕ) → Option (List ℕ) → Option (List ℕ)
+greater_of None other = other
+greater_of (Some key) None = Some key
+greater_of (Some key) (Some other) = if is_lt (bytes_cmp key other) then Some other else Some key

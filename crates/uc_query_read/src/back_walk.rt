@@ -1,0 +1,191 @@
+//! [`BackWalk`]: a walk over the points of several runs against the order of their keys.
+ghost use Rattle.std.specs.Prelude.{◌≡◌, ℕ, List, Option, Some, map, option_map, IfOk, IfSome};
+ghost use Rattle.std.specs.List.{AllByRecursion};
+ghost use Rattle.uc_model.specs.Meaning.{effect_on, value_of};
+ghost use Rattle.uc_run.specs.BackCursors.{IsPreviousKey};
+ghost use Rattle.uc_compact.specs.Inputs.{points_of, writes_of};
+ghost use Rattle.uc_version_state.specs.Versions.{contents_of};
+ghost use Rattle.uc_query_read.specs.Ahead.{Comes};
+ghost use Rattle.uc_query_read.specs.Back.{back_walk_at, greater_of, passed_back, standing_below, StandsBelow};
+ghost use Rattle.uc_query_read.specs.Walks.{runs_of, IsOfRun};
+
+use crate::lookup::compose;
+use std::alloc::{AllocError, Global};
+use std::marker::Model;
+use uc_bytes::Bytes;
+use uc_model::{effect_gives_value, effects_of_parts_compose};
+use uc_oper::{Effect, EffectRef, Operator, ValueRef};
+use uc_run::{BackCursor, text_order};
+use uc_version_state::Placed;
+
+/// The place of a walk over the points of runs against the order of their keys. A contract sees it as the runs' contents, the newest
+/// first, and the keys of their points that are still ahead, the greatest first: each once, at or above a bound, and below another if
+/// there is one.
+#[derive(Drop)]
+pub(crate) struct BackWalk<'a> {
+    /// One in each run, the newest first, after the points that are ahead.
+    cursors: Vec<BackCursor<'a>>,
+    low: &'a [u8],
+    /// The points below this key are ahead, or all if there is none.
+    high: Option<&'a [u8]>,
+}
+
+impl<'a> Model for BackWalk<'a> {
+    ghost use Rattle.uc_query_read.specs.Walks.{Walk};
+    ghost use Rattle.uc_query_read.specs.HeldBackWalks.{walk, AreThere};
+
+    ghost Value = { Walk };
+
+    ghost view = { walk };
+
+    ghost invariant = { AreThere };
+}
+
+/// The greater of two keys, if there are two; else the one there is.
+#[inline]
+fn greater<'a>(key: Option<&'a [u8]>, other: Option<&'a [u8]>) -> Option<&'a [u8]>
+    ensures { option_map (λ k. k.now) result ≡
+        greater_of (option_map (λ k. k.now) key.entry) (option_map (λ k. k.now) other.entry) }
+{
+    match (key, other) {
+        (Some(key), Some(other)) => {
+            if text_order(key, other).is_lt() {
+                Some(other)
+            } else {
+                Some(key)
+            }
+        }
+        (Some(key), None) => Some(key),
+        (None, other) => other,
+    }
+}
+
+/// A cursor for each run, after the points below `high`.
+fn cursors_below<'a>(
+    alloc: Global,
+    runs: &'a [Placed],
+    high: &Option<Bytes>,
+) -> Result<Vec<BackCursor<'a>>, AllocError>
+    ensures cursors { IfOk result (λ cursors. cursors.items ≡ map (standing_below high.now) (contents_of runs.now)) }
+    ensures of_runs { IfOk result (λ cursors. AllByRecursion IsOfRun cursors.items) }
+{
+    let mut cursors = Vec::with_capacity(alloc, runs.len())?;
+    for placed in runs {
+        placed.run().recall();
+        cursors.push(placed.run().back_cursor(high))?;
+    }
+    Ok(cursors)
+}
+
+/// The greatest of the keys before the cursors. It costs a comparison for each.
+fn greatest_key<'a>(cursors: &[BackCursor<'a>]) -> Option<&'a [u8]>
+    ensures { (high : Option (List ℕ)) → AllByRecursion (StandsBelow high) cursors.now →
+        IsPreviousKey (points_of (runs_of cursors.now)) high (option_map (λ k. k.now) result) }
+{
+    let mut greatest = None;
+    for cursor in cursors {
+        greatest = greater(greatest, cursor.key());
+    }
+    greatest
+}
+
+/// Moves each cursor back to before the points at and above a key.
+fn pass_each(cursors: &mut [BackCursor<'_>], key: &[u8])
+    ensures { cursors.new ≡ map (passed_back key.now) cursors.old }
+{
+    for place in 0..cursors.len() {
+        cursors[place].pass(key);
+    }
+}
+
+/// The effect of the writes of the cursors' runs at or below a sequence on a key, before whose points all stand. It stops at the first
+/// run that puts or deletes the key, since older writes are overwritten.
+fn effect_of_each<'a, O: Operator>(
+    alloc: Global,
+    cursors: &[BackCursor<'a>],
+    key: &[u8],
+    at: u64,
+) -> Result<EffectRef<'a>, AllocError>
+    requires { AllByRecursion (StandsBelow (Some key.now)) cursors.now }
+    ensures { IfOk result (λ effect. effect ≡ effect_on O.meaning (writes_of (runs_of cursors.now)) key.now at) }
+{
+    effects_of_parts_compose::<O>();
+    let mut newer = Effect::Keep;
+    for cursor in cursors {
+        let older = cursor.effect_ref::<O>(alloc, key, at)?;
+        let both = compose::<O>(alloc, older, newer)?;
+        if both.is_set() {
+            return Ok(both);
+        }
+        // It lends no value, so this copies nothing.
+        newer = both.into_effect(alloc)?;
+    }
+    Ok(EffectRef::own(newer))
+}
+
+/// The value that the runs of cursors give a key at a sequence, if it has one. All stand before the key's points.
+fn value_of_each<'a, O: Operator>(
+    alloc: Global,
+    cursors: &[BackCursor<'a>],
+    key: &[u8],
+    at: u64,
+) -> Result<Option<ValueRef<'a>>, AllocError>
+    requires { AllByRecursion (StandsBelow (Some key.now)) cursors.now }
+    ensures { IfOk result (λ value. value ≡ value_of O.meaning (writes_of (runs_of cursors.now)) key.now at) }
+{
+    effect_gives_value::<O>();
+    effect_of_each::<O>(alloc, cursors, key, at)?.apply::<O>(alloc, None)
+}
+
+/// A bound as a slice.
+#[inline]
+fn bound_of(high: &Option<Bytes>) -> Option<&[u8]>
+    ensures { option_map (λ key. key.now) result ≡ high.now }
+{
+    match high {
+        None => None,
+        Some(high) => Some(high.as_slice()),
+    }
+}
+
+impl<'a> BackWalk<'a> {
+    /// After the keys of the runs' points from `low` on, and below `high` if there is one. It costs a search in each run.
+    pub(crate) fn from(
+        alloc: Global,
+        runs: &'a [Placed],
+        low: &'a [u8],
+        high: &'a Option<Bytes>,
+    ) -> Result<BackWalk<'a>, AllocError>
+        ensures { IfOk result (λ walk. walk ≡ back_walk_at low.now high.now (contents_of runs.now)) }
+    {
+        Ok(BackWalk {
+            cursors: cursors_below(alloc, runs, high)?,
+            low,
+            high: bound_of(high),
+        })
+    }
+
+    /// The greatest of the keys that are ahead, with its value at a sequence, if it has one. It passes the key, also if that ends with an
+    /// `Err`. It costs a step for each run, and for each of the key's points up to the last put or delete.
+    pub(crate) fn next<O: Operator>(
+        &mut self,
+        alloc: Global,
+        at: u64,
+    ) -> Result<Option<(&'a [u8], Option<ValueRef<'a>>)>, AllocError>
+        ensures comes { IfOk result (λ row. Comes self.old.keys (option_map (λ r. r.0.now) row) self.new.keys) }
+        ensures value { IfOk result (λ row.
+            IfSome row (λ r. r.1 ≡ value_of O.meaning (writes_of self.old.runs) r.0.now at)) }
+        ensures runs { self.new.runs ≡ self.old.runs }
+    {
+        let Some(key) = greatest_key(&self.cursors) else {
+            return Ok(None);
+        };
+        if text_order(key, self.low).is_lt() {
+            return Ok(None);
+        }
+        pass_each(&mut self.cursors, key);
+        self.high = Some(key);
+        let value = value_of_each::<O>(alloc, &self.cursors, key, at)?;
+        Ok(Some((key, value)))
+    }
+}
