@@ -2,7 +2,7 @@
 ghost use Rattle.std.specs.Prelude.{◌≡◌, ◌⊎◌, Some, None, IfOk, if◌then◌else◌};
 ghost use Rattle.uc_query_read.specs.declared.query.Query.TheVariants as queries;
 ghost use Rattle.uc_engine.specs.Engines.{answer_in, last_rows};
-ghost use Rattle.uc_engine.specs.EngineViews.{answer_seen, rows_seen};
+ghost use Rattle.uc_engine.specs.EngineViews.{answer_seen, rows_seen, rows_seen_back};
 ghost use Rattle.uc_c.specs.declared.status.TheConstants.{OK, OUT_OF_MEMORY};
 ghost use Rattle.uc_c.specs.Compacting.{Settles};
 ghost use Rattle.uc_c.specs.Replies.{Answers, Becomes};
@@ -12,7 +12,7 @@ use crate::readable::Readable;
 use crate::room::fill;
 use crate::status::{NO_STORE, NOT_PROTECTED, OK, OUT_OF_MEMORY};
 use std::alloc::{AllocError, Global};
-use uc_engine::{Answer, Bytes, Query, Rows};
+use uc_engine::{Answer, Bytes, EngineView, Query, RowBuffer, Rows};
 use uc_handle::Handle;
 
 /// The most gathered writes that a scan sorts: if there are more, they become a run first.
@@ -116,11 +116,54 @@ pub fn scan<R: Readable>(
 {
     match rows_in(alloc, source, low, high, bounded, limit) {
         Ok(rows) => {
+            show_rows(rows.as_buffer(), room, size, count);
+            OK
+        }
+        Err(_) => OUT_OF_MEMORY,
+    }
+}
+
+/// Scans a view at the last sequence against the order of keys, as `ucstore_view_scan_back` does.
+pub fn scan_back(
+    alloc: Global,
+    view: &EngineView,
+    low: &[u8],
+    high: &[u8],
+    bounded: bool,
+    limit: u64,
+    room: &mut [u8],
+    size: &mut usize,
+    count: &mut u64,
+) -> i32
+    ensures shown { (result ≡ OUT_OF_MEMORY) ⊎ ((result ≡ OK)
+        × AreShown (rows_seen_back view.now low.now (if bounded then Some high.now else None) limit)
+        room.old room.new size.new count.new) }
+    ensures untold { (result ≡ OK)
+        ⊎ ((room.new ≡ room.old) × (size.new ≡ size.old) × (count.new ≡ count.old)) }
+{
+    match rows_back_in(alloc, view, low, high, bounded, limit) {
+        Ok(rows) => {
             show_rows(&rows, room, size, count);
             OK
         }
         Err(_) => OUT_OF_MEMORY,
     }
+}
+
+/// The rows of a scan of a view at the last sequence against the order of keys.
+fn rows_back_in(
+    alloc: Global,
+    view: &EngineView,
+    low: &[u8],
+    high: &[u8],
+    bounded: bool,
+    limit: u64,
+) -> Result<RowBuffer, AllocError>
+    ensures { IfOk result (λ rows.
+        rows ≡ rows_seen_back view.now low.now (if bounded then Some high.now else None) limit) }
+{
+    let high = bound(alloc, high, bounded)?;
+    view.scan_back(alloc, low, &high, limit)
 }
 
 /// The rows of a scan at the last sequence.
@@ -186,8 +229,8 @@ fn answer_to<R: Readable>(
     source.answer(alloc, &query)
 }
 
-/// Writes the rows that fit the room, and tells how many these are, and the size of all.
-fn show_rows(rows: &Rows, room: &mut [u8], size: &mut usize, count: &mut u64)
+/// Writes the rows that fit the buffer, and tells how many these are, and the size of all.
+fn show_rows(rows: &RowBuffer, room: &mut [u8], size: &mut usize, count: &mut u64)
     ensures { AreShown rows.now room.old room.new size.new count.new }
 {
     let (bytes, fit) = rows.fitting(room.len());
@@ -205,7 +248,7 @@ fn show(answer: &Answer, room: &mut [u8], size: &mut usize, count: &mut u64) -> 
 {
     match answer {
         Answer::Rows(rows) => {
-            show_rows(rows, room, size, count);
+            show_rows(rows.as_buffer(), room, size, count);
             OK
         }
         Answer::NotProtected(_) => NOT_PROTECTED,

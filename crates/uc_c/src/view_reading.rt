@@ -1,7 +1,7 @@
 //! Look-ups in views that C holds, and scans of them.
 ghost use Rattle.std.specs.Prelude.{◌≡◌, ◌⊎◌, Some, None, if◌then◌else◌};
 ghost use Rattle.uc_query_read.specs.declared.query.Query.TheVariants as queries;
-ghost use Rattle.uc_engine.specs.EngineViews.{answer_seen, rows_seen, value_seen};
+ghost use Rattle.uc_engine.specs.EngineViews.{answer_seen, rows_seen, rows_seen_back, value_seen};
 ghost use Rattle.uc_c.specs.declared.status.TheConstants.{OK, OUT_OF_MEMORY, NO_VIEW};
 ghost use Rattle.uc_c.specs.Many.{FoundMany};
 ghost use Rattle.uc_c.specs.Reading.{Found, FoundAt};
@@ -10,7 +10,7 @@ ghost use Rattle.uc_c.specs.Rows.{AreShown, Scanned};
 
 use crate::many::look_up_many;
 use crate::reading::{look_up, look_up_at};
-use crate::scanning::{scan, scan_at};
+use crate::scanning::{scan, scan_at, scan_back};
 use crate::status::{NO_VIEW, OUT_OF_MEMORY};
 use std::alloc::Global;
 use uc_handle::ViewHandle;
@@ -109,6 +109,37 @@ pub extern "C" fn ucstore_view_scan(
     };
     let status = match held.sort(alloc) {
         Ok(()) => scan(alloc, &*held, low, high, bounded, limit, room, size, count),
+        Err(_) => OUT_OF_MEMORY,
+    };
+    view.put(held);
+    status
+}
+
+/// Scans a view against the order of keys: the last rows, at most `limit`, the greatest key first, written as `ucstore_scan`
+/// does. It sorts as `ucstore_view_scan` does.
+#[unsafe(no_mangle)]
+pub extern "C" fn ucstore_view_scan_back(
+    alloc: Global,
+    view: &mut ViewHandle,
+    low: &[u8],
+    high: &[u8],
+    bounded: bool,
+    limit: u64,
+    room: &mut [u8],
+    size: &mut usize,
+    count: &mut u64,
+) -> i32
+    ensures scanned { IsRead NO_VIEW result view.old.held view.new.held (λ v. (result ≡ OUT_OF_MEMORY)
+        ⊎ ((result ≡ OK) × AreShown (rows_seen_back v low.now (if bounded then Some high.now else None) limit)
+        room.old room.new size.new count.new)) }
+    ensures untold { (result ≡ OK)
+        ⊎ ((room.new ≡ room.old) × (size.new ≡ size.old) × (count.new ≡ count.old)) }
+{
+    let Some(mut held) = view.take(alloc) else {
+        return NO_VIEW;
+    };
+    let status = match held.sort(alloc) {
+        Ok(()) => scan_back(alloc, &*held, low, high, bounded, limit, room, size, count),
         Err(_) => OUT_OF_MEMORY,
     };
     view.put(held);

@@ -1,5 +1,5 @@
 -- What an engine holds at a moment.
-use Rattle.std.specs.Prelude.{ℕ, List, Option}
+use Rattle.std.specs.Prelude.{ℕ, List, Option, reverse}
 use Rattle.uc_model.specs.Meaning.{value_of}
 use Rattle.uc_query_read.specs.declared.query.Query.{Query}
 use Rattle.uc_query_read.specs.declared.answer.Answer.{Answer}
@@ -28,3 +28,7 @@ value_seen v key = value_of (meaning_of v.kind) (writes_of v.seen) key (last v.s
 -- the rows of a scan at the last sequence
 abbrev pub rows_seen : Viewed → List ℕ → Option (List ℕ) → ℕ → List (List ℕ × List ℕ)
 rows_seen v low high limit = first_rows (meaning_of v.kind) (writes_of v.seen) (last v.seen) limit (named_keys (writes_of v.seen) low high)
+
+-- the rows of a scan at the last sequence against the order of keys
+abbrev pub rows_seen_back : Viewed → List ℕ → Option (List ℕ) → ℕ → List (List ℕ × List ℕ)
+rows_seen_back v low high limit = first_rows (meaning_of v.kind) (writes_of v.seen) (last v.seen) limit (reverse (named_keys (writes_of v.seen) low high))

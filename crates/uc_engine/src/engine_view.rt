@@ -3,7 +3,7 @@ ghost use Rattle.std.specs.Prelude.{◌≡◌, IfOk, length};
 ghost use Rattle.uc_query_read.specs.declared.query.Query.TheVariants as queries;
 ghost use Rattle.uc_live.specs.Sources.{source_of};
 ghost use Rattle.uc_live.specs.Views as views;
-ghost use Rattle.uc_engine.specs.EngineViews.{answer_seen, rows_seen, value_seen, viewed_in};
+ghost use Rattle.uc_engine.specs.EngineViews.{answer_seen, rows_seen, rows_seen_back, value_seen, viewed_in};
 
 use crate::each_operator::{kind_of, map_each, with_each};
 use crate::engine::{AnyStore, Engine};
@@ -13,7 +13,7 @@ use std::marker::Model;
 use uc_bytes::Bytes;
 use uc_live::{LookupSource, Version, View};
 use uc_oper::{Counter, Maximum, ValueRef, owned_value};
-use uc_query_read::{Answer, Query, Rows};
+use uc_query_read::{Answer, Query, RowBuffer, Rows};
 
 /// A view of a store of each operator.
 #[derive(Drop)]
@@ -156,6 +156,20 @@ impl EngineView {
         ensures { IfOk result (λ rows. rows ≡ rows_seen self.now low.now high.now limit) }
     {
         with_each!(AnyView, &self.view, view => view.scan(alloc, low, high, limit))
+    }
+
+    /// The last rows, at most `limit`, of the keys from `low` to below `high`, or to the last one if `high` is `None`, at the last
+    /// sequence: the greatest key first. A scan sorts what is gathered, unless that is [sorted](EngineView::sort).
+    pub fn scan_back(
+        &self,
+        alloc: Global,
+        low: &[u8],
+        high: &Option<Bytes>,
+        limit: u64,
+    ) -> Result<RowBuffer, AllocError>
+        ensures { IfOk result (λ rows. rows ≡ rows_seen_back self.now low.now high.now limit) }
+    {
+        with_each!(AnyView, &self.view, view => view.scan_back(alloc, low, high, limit))
     }
 
     /// The answer to a query at a snapshot, or `NotProtected` if no snapshot was at its sequence.

@@ -1,10 +1,10 @@
 -- What a live store has taken, and what it answers.
-use Rattle.std.proofs.Common.{◌≡◌, ℕ, ◌*◌, ◌<◌, ◌≤◌, Bool, true, false, ◌&&◌, List, [], ◌∷◌, ◌++◌, fold, Option, ◌⊎◌, append_assoc, refl, sym, ap, ◌∙◌, subst, arith}
-use Rattle.std.specs.Prelude.{Contains, if◌then◌else◌, nat_le, count_by}
+use Rattle.std.proofs.Common.{◌≡◌, ℕ, ◌+◌, ◌*◌, ◌<◌, ◌≤◌, Bool, true, false, ◌&&◌, List, [], ◌∷◌, ◌++◌, length, take, fold, Option, ◌⊎◌, append_assoc, refl, sym, ap, ◌∙◌, subst, arith}
+use Rattle.std.specs.Prelude.{Contains, if◌then◌else◌, nat_le, count_by, reverse}
 use Rattle.std.specs.List.{flat_map}
 use Rattle.std.proofs.lemmas.Bool.{eq-eqb, leb-true}
 use Rattle.std.proofs.Math.Nat.{mul-pos}
-use Rattle.std.proofs.lemmas.List.{append-nil}
+use Rattle.std.proofs.lemmas.List.{append-nil, take_all}
 use Rattle.uc_bytes.specs.declared.write.Write.{Write}
 use Rattle.uc_oper.specs.Operation.{Operation}
 use Rattle.uc_oper.specs.Composition.{applied}
@@ -13,7 +13,7 @@ use Rattle.uc_batch.proofs.Rises.{last_of-append}
 use Rattle.uc_model.specs.Meaning.{effect_on, value_of}
 use Rattle.uc_run.specs.Size.{memtable_size}
 use Rattle.uc_memtable.specs.Labels.{deletes_range}
-use Rattle.uc_query_read.specs.Answers.{answer_of, first_rows, named_keys, Reads, is_protected}
+use Rattle.uc_query_read.specs.Answers.{answer_of, first_rows, named_keys, rows_of, Reads, is_protected}
 use Rattle.uc_query_read.specs.declared.query.Query.{Query}
 use Rattle.uc_query_read.specs.declared.query.Query.TheVariants.{Scan}
 use Rattle.uc_query_read.specs.Query.{at_of}
@@ -187,3 +187,16 @@ module _ (m : Operation) where
   rows_alike writes others low high at limit equal alike =
       rows_answered (first_rows m writes at limit (named_keys writes low high)) (first_rows m others at limit (named_keys others low high)) at (is_protected (at ∷ []) at) (alone at)
       (equal writes others (at ∷ []) (Scan low high at limit) (λ there key reads. alike key))
+
+  -- and so against the order of keys
+  pub rows_back_alike : (writes others : List Write) (low : List ℕ) (high : Option (List ℕ)) (at limit : ℕ) →
+      ((writes others : List Write) (keeps : List ℕ) (query : Query) → (Contains keeps (at_of query) → (key : List ℕ) → Reads query key → value_of m writes key (at_of query) ≡ value_of m others key (at_of query)) → answer_of m writes keeps query ≡ answer_of m others keeps query) →
+      ((writes : List Write) (low : List ℕ) (high : Option (List ℕ)) (at limit : ℕ) → first_rows m writes at limit (reverse (named_keys writes low high)) ≡ take limit (reverse (rows_of m writes at (named_keys writes low high)))) →
+      ((key : List ℕ) → value_of m writes key at ≡ value_of m others key at) →
+      first_rows m writes at limit (reverse (named_keys writes low high)) ≡ first_rows m others at limit (reverse (named_keys others low high))
+  rows_back_alike writes others low high at limit equal turned alike =
+      let ours = rows_of m writes at (named_keys writes low high) in
+      let theirs = rows_of m others at (named_keys others low high) in
+      let most = length ours + length theirs in
+      let same : ours ≡ theirs = sym (take_all most ours (omega arith)) ∙ rows_alike writes others low high at most equal alike ∙ take_all most theirs (omega arith) in
+      turned writes low high at limit ∙ ap (λ (rows : List (List ℕ × List ℕ)). take limit (reverse rows)) same ∙ sym (turned others low high at limit)

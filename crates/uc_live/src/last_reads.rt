@@ -1,5 +1,5 @@
 //! Reads at the last sequence, of a version and of the writes that are gathered after it.
-ghost use Rattle.std.specs.Prelude.{◌≡◌, ◌≢◌, ◌++◌, [], IfOk};
+ghost use Rattle.std.specs.Prelude.{◌≡◌, ◌≢◌, ◌++◌, [], reverse, IfOk};
 ghost use Rattle.std.specs.Arc.{arc_value};
 ghost use Rattle.uc_batch.specs.Rising.{IsRising, last_of};
 ghost use Rattle.uc_model.specs.Meaning.{value_of};
@@ -13,7 +13,10 @@ use uc_bytes::Bytes;
 use uc_memtable::FlushableMemtables;
 use uc_model::effect_continues_value;
 use uc_oper::{Operator, ValueRef};
-use uc_query_read::{Rows, equal_values_give_equal_answers, rows_at, rows_behind, value_behind};
+use uc_query_read::{
+    RowBuffer, Rows, equal_values_give_equal_answers, rows_at, rows_back_are_rows_reversed,
+    rows_back_at, rows_back_behind, rows_behind, value_behind,
+};
 use uc_run::{Run, SoughtKey, flush_keeps_every_effect};
 use uc_version::Version;
 
@@ -98,4 +101,50 @@ pub(crate) fn last_rows<O: Operator>(
     }
     let newer = sorted(alloc, gathered)?;
     sorted_rows::<O>(alloc, version, gathered, newer, low, high, limit)
+}
+
+/// The rows of a scan against the order of keys, as [`last_rows_back`] finds them, with the run of what is gathered.
+pub(crate) fn sorted_rows_back<O: Operator>(
+    alloc: Global,
+    version: &Version,
+    gathered: &FlushableMemtables,
+    newer: Arc<Run>,
+    low: &[u8],
+    high: &Option<Bytes>,
+    limit: u64,
+) -> Result<RowBuffer, AllocError>
+    requires some { gathered.now.shown ≢ [] }
+    requires rising { IsRising version.now.last gathered.now.shown }
+    requires newer { arc_value newer ≡ flushed gathered.now.shown }
+    ensures { IfOk result (λ rows. rows ≡ first_rows O.meaning
+        (writes_in version.now ++ gathered.now.shown) (last_of version.now.last gathered.now.shown) limit
+        (reverse (named_keys (writes_in version.now ++ gathered.now.shown) low.now high.now))) }
+{
+    flush_keeps_every_effect::<O>();
+    equal_values_give_equal_answers::<O>();
+    effect_continues_value::<O>();
+    rows_back_are_rows_reversed::<O>();
+    rows_back_behind::<O>(alloc, newer, version, low, high, gathered.last(), limit)
+}
+
+/// The last rows, at most `limit`, of the keys from `low` to below `high`, or to the last one if `high` is `None`, at the last
+/// sequence: the greatest key first. It costs what [`last_rows`] does.
+pub(crate) fn last_rows_back<O: Operator>(
+    alloc: Global,
+    version: &Version,
+    gathered: &FlushableMemtables,
+    low: &[u8],
+    high: &Option<Bytes>,
+    limit: u64,
+) -> Result<RowBuffer, AllocError>
+    requires { IsRising version.now.last gathered.now.shown }
+    ensures { IfOk result (λ rows. rows ≡ first_rows O.meaning
+        (writes_in version.now ++ gathered.now.shown) (last_of version.now.last gathered.now.shown) limit
+        (reverse (named_keys (writes_in version.now ++ gathered.now.shown) low.now high.now))) }
+{
+    if gathered.is_empty() {
+        return rows_back_at::<O>(alloc, version, low, high, version.last(), limit);
+    }
+    let newer = sorted(alloc, gathered)?;
+    sorted_rows_back::<O>(alloc, version, gathered, newer, low, high, limit)
 }

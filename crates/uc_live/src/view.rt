@@ -1,5 +1,5 @@
 //! [`View`]: what a live store holds at a moment.
-ghost use Rattle.std.specs.Prelude.{◌≡◌, IfOk, length};
+ghost use Rattle.std.specs.Prelude.{◌≡◌, IfOk, length, reverse};
 ghost use Rattle.uc_batch.specs.Rising.{IsRising};
 ghost use Rattle.uc_model.specs.Meaning.{value_of};
 ghost use Rattle.uc_query_read.specs.Answers.{answer_of, first_rows, named_keys};
@@ -8,7 +8,9 @@ ghost use Rattle.uc_live.specs.Sources.{source_of};
 ghost use Rattle.uc_live.specs.Views as views;
 ghost use Rattle.uc_live.specs.Views.{seen_in};
 
-use crate::last_reads::{last_rows, last_sequence, last_value, sorted, sorted_rows};
+use crate::last_reads::{
+    last_rows, last_rows_back, last_sequence, last_value, sorted, sorted_rows, sorted_rows_back,
+};
 use crate::live_store::LiveStore;
 use crate::lookup_source::{LookupSource, last_source};
 use std::alloc::{AllocError, Global};
@@ -18,7 +20,9 @@ use uc_bytes::Bytes;
 use uc_memtable::FlushableMemtables;
 use uc_model::later_writes_change_nothing;
 use uc_oper::{Operator, ValueRef, owned_value};
-use uc_query_read::{Answer, Query, Rows, answer_one, equal_values_give_equal_answers, get};
+use uc_query_read::{
+    Answer, Query, RowBuffer, Rows, answer_one, equal_values_give_equal_answers, get,
+};
 use uc_run::Run;
 use uc_version::Version;
 
@@ -204,6 +208,37 @@ impl<O: Operator> View<O> {
                 )
             }
             None => last_rows::<O>(alloc, &parts.version, &parts.gathered, low, high, limit),
+        }
+    }
+
+    /// The last rows, at most `limit`, of the keys from `low` to below `high`, or to the last one if `high` is `None`, at the last
+    /// sequence: the greatest key first. It sorts what is gathered as [`scan`](View::scan) does.
+    pub fn scan_back(
+        &self,
+        alloc: Global,
+        low: &[u8],
+        high: &Option<Bytes>,
+        limit: u64,
+    ) -> Result<RowBuffer, AllocError>
+        ensures { IfOk result (λ rows.
+            rows ≡ first_rows O.meaning (views.writes_of self.now) (views.last self.now) limit
+            (reverse (named_keys (views.writes_of self.now) low.now high.now))) }
+    {
+        let parts = &self.parts;
+        match &self.sorted {
+            Some(run) => {
+                let newer = run.clone()?;
+                sorted_rows_back::<O>(
+                    alloc,
+                    &parts.version,
+                    &parts.gathered,
+                    newer,
+                    low,
+                    high,
+                    limit,
+                )
+            }
+            None => last_rows_back::<O>(alloc, &parts.version, &parts.gathered, low, high, limit),
         }
     }
 

@@ -1,14 +1,17 @@
 -- A scan shows the same rows whether it goes over the keys of all points or over those that a put or a merge names.
-use Rattle.std.proofs.Common.{◌≡◌, ℕ, ◌≤◌, Bool, true, false, cond, List, [], ◌∷◌, map, take, filter, filter_map, Option, Some, None, option_map, Any, Contains, refl, sym, ap, ◌∙◌, subst}
-use Rattle.std.specs.Prelude.{◌↔◌, not, ◌&&◌}
+use Rattle.std.proofs.Common.{◌≡◌, ℕ, ◌≤◌, Bool, true, false, cond, List, [], ◌∷◌, ◌++◌, map, take, filter, filter_map, Option, Some, None, option_map, Any, Contains, refl, sym, ap, ◌∙◌, subst}
+use Rattle.std.specs.Prelude.{◌↔◌, not, ◌&&◌, reverse, Result, IfOk}
 use Rattle.std.specs.List.{AllByRecursion, cons_option, flat_map}
 use Rattle.std.specs.List.Sorted.{IsStrictlySortedBy, IsPermutation}
+use Rattle.std.specs.declared.alloc.AllocError.{AllocError}
 use Rattle.std.specs.declared.cmp.Ordering.{Ordering}
 use Rattle.std.specs.declared.cmp.Ordering.TheVariants.{Less, Equal, Greater}
 use Rattle.std.specs.Ordering.{is_lt, is_le, ordering_reverse}
 use Rattle.std.proofs.lemmas.Bool.{false≢true}
 use Rattle.std.proofs.lemmas.Cmp.{nat_list_cmp_total}
-use Rattle.std.proofs.lemmas.List.Elements.{All-contains, All-contains_itself, All-from_recursion, recursion_from_All}
+use Rattle.std.proofs.lemmas.List.{append-nil, reverse-append}
+use Rattle.std.proofs.lemmas.Result.{IfOk-weaker}
+use Rattle.std.proofs.lemmas.List.Elements.{filter_map-append, All-contains, All-contains_itself, All-from_recursion, recursion_from_All}
 use Rattle.std.proofs.lemmas.List.Kept.{IsStrictlySortedBy-filter}
 use Rattle.std.proofs.lemmas.Map.Lookups.{exact_bytes}
 use Rattle.uc_bytes.specs.Bytes.{bytes_cmp}
@@ -91,6 +94,21 @@ le_is_not_lt x y = ap is_le (nat_list_cmp_total.antisymm x y) ∙ by (bytes_cmp 
 range_is_ahead : (low : List ℕ) (high : Option (List ℕ)) (x : List ℕ) → is_in_range low high x ≡ is_ahead low false high x
 range_is_ahead low high x = ap (λ b. b && is_below x high) (le_is_not_lt low x)
 
+-- ---- what a list turned round gives
+
+module _ {X Y : Type 0} (h : X → Option Y) where
+  with_one : (o : Option Y) (ys : List Y) → reverse ys ++ cons_option o [] ≡ reverse (cons_option o ys)
+  with_one None ys = append-nil (reverse ys)
+  with_one (Some y) ys = sym (reverse-append (y ∷ []) ys)
+
+  pub filter_map-reverse : (xs : List X) → filter_map h (reverse xs) ≡ reverse (filter_map h xs)
+  filter_map-reverse [] = refl
+  filter_map-reverse (x ∷ xs) =
+      ap (filter_map h) (reverse-append (x ∷ []) xs)
+      ∙ filter_map-append h (reverse xs) (x ∷ [])
+      ∙ ap (λ (ys : List Y). ys ++ cons_option (h x) []) (filter_map-reverse xs)
+      ∙ with_one (h x) (filter_map h xs)
+
 -- ---- rows are of keys with a value
 
 module _ (f : List ℕ → Option (List ℕ)) where
@@ -101,7 +119,7 @@ module _ (f : List ℕ → Option (List ℕ)) where
   abbrev has_value : List ℕ → Bool
   has_value key = some_value (f key)
 
-  abbrev row_at : List ℕ → Option (List ℕ × List ℕ)
+  abbrev pub row_at : List ℕ → Option (List ℕ × List ℕ)
   row_at key = option_map (λ value. (key, value)) (f key)
 
   value_there : (key : List ℕ) (o : Option (List ℕ)) → f key ≡ o → some_value o ≡ true → (value : List ℕ) × (f key ≡ Some value)
@@ -188,3 +206,8 @@ module _ (m : Operation)
   -- so their keys rise
   pub rows_rise : (limit : ℕ) (rows : List (List ℕ × List ℕ)) → rows ≡ first_rows m writes at limit (keys_ahead points low false high) → KeysRise (first_rows m writes at limit names) → KeysRise rows
   rows_rise limit rows made rise = subst KeysRise (sym (rows_shown limit rows made)) rise
+
+  -- and so are those against the order
+  pub rows_shown_back : (limit : ℕ) (made : Result (List (List ℕ × List ℕ)) AllocError) → IfOk made (λ rows. rows ≡ first_rows m writes at limit (reverse (keys_ahead points low false high))) → IfOk made (λ rows. rows ≡ first_rows m writes at limit (reverse names))
+  rows_shown_back limit made h =
+      IfOk-weaker made _ _ (λ rows is. is ∙ ap (take limit) (filter_map-reverse (row_at value) (keys_ahead points low false high) ∙ ap reverse same_rows ∙ sym (filter_map-reverse (row_at value) names))) h

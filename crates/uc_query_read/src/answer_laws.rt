@@ -1,5 +1,5 @@
 //! Laws about answers.
-ghost use Rattle.std.specs.Prelude.{◌≡◌, ◌↔◌, ℕ, List, Option, Contains};
+ghost use Rattle.std.specs.Prelude.{◌≡◌, ◌↔◌, ℕ, List, Option, Contains, reverse, take};
 ghost use Rattle.std.specs.List.Sorted.{IsStrictlySortedBy};
 ghost use Rattle.uc_bytes.specs.Bytes.{bytes_cmp};
 ghost use Rattle.uc_bytes.specs.declared.write.Write.{Write};
@@ -8,7 +8,7 @@ ghost use Rattle.uc_query_read.specs.declared.query.Query.TheVariants.{Scan};
 ghost use Rattle.uc_query_read.specs.declared.answer.Answer.TheVariants.{Rows, NotProtected};
 ghost use Rattle.uc_query_read.specs.Query.{at_of};
 ghost use Rattle.uc_model.specs.Meaning.{value_of};
-ghost use Rattle.uc_query_read.specs.Answers.{Reads, named_keys, first_rows, answer_of};
+ghost use Rattle.uc_query_read.specs.Answers.{Reads, named_keys, rows_of, first_rows, answer_of};
 ghost use Rattle.uc_query_read.specs.Scans.{IsNamed, IsScan};
 
 use uc_oper::Operator;
@@ -62,4 +62,11 @@ pub fn equal_values_give_equal_answers<O: Operator>()
         (Contains keeps (at_of query) → (key : List ℕ) → Reads query key →
         value_of O.meaning writes key (at_of query) ≡ value_of O.meaning others key (at_of query)) →
         answer_of O.meaning writes keeps query ≡ answer_of O.meaning others keeps query }
+{}
+
+/// A scan against the order of keys shows the rows of the scan in their order, the last first.
+pub fn rows_back_are_rows_reversed<O: Operator>()
+    ensures { (writes : List Write) (low : List ℕ) (high : Option (List ℕ)) (at limit : ℕ) →
+        first_rows O.meaning writes at limit (reverse (named_keys writes low high)) ≡
+        take limit (reverse (rows_of O.meaning writes at (named_keys writes low high))) }
 {}

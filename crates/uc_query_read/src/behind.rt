@@ -1,5 +1,5 @@
 //! Reads of a version after writes that are newer than all its runs.
-ghost use Rattle.std.specs.Prelude.{◌≡◌, ◌∷◌, IfOk, map};
+ghost use Rattle.std.specs.Prelude.{◌≡◌, ◌∷◌, IfOk, map, reverse};
 ghost use Rattle.std.specs.Arc.{arc_value};
 ghost use Rattle.uc_oper.specs.Composition.{applied};
 ghost use Rattle.uc_model.specs.Meaning.{value_of};
@@ -8,13 +8,14 @@ ghost use Rattle.uc_query_read.specs.Answers as answers;
 ghost use Rattle.uc_query_read.specs.Answers.{named_keys};
 ghost use Rattle.uc_version_state.specs.Versions.{contents_of, writes_in};
 
+use crate::back_scan::rows_back_of_runs;
 use crate::lookup::value_of_runs;
 use crate::scan::rows_of_runs;
 use std::alloc::{AllocError, Global};
 use std::sync::Arc;
 use uc_bytes::Bytes;
 use uc_oper::{Effect, EffectRef, Operator, ValueRef, owned_value};
-use uc_rows::Rows;
+use uc_rows::{RowBuffer, Rows};
 use uc_run::{Run, SoughtKey};
 use uc_version_state::{Placed, Version};
 
@@ -72,6 +73,22 @@ pub fn rows_at<O: Operator>(
     rows_of_runs::<O>(alloc, version.runs(), low, high, at, limit)
 }
 
+/// The rows of a scan of a version against the order of keys, at a sequence, whether or not it is protected: the last, at most `limit`, of
+/// the keys from `low` on, and below `high` if there is one, that have a value. The greatest key comes first.
+pub fn rows_back_at<O: Operator>(
+    alloc: Global,
+    version: &Version,
+    low: &[u8],
+    high: &Option<Bytes>,
+    at: u64,
+    limit: u64,
+) -> Result<RowBuffer, AllocError>
+    ensures { IfOk result (λ rows. rows ≡ answers.first_rows O.meaning (writes_in version.now) at limit
+        (reverse (named_keys (writes_in version.now) low.now high.now))) }
+{
+    rows_back_of_runs::<O>(alloc, version.runs(), low, high, at, limit)
+}
+
 /// A run before those of a version, which are shared. Its own place is of no account.
 fn runs_behind(alloc: Global, newer: Arc<Run>, runs: &[Placed]) -> Result<Vec<Placed>, AllocError>
     ensures { IfOk result (λ all. contents_of all.items ≡ arc_value newer ∷ contents_of runs.now) }
@@ -104,4 +121,23 @@ pub fn rows_behind<O: Operator>(
 {
     let runs = runs_behind(alloc, newer, version.runs())?;
     rows_of_runs::<O>(alloc, &runs, low, high, at, limit)
+}
+
+/// The rows of a scan against the order of keys, as [`rows_back_at`] gives them, of a version after a run that is newer than all its
+/// runs. It copies no run.
+pub fn rows_back_behind<O: Operator>(
+    alloc: Global,
+    newer: Arc<Run>,
+    version: &Version,
+    low: &[u8],
+    high: &Option<Bytes>,
+    at: u64,
+    limit: u64,
+) -> Result<RowBuffer, AllocError>
+    ensures { IfOk result (λ rows.
+        rows ≡ answers.first_rows O.meaning (writes_of (arc_value newer ∷ contents_of version.now.runs)) at limit
+        (reverse (named_keys (writes_of (arc_value newer ∷ contents_of version.now.runs)) low.now high.now))) }
+{
+    let runs = runs_behind(alloc, newer, version.runs())?;
+    rows_back_of_runs::<O>(alloc, &runs, low, high, at, limit)
 }

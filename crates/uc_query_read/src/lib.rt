@@ -7,7 +7,7 @@
 //!
 //! [`answer_one`] returns the same answer from a version's runs. Read `answering.rt` first, then `lookup.rt`, and for
 //! scans `specs/Ahead.antt`, `specs/Walks.antt`, `walkers.rt`, `cursors.rt`, `dead_keys.rt` and `scan.rt`. `behind.rt` reads a
-//! version after newer writes.
+//! version after newer writes. For scans against the order of keys read `specs/Back.antt`, `back_walk.rt` and `back_scan.rt`.
 //!
 //! An `Err(AllocError)` comes only if an allocation fails.
 //!
@@ -17,6 +17,7 @@
 mod answer;
 mod answer_laws;
 mod answering;
+mod back_scan;
 mod back_walk;
 mod behind;
 mod cursors;
@@ -30,11 +31,11 @@ mod walkers;
 
 pub use answer::Answer;
 pub use answer_laws::{
-    equal_values_give_equal_answers, scan_is_answered_by_first_rows, scan_keys_are_named,
+    equal_values_give_equal_answers, rows_back_are_rows_reversed, scan_is_answered_by_first_rows, scan_keys_are_named,
     scan_keys_rise, scan_rows_are_determined, scan_rows_are_first, unprotected_is_refused,
 };
 pub use answering::{answer_last, answer_one, get, get_last};
-pub use behind::{rows_at, rows_behind, value_behind};
+pub use behind::{rows_at, rows_back_at, rows_back_behind, rows_behind, value_behind};
 pub use laws::{histories_keep_answers, later_events_leave_answers_alone};
 pub use plain::answer_writes;
 pub use query::Query;

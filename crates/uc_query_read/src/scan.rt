@@ -17,10 +17,10 @@ use uc_run::plain_list_is_in_order;
 use uc_version_state::Placed;
 
 /// The bytes of memory that a scan has at first for each of its rows: as many as a small row takes.
-const ROW_ROOM: usize = 64;
+pub(crate) const ROW_ROOM: usize = 64;
 
 /// For how many rows at most it has memory at first.
-const FEW_ROWS: u64 = 16;
+pub(crate) const FEW_ROWS: u64 = 16;
 
 /// The first of the keys of the runs' points in the range that have a value at the sequence, with it. A key without one
 /// doesn't count.

@@ -1,5 +1,6 @@
 //! [`RowBuffer`]: keys with their values, one after the other.
-ghost use Rattle.std.specs.Prelude.{◌≡◌, ◌<◌, ◌^◌, ◌↔◌, ◌++◌, ◌∷◌, [], length, map, IfOk, IsTrue, OnOk, OnErr};
+ghost use Rattle.std.specs.Prelude.{◌≡◌, ◌<◌, ◌^◌, ◌↔◌, ◌++◌, ◌∷◌, [], length, map, take, IfOk, IsTrue, OnOk, OnErr};
+ghost use Rattle.uc_rows.specs.Fitting.{AreFitting};
 ghost use Rattle.uc_rows.specs.RowBytes.{rows_bytes};
 ghost use Rattle.uc_rows.specs.Rising.{same_rows};
 
@@ -24,6 +25,31 @@ impl Model for RowBuffer {
     ghost view = { rows_of };
 
     ghost invariant = { AreHeld };
+}
+
+/// The bytes of the two lengths in a row.
+const LENGTHS: usize = 16;
+
+/// The number of first rows that fit a buffer, and the size of these.
+fn count_fitting(rows: RowIter<'_>, room: usize) -> (usize, usize)
+    requires count { length rows < 2 ^ 63 }
+    requires room { room < 2 ^ 63 }
+    ensures fitting { AreFitting rows.entry room result.0 }
+    ensures size { result.1 ≡ length (rows_bytes (take result.0 rows.entry)) }
+{
+    let (mut count, mut size) = (0, 0);
+    for (key, value) in rows {
+        let row = key
+            .len()
+            .saturating_add(value.len())
+            .saturating_add(LENGTHS);
+        if row > room - size {
+            break;
+        }
+        count += 1;
+        size += row;
+    }
+    (count, size)
 }
 
 impl RowBuffer {
@@ -91,6 +117,20 @@ impl RowBuffer {
         ensures { result ≡ self.now }
     {
         RowIter::new(&self.bytes, self.count)
+    }
+
+    /// The bytes of the first rows, as many as fit a buffer of this size, and how many rows these are. It costs a step for each, unless
+    /// all fit.
+    pub fn fitting(&self, room: usize) -> (&[u8], usize)
+        ensures bytes { result.0.now ≡ rows_bytes (take result.1 self.now) }
+        ensures fitting { AreFitting self.now room result.1 }
+    {
+        let (bytes, count) = (self.as_bytes(), self.len());
+        if bytes.len() <= room {
+            return (bytes, count);
+        }
+        let (count, size) = count_fitting(self.iter(), room);
+        (&bytes[..size], count)
     }
 
     /// The rows as bytes: of each the length of its key in 8 bytes, low byte first, the key, the length of its value likewise,

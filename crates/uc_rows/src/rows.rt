@@ -1,5 +1,5 @@
 //! [`Rows`]: what a scan shows.
-ghost use Rattle.std.specs.Prelude.{◌≡◌, ◌↔◌, ◌<◌, ◌≤◌, ◌^◌, [], ◌∷◌, length, take, option_map, IsTrue, IsSome, IfSome};
+ghost use Rattle.std.specs.Prelude.{◌≡◌, ◌↔◌, ◌<◌, ◌^◌, [], ◌∷◌, length, take, option_map, IsTrue, IsSome, IfSome};
 ghost use Rattle.std.specs.List.{slice_get};
 ghost use Rattle.std.proofs.Common.{rules};
 ghost use Rattle.std.specs.Cmp.Rules.{comparing};
@@ -52,31 +52,6 @@ fn keys_rise(rows: &RowBuffer) -> bool
         None => true,
         Some((first, _)) => keys_rise_above(first, ahead),
     }
-}
-
-/// The bytes of the two lengths in a row.
-const LENGTHS: usize = 16;
-
-/// The number of first rows that fit a buffer, and the size of these.
-fn count_fitting(rows: RowIter<'_>, room: usize) -> (usize, usize)
-    requires count { length rows < 2 ^ 63 }
-    requires room { room < 2 ^ 63 }
-    ensures fitting { AreFitting rows.entry room result.0 }
-    ensures size { result.1 ≡ length (rows_bytes (take result.0 rows.entry)) }
-{
-    let (mut count, mut size) = (0, 0);
-    for (key, value) in rows {
-        let row = key
-            .len()
-            .saturating_add(value.len())
-            .saturating_add(LENGTHS);
-        if row > room - size {
-            break;
-        }
-        count += 1;
-        size += row;
-    }
-    (count, size)
 }
 
 impl Rows {
@@ -144,17 +119,21 @@ impl Rows {
         self.rows.iter()
     }
 
-    /// The bytes of the first rows, as many as fit a room, and how many rows these are. It costs a step for each, unless all fit.
+    /// The rows as a buffer, which says nothing of the keys' order.
+    #[inline]
+    pub fn as_buffer(&self) -> &RowBuffer
+        ensures { result.now ≡ self.now }
+    {
+        &self.rows
+    }
+
+    /// The bytes of the first rows, as many as fit a buffer of this size, and how many rows these are. It costs a step for each, unless
+    /// all fit.
     pub fn fitting(&self, room: usize) -> (&[u8], usize)
         ensures bytes { result.0.now ≡ rows_bytes (take result.1 self.now) }
         ensures fitting { AreFitting self.now room result.1 }
     {
-        let (bytes, count) = (self.as_bytes(), self.len());
-        if bytes.len() <= room {
-            return (bytes, count);
-        }
-        let (count, size) = count_fitting(self.iter(), room);
-        (&bytes[..size], count)
+        self.rows.fitting(room)
     }
 
     /// The rows as bytes: of each the length of its key in 8 bytes, low byte first, the key, the length of its value likewise,

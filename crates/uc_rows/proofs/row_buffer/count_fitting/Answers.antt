@@ -1,7 +1,7 @@
 use Rattle.std.proofs.Common.{◌≡◌, ◌+◌, ◌-◌, ◌≤◌, inl, inr, length, sym, ◌∙◌, arith}
 use Rattle.uc_rows.specs.RowBytes.{Row}
 use Rattle.uc_rows.proofs.Fitted.{size_more, behind_row, place_below, all_there}
-use Rattle.uc_rows.proofs.rows.count_fitting.Goals as goal
+use Rattle.uc_rows.proofs.row_buffer.count_fitting.Goals as goal
 
 pub loop-key-preserved : goal.loop-key-preserved
 loop-key-preserved c =

@@ -1,6 +1,6 @@
 use Rattle.std.proofs.Common.{◌≡◌, ◌≤◌, length, take, drop}
 use Rattle.uc_rows.specs.RowBytes.{rows_bytes}
-use Rattle.uc_rows.proofs.rows.count_fitting.Given as goal
+use Rattle.uc_rows.proofs.row_buffer.count_fitting.Given as goal
 
 abbrev pub invariant-loop-key : goal.invariant-loop-key
 invariant-loop-key l = record {

@@ -1,0 +1,23 @@
+use Rattle.std.proofs.Common.{List, Option, option_map, ℕ, sym, ap, ◌∙◌, subst}
+use Rattle.std.specs.List.{AllByRecursion}
+use Rattle.uc_run.specs.Cursors.{Standing}
+use Rattle.uc_version_state.specs.Versions.{contents_of}
+use Rattle.uc_query_read.specs.Back.{back_walk_at, StandsBelow}
+use Rattle.uc_query_read.specs.Walks.{runs_of}
+use Rattle.uc_query_read.proofs.BackStanding.{all_start, runs_start}
+use Rattle.uc_query_read.proofs.back_walk.BackWalk.from.Goals as goal
+
+pub invariant_of-result : goal.invariant_of-result
+invariant_of-result c =
+    let high = c.args.high.now in
+    record {
+      stand = subst (λ (h : Option (List ℕ)). AllByRecursion (StandsBelow h) c.in_ok-cursors_below.field-0.items) (sym c.bound_of.ensures)
+          (subst (AllByRecursion (StandsBelow high)) (sym c.in_ok-cursors_below.ensures.cursors) (all_start high (contents_of c.args.runs.now)));
+      of_runs = c.in_ok-cursors_below.ensures.of_runs;
+    }
+
+pub returns : goal.returns
+returns c =
+    let high = c.args.high.now in
+    ap (λ (h : Option (List ℕ)). back_walk_at c.args.low.now h (runs_of c.in_ok-cursors_below.field-0.items)) c.bound_of.ensures
+    ∙ ap (back_walk_at c.args.low.now high) (ap runs_of c.in_ok-cursors_below.ensures.cursors ∙ runs_start high (contents_of c.args.runs.now))
