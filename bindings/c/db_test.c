@@ -272,6 +272,45 @@ static void try_cursors(struct ucstore_db *db) {
     OK(ucstore_db_cursor_close(cursor));
 }
 
+/* Moves a cursor both ways. The database has a, b, b\xff, ba and c. */
+static void try_back(struct ucstore_db *db) {
+    struct ucstore_db_cursor *cursor = NULL;
+    OK(ucstore_db_cursor(db, "a\1", 2, "c", 1, true, &cursor));
+    OK(ucstore_db_cursor_last(cursor));
+    CHECK(is_at(cursor, "b\xff", "3"));
+    OK(ucstore_db_cursor_prev(cursor));
+    CHECK(is_at(cursor, "ba", "late"));
+    OK(ucstore_db_cursor_next(cursor));
+    CHECK(is_at(cursor, "b\xff", "3"));
+    OK(ucstore_db_cursor_next(cursor));
+    CHECK(!ucstore_db_cursor_valid(cursor));
+    OK(ucstore_db_cursor_prev(cursor));
+    CHECK(!ucstore_db_cursor_valid(cursor));
+    OK(ucstore_db_cursor_seek_for_prev(cursor, "bb", 2));
+    CHECK(is_at(cursor, "ba", "late"));
+    OK(ucstore_db_cursor_seek_for_prev(cursor, "ba", 2));
+    CHECK(is_at(cursor, "ba", "late"));
+    OK(ucstore_db_cursor_prev(cursor));
+    CHECK(is_at(cursor, "b", "2"));
+    OK(ucstore_db_cursor_prev(cursor));
+    CHECK(!ucstore_db_cursor_valid(cursor));
+    OK(ucstore_db_cursor_next(cursor));
+    CHECK(!ucstore_db_cursor_valid(cursor));
+    OK(ucstore_db_cursor_status(cursor));
+    OK(ucstore_db_cursor_seek_for_prev(cursor, "z", 1));
+    CHECK(is_at(cursor, "b\xff", "3"));
+    OK(ucstore_db_cursor_seek_for_prev(cursor, "a", 1));
+    CHECK(!ucstore_db_cursor_valid(cursor));
+    OK(ucstore_db_cursor_first(cursor));
+    CHECK(is_at(cursor, "b", "2"));
+    OK(ucstore_db_cursor_next(cursor));
+    CHECK(is_at(cursor, "ba", "late"));
+    OK(ucstore_db_cursor_close(cursor));
+    CHECK(ucstore_db_cursor_first(NULL) == UCSTORE_DB_NULL && ucstore_db_cursor_last(NULL) == UCSTORE_DB_NULL);
+    CHECK(ucstore_db_cursor_prev(NULL) == UCSTORE_DB_NULL);
+    CHECK(ucstore_db_cursor_seek_for_prev(NULL, "a", 1) == UCSTORE_DB_NULL);
+}
+
 static void try_pages(struct ucstore_db *db) {
     struct ucstore_db_cursor *cursor = NULL;
     uint64_t lengths[6];
@@ -614,6 +653,7 @@ int main(int argc, char **argv) {
     try_lookups(db);
     try_batches(db);
     try_cursors(db);
+    try_back(db);
     try_pages(db);
     try_snapshots(db);
     try_sources();

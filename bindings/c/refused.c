@@ -177,8 +177,8 @@ struct call {
 enum {
     PUT, DELETE, MERGE, DELETE_RANGE, BATCH_PUT, BATCH_DELETE, BATCH_MERGE, BATCH_DELETE_RANGE, WRITE, WRITE_BYTES, PREPARE,
     PREPARE_BYTES, FLUSH, SNAPSHOT, RELEASE, GET, SOURCE, GET_AT, GET_MANY, SCAN, SCAN_AT, VIEW, VIEW_AGAIN, VIEW_GET, VIEW_SOURCE,
-    VIEW_GET_AT, VIEW_GET_MANY, VIEW_SCAN, VIEW_SCAN_AT, VIEW_CLOSE, CHECKPOINT, CHECKPOINT_NEXT, JOB, JOB_RUN, JOB_END, COMPACT, OPEN,
-    REPLAY, NEXT, KINDS
+    VIEW_GET_AT, VIEW_GET_MANY, VIEW_SCAN, VIEW_SCAN_BACK, VIEW_SCAN_AT, VIEW_CLOSE, CHECKPOINT, CHECKPOINT_NEXT, JOB, JOB_RUN,
+    JOB_END, COMPACT, OPEN, REPLAY, NEXT, KINDS
 };
 
 static size_t draw_text(uint8_t *text, size_t most) {
@@ -358,6 +358,9 @@ static int32_t try_call(const struct call *call) {
     case VIEW_SCAN:
         return ucstore_view_scan(&shown, call->key, call->key_length, call->value, call->value_length, false, UINT64_MAX, room,
                                  ROOM, &size, &number);
+    case VIEW_SCAN_BACK:
+        return ucstore_view_scan_back(&shown, call->key, call->key_length, call->value, call->value_length, false, UINT64_MAX,
+                                      room, ROOM, &size, &number);
     case VIEW_SCAN_AT:
         return ucstore_view_scan_at(&again, call->key, call->key_length, call->value, call->value_length, false, call->at,
                                     UINT64_MAX, room, ROOM, &size, &number);

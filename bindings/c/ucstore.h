@@ -508,6 +508,12 @@ int32_t ucstore_view_scan(struct ucstore_view *view, const uint8_t *low, size_t 
                           size_t high_length, bool bounded, uint64_t limit, uint8_t *room, size_t room_length, size_t *size,
                           uint64_t *rows);
 
+/* Scans a view in the reverse of the keys' byte order: the last rows of the range, the greatest key first. Otherwise like
+ * `ucstore_view_scan`.
+ * UCSTORE_NO_VIEW, UCSTORE_OUT_OF_MEMORY. */
+int32_t ucstore_view_scan_back(struct ucstore_view *view, const uint8_t *low, size_t low_length, const uint8_t *high,
+                               size_t high_length, bool bounded, uint64_t limit, uint8_t *room, size_t room_length,
+                               size_t *size, uint64_t *rows);
 /* Scans a view, at a snapshot that the store had when the view was taken, as `ucstore_view_scan` does.
  * UCSTORE_NO_VIEW, UCSTORE_NOT_PROTECTED, UCSTORE_OUT_OF_MEMORY. */
 int32_t ucstore_view_scan_at(struct ucstore_view *view, const uint8_t *low, size_t low_length, const uint8_t *high,

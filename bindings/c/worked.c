@@ -464,6 +464,15 @@ static bool view_scan(struct ucstore_view *view, uint8_t *room, size_t room_leng
     return answer == status && told == size && found == rows;
 }
 
+/* The same against the order of keys. */
+static bool view_scan_back(struct ucstore_view *view, uint8_t *room, size_t room_length, int32_t status, size_t size,
+                           uint64_t rows) {
+    size_t told = 7;
+    uint64_t found = 7;
+    const int32_t answer = ucstore_view_scan_back(view, NULL, 0, NULL, 0, false, 9, room, room_length, &told, &found);
+    return answer == status && told == size && found == rows;
+}
+
 /* The same at a sequence number. */
 static bool view_scan_at(struct ucstore_view *view, uint64_t at, uint8_t *room, size_t room_length, int32_t status, size_t size,
                          uint64_t rows) {
@@ -501,8 +510,9 @@ static void view_look_up_many(struct ucstore_view *view) {
 
 /* Scans a view: at the last sequence number, at the snapshot of that time, and at a sequence number without one. */
 static void view_scan_all(struct ucstore_view *view) {
-    uint8_t room[sizeof row] = {0}, then[sizeof row] = {0};
+    uint8_t room[sizeof row] = {0}, then[sizeof row] = {0}, back[sizeof row] = {0};
     CHECK(view_scan(view, room, sizeof room, UCSTORE_OK, 20, 1) && memcmp(room, row, sizeof row) == 0);
+    CHECK(view_scan_back(view, back, sizeof back, UCSTORE_OK, 20, 1) && memcmp(back, row, sizeof row) == 0);
     CHECK(view_scan_at(view, 1, then, sizeof then, UCSTORE_OK, 18, 1) && memcmp(then, old_row, sizeof old_row) == 0);
     CHECK(view_scan_at(view, 2, then, sizeof then, UCSTORE_NOT_PROTECTED, 7, 7) && memcmp(then, old_row, sizeof old_row) == 0);
 }
@@ -544,6 +554,7 @@ static void refuse_view_reads(struct ucstore_view *view) {
     CHECK(view_get_at(view, 0, NULL, 0, UCSTORE_NO_VIEW, 7));
     CHECK(view_get_many(view, ones, lengths, NULL, 0, UCSTORE_NO_VIEW, 7) && lengths[0] == 7 && lengths[1] == 7);
     CHECK(view_scan(view, NULL, 0, UCSTORE_NO_VIEW, 7, 7));
+    CHECK(view_scan_back(view, NULL, 0, UCSTORE_NO_VIEW, 7, 7));
     CHECK(view_scan_at(view, 0, NULL, 0, UCSTORE_NO_VIEW, 7, 7));
     CHECK(view_last(view, UCSTORE_NO_VIEW, 7));
     CHECK(ucstore_view_report(view, &report) == UCSTORE_NO_VIEW && is_unreported(&report, REPORT_SIZE));

@@ -14,11 +14,20 @@ pub struct Cursor {
     snapshot: Snapshot,
     low: Vec<u8>,
     high: Option<Vec<u8>>,
+    /// The rows from the cursor's on, in its direction.
     rows: Rows,
-    /// The row that `rows` lent last; none after the last row.
+    direction: Direction,
+    /// The row that `rows` lent last; none beyond the first and the last row.
     row: Option<Row>,
     /// Why no row could be fetched, if that is so.
     failure: Option<Error>,
+}
+
+/// Where the rows of a cursor lead.
+#[derive(Clone, Copy, PartialEq, Eq)]
+enum Direction {
+    Forward,
+    Back,
 }
 
 /// A key and its value, which lie in the page of the rows.
@@ -55,26 +64,83 @@ impl Cursor {
             snapshot,
             low: low.to_vec(),
             high: high.map(<[u8]>::to_vec),
+            direction: Direction::Forward,
             row: None,
             failure: None,
         };
-        cursor.step()?;
+        cursor.take()?;
         Ok(cursor)
     }
 
-    /// Goes to the first row of the range at or above a key.
+    /// Moves to the first row of the range at or above a key.
     fn seek(&mut self, key: &[u8]) -> Result<(), Refusal> {
-        self.row = None;
-        let low = key.max(&self.low);
-        self.rows = self.snapshot.range(low, self.high.as_deref())?;
-        self.failure = None;
-        self.step()
+        let low = key.max(&self.low).to_vec();
+        let high = self.high.clone();
+        self.start(&low, high.as_deref(), Direction::Forward)
     }
 
-    /// Goes to the next row.
-    fn step(&mut self) -> Result<(), Refusal> {
+    /// Moves to the last row of the range at or below a key.
+    fn seek_for_prev(&mut self, key: &[u8]) -> Result<(), Refusal> {
+        let low = self.low.clone();
+        let mut high = after(key);
+        if let Some(bound) = &self.high {
+            high = high.min(bound.clone());
+        }
+        self.start(&low, Some(&high), Direction::Back)
+    }
+
+    /// Moves to the first or the last row of the range.
+    fn rewind(&mut self, direction: Direction) -> Result<(), Refusal> {
+        let (low, high) = (self.low.clone(), self.high.clone());
+        self.start(&low, high.as_deref(), direction)
+    }
+
+    /// Moves to the first or the last row between two keys.
+    fn start(
+        &mut self,
+        low: &[u8],
+        high: Option<&[u8]>,
+        direction: Direction,
+    ) -> Result<(), Refusal> {
         self.row = None;
-        match self.rows.next_row() {
+        self.failure = None;
+        self.rows = self.snapshot.range(low, high)?;
+        self.direction = direction;
+        self.take()
+    }
+
+    /// Moves to the next row.
+    fn step(&mut self) -> Result<(), Refusal> {
+        match self.row() {
+            Some((key, _)) if self.direction == Direction::Back => {
+                let (low, high) = (after(key), self.high.clone());
+                self.start(&low, high.as_deref(), Direction::Forward)
+            }
+            Some(_) => self.take(),
+            None => Ok(()),
+        }
+    }
+
+    /// Moves to the row before.
+    fn step_back(&mut self) -> Result<(), Refusal> {
+        match self.row() {
+            Some((key, _)) if self.direction == Direction::Forward => {
+                let (low, high) = (self.low.clone(), key.to_vec());
+                self.start(&low, Some(&high), Direction::Back)
+            }
+            Some(_) => self.take(),
+            None => Ok(()),
+        }
+    }
+
+    /// Takes the next one of the rows.
+    fn take(&mut self) -> Result<(), Refusal> {
+        self.row = None;
+        let row = match self.direction {
+            Direction::Forward => self.rows.next_row(),
+            Direction::Back => self.rows.next_row_back(),
+        };
+        match row {
             Ok(row) => {
                 self.row = row.map(|(key, value)| Row {
                     key: key.into(),
@@ -152,6 +218,11 @@ unsafe fn bounds<'a>(
         (text(low, low_length)?, high)
     };
     Ok((low, high))
+}
+
+/// The least key above a key.
+fn after(key: &[u8]) -> Vec<u8> {
+    [key, &[0]].concat()
 }
 
 /// The least key above all that begin with a prefix; none if there is no key above them.
@@ -264,6 +335,41 @@ pub unsafe extern "C" fn ucstore_db_cursor_seek(
         let (cursor, key) = unsafe { (Handle::get_mut(cursor)?, text(key, key_length)?) };
         cursor.seek(key)
     })
+}
+
+/// Moves to the last row at or below a key.
+#[no_mangle]
+pub unsafe extern "C" fn ucstore_db_cursor_seek_for_prev(
+    cursor: *mut CursorHandle,
+    key: *const c_void,
+    key_length: usize,
+) -> i32 {
+    call(|| {
+        // SAFETY: C owes the handle, which no other call uses, and the key.
+        let (cursor, key) = unsafe { (Handle::get_mut(cursor)?, text(key, key_length)?) };
+        cursor.seek_for_prev(key)
+    })
+}
+
+/// Moves to the first row.
+#[no_mangle]
+pub unsafe extern "C" fn ucstore_db_cursor_first(cursor: *mut CursorHandle) -> i32 {
+    // SAFETY: C owes the handle, which no other call uses.
+    call(|| unsafe { Handle::get_mut(cursor) }?.rewind(Direction::Forward))
+}
+
+/// Moves to the last row.
+#[no_mangle]
+pub unsafe extern "C" fn ucstore_db_cursor_last(cursor: *mut CursorHandle) -> i32 {
+    // SAFETY: C owes the handle, which no other call uses.
+    call(|| unsafe { Handle::get_mut(cursor) }?.rewind(Direction::Back))
+}
+
+/// Moves to the row before.
+#[no_mangle]
+pub unsafe extern "C" fn ucstore_db_cursor_prev(cursor: *mut CursorHandle) -> i32 {
+    // SAFETY: C owes the handle, which no other call uses.
+    call(|| unsafe { Handle::get_mut(cursor) }?.step_back())
 }
 
 /// Moves to the next row.

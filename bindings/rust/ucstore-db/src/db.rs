@@ -293,6 +293,24 @@ impl Db {
         self.snapshot_to_scan()?.iter()
     }
 
+    /// The least key that has a value, with it.
+    ///
+    /// # Errors
+    ///
+    /// As [`get`](Db::get).
+    pub fn first_key_value(&self) -> Result<Option<(Vec<u8>, Vec<u8>)>, Error> {
+        self.snapshot_to_scan()?.first_key_value()
+    }
+
+    /// The greatest key that has a value, with it.
+    ///
+    /// # Errors
+    ///
+    /// As [`get`](Db::get).
+    pub fn last_key_value(&self) -> Result<Option<(Vec<u8>, Vec<u8>)>, Error> {
+        self.snapshot_to_scan()?.last_key_value()
+    }
+
     /// The keys from `low` to below `high`, or to the last one, with their values, at one moment.
     ///
     /// # Errors

@@ -9,9 +9,9 @@ use std::mem::MaybeUninit;
 use std::sync::Arc;
 use ucstore::{Scan, View};
 
-/// The rows of a range, in the order of their keys' bytes, as they were when it was made. They are fetched in pages.
+/// The rows of a range, in the order of their keys' bytes, as they were when it was made. They are fetched in pages, from both ends.
 ///
-/// [`next_row`](Scan::next_row) lends each row; as an iterator it copies them.
+/// [`next_row`](Scan::next_row) and [`next_row_back`](Scan::next_row_back) lend each row; as an iterator it copies them.
 pub type Rows = Scan<View>;
 
 /// The contents of a database at a moment. They stay so, whatever is written, and it ends where it is dropped. Each thread reads
@@ -137,6 +137,24 @@ impl Snapshot {
     /// As [`get`](Snapshot::get), also for each row.
     pub fn iter(&self) -> Result<Rows, Error> {
         self.range("", None)
+    }
+
+    /// The least key that has a value, with it.
+    ///
+    /// # Errors
+    ///
+    /// As [`get`](Snapshot::get).
+    pub fn first_key_value(&self) -> Result<Option<(Vec<u8>, Vec<u8>)>, Error> {
+        Ok(self.iter()?.next().transpose()?)
+    }
+
+    /// The greatest key that has a value, with it.
+    ///
+    /// # Errors
+    ///
+    /// As [`get`](Snapshot::get).
+    pub fn last_key_value(&self) -> Result<Option<(Vec<u8>, Vec<u8>)>, Error> {
+        Ok(self.iter()?.next_back().transpose()?)
     }
 
     /// The keys from `low` to below `high`, or to the last one, with their values.

@@ -434,6 +434,19 @@ extern "C" {
         size: *mut usize,
         rows: *mut u64,
     ) -> i32;
+    pub fn ucstore_view_scan_back(
+        view: *mut ucstore_view,
+        low: *const u8,
+        low_length: usize,
+        high: *const u8,
+        high_length: usize,
+        bounded: bool,
+        limit: u64,
+        room: *mut u8,
+        room_length: usize,
+        size: *mut usize,
+        rows: *mut u64,
+    ) -> i32;
     pub fn ucstore_view_scan_at(
         view: *mut ucstore_view,
         low: *const u8,

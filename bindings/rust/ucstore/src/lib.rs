@@ -88,6 +88,6 @@ pub use replay::{Replay, Replayed};
 pub use report::Report;
 pub use scan::Scan;
 pub use snapshot::Snapshot;
-pub use source::Source;
+pub use source::{BackSource, Source};
 pub use store::Store;
 pub use view::View;

@@ -33,7 +33,7 @@ type GetMany<H> = unsafe extern "C" fn(
     usize,
     *mut usize,
 ) -> i32;
-type ScanRows<H> = unsafe extern "C" fn(
+pub(crate) type ScanRows<H> = unsafe extern "C" fn(
     *mut H,
     *const u8,
     usize,
@@ -194,47 +194,57 @@ impl<H> Reads<H> {
         }
     }
 
-    /// The first rows of a range, as many as fit the room: how many these are, and the size of all.
-    pub(crate) fn rows(&self, range: &Range<'_>, room: Buffer<'_>) -> Result<(u64, usize), Error> {
+    /// Calls a function that scans a range at the last sequence: the number of rows that fit the buffer, and the size of all.
+    pub(crate) fn rows_by(
+        &self,
+        scan: ScanRows<H>,
+        range: &Range<'_>,
+        buffer: Buffer<'_>,
+    ) -> Result<(u64, usize), Error> {
         let (mut size, mut rows) = (0, 0);
-        let (low, high) = (range.low, range.high.unwrap_or(&[]));
-        let (low, low_length) = (low.as_ptr(), low.len());
-        let (high, high_length) = (high.as_ptr(), high.len());
-        let (is_bounded, limit) = (range.high.is_some(), range.limit);
-        let (functions, store) = (self.functions, self.handle);
-        let (place, length) = (room.as_mut_ptr().cast(), room.len());
-        check(match range.at {
-            None => unsafe {
-                (functions.scan)(
-                    store,
-                    low,
-                    low_length,
-                    high,
-                    high_length,
-                    is_bounded,
-                    limit,
-                    place,
-                    length,
-                    &mut size,
-                    &mut rows,
-                )
-            },
-            Some(at) => unsafe {
-                (functions.scan_at)(
-                    store,
-                    low,
-                    low_length,
-                    high,
-                    high_length,
-                    is_bounded,
-                    at,
-                    limit,
-                    place,
-                    length,
-                    &mut size,
-                    &mut rows,
-                )
-            },
+        let high = range.high.unwrap_or(&[]);
+        // SAFETY: The addresses are those of slices, and nothing else calls for the handle meanwhile.
+        check(unsafe {
+            scan(
+                self.handle,
+                range.low.as_ptr(),
+                range.low.len(),
+                high.as_ptr(),
+                high.len(),
+                range.high.is_some(),
+                range.limit,
+                buffer.as_mut_ptr().cast(),
+                buffer.len(),
+                &mut size,
+                &mut rows,
+            )
+        })?;
+        Ok((rows, size))
+    }
+
+    /// The first rows of a range, as many as fit the buffer: how many these are, and the size of all.
+    pub(crate) fn rows(&self, range: &Range<'_>, room: Buffer<'_>) -> Result<(u64, usize), Error> {
+        let Some(at) = range.at else {
+            return self.rows_by(self.functions.scan, range, room);
+        };
+        let (mut size, mut rows) = (0, 0);
+        let high = range.high.unwrap_or(&[]);
+        // SAFETY: The addresses are those of slices, and nothing else calls for the handle meanwhile.
+        check(unsafe {
+            (self.functions.scan_at)(
+                self.handle,
+                range.low.as_ptr(),
+                range.low.len(),
+                high.as_ptr(),
+                high.len(),
+                range.high.is_some(),
+                at,
+                range.limit,
+                room.as_mut_ptr().cast(),
+                room.len(),
+                &mut size,
+                &mut rows,
+            )
         })?;
         Ok((rows, size))
     }

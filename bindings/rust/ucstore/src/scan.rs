@@ -3,22 +3,168 @@
 use crate::error::Error;
 use crate::memory::copy;
 use crate::reads::Range;
-use crate::source::Source;
+use crate::source::{BackSource, Buffer, Source};
 use std::iter::FusedIterator;
 use std::ops;
 
-/// How many rows the first page has at most: many scans read no more. Each page may have twice as many as the one before.
+/// The most rows of the first page: many scans read no more. Each page may have twice as many as the one before.
 const FIRST_ROWS: u64 = 16;
 
-/// How many rows a page has at most.
+/// The most rows of a page.
 const PAGE_ROWS: u64 = 512;
 
 /// The bytes of the first page, and of later ones at first.
 const FIRST_BYTES: usize = 4 * 1024;
 const PAGE_BYTES: usize = 16 * 1024;
 
+/// The bytes of a length.
+const LENGTH: usize = 8;
+
 /// A borrowed key and its value.
 type Row<'a> = (&'a [u8], &'a [u8]);
+
+/// Where a key and its value are in a page.
+type Place = (ops::Range<usize>, ops::Range<usize>);
+
+/// The least key above all that begin with a prefix; none if there is no key above them.
+pub(crate) fn end_of_prefix(prefix: &[u8]) -> Option<Vec<u8>> {
+    let last = prefix.iter().rposition(|byte| *byte != u8::MAX)?;
+    let mut end = prefix[..=last].to_vec();
+    end[last] += 1;
+    Some(end)
+}
+
+/// Rows that were fetched from one end of a range, the one nearest to that end first.
+#[derive(Debug)]
+struct Page {
+    bytes: Vec<u8>,
+    /// Where the next row begins.
+    next: usize,
+    /// The number of rows that are left.
+    left: usize,
+    /// Where the farthest row begins.
+    farthest: usize,
+    /// Where each row that is left begins, if rows were taken from the page's far end.
+    starts: Vec<usize>,
+    /// The most rows that the next page has.
+    limit: u64,
+}
+
+impl Page {
+    fn new() -> Page {
+        Page {
+            bytes: Vec::new(),
+            next: 0,
+            left: 0,
+            farthest: 0,
+            starts: Vec::new(),
+            limit: FIRST_ROWS,
+        }
+    }
+
+    /// Fetches a page, and tells whether no row is left to be fetched. After a page whose rows don't all fit, the next one asks for no
+    /// more rows than did; after one that is less than half full it asks for twice as many. The page grows only if its first row
+    /// doesn't fit.
+    fn fetch(
+        &mut self,
+        rows: impl Fn(u64, Buffer<'_>) -> Result<(u64, usize), Error>,
+    ) -> Result<bool, Error> {
+        self.bytes.clear();
+        self.starts.clear();
+        let least = match self.bytes.capacity() {
+            0 => FIRST_BYTES,
+            _ => PAGE_BYTES,
+        };
+        self.bytes.try_reserve_exact(least)?;
+        loop {
+            let (count, size) = rows(self.limit, self.bytes.spare_capacity_mut())?;
+            let all_fit = size <= self.bytes.capacity();
+            if all_fit || count > 0 {
+                (self.next, self.left) = (0, count as usize);
+                // SAFETY: This many rows were copied there.
+                let (farthest, end) = unsafe { last_of_rows(self.bytes.as_ptr(), count) };
+                unsafe { self.bytes.set_len(end) };
+                self.farthest = farthest;
+                let is_last = all_fit && count < self.limit;
+                if !all_fit {
+                    self.limit = count;
+                } else if 2 * size <= PAGE_BYTES {
+                    self.limit = PAGE_ROWS.min(2 * self.limit);
+                }
+                return Ok(is_last);
+            }
+            if self.limit == 1 {
+                self.bytes.try_reserve_exact(size)?;
+            }
+            self.limit = 1;
+        }
+    }
+
+    /// Takes the row nearest to the end from which the page was fetched.
+    fn take_near(&mut self) -> Option<Place> {
+        self.left = self.left.checked_sub(1)?;
+        let (key, value) = self.row_at(self.next);
+        self.next = value.end;
+        Some((key, value))
+    }
+
+    /// Takes the row farthest from that end.
+    fn take_far(&mut self) -> Result<Option<Place>, Error> {
+        if self.left == 0 {
+            return Ok(None);
+        }
+        if self.starts.is_empty() {
+            self.starts.try_reserve_exact(self.left)?;
+            let mut start = self.next;
+            for _ in 0..self.left {
+                self.starts.push(start);
+                start = self.row_at(start).1.end;
+            }
+        }
+        self.left -= 1;
+        Ok(self.starts.pop().map(|start| self.row_at(start)))
+    }
+
+    /// The key of the farthest row, if there are rows.
+    fn farthest_key(&self) -> Option<&[u8]> {
+        (self.left > 0).then(|| &self.bytes[self.bytes_at(self.farthest)])
+    }
+
+    /// Where the row that begins at a place is: each of key and value follows its length.
+    fn row_at(&self, start: usize) -> Place {
+        let key = self.bytes_at(start);
+        let value = self.bytes_at(key.end);
+        (key, value)
+    }
+
+    fn bytes_at(&self, start: usize) -> ops::Range<usize> {
+        let length = self.bytes[start..].first_chunk().expect("a length");
+        let begin = start + LENGTH;
+        begin..begin + u64::from_le_bytes(*length) as usize
+    }
+
+    fn row(&self, (key, value): Place) -> Row<'_> {
+        (&self.bytes[key], &self.bytes[value])
+    }
+}
+
+/// Where the last of some rows begins, and where it ends.
+///
+/// # Safety
+///
+/// The rows are at the address.
+unsafe fn last_of_rows(page: *const u8, rows: u64) -> (usize, usize) {
+    let (mut start, mut end) = (0, 0);
+    for _ in 0..rows {
+        start = end;
+        for _ in 0..2 {
+            // SAFETY: A length begins there.
+            let length = unsafe { page.add(end).cast::<[u8; LENGTH]>().read() };
+            end += LENGTH + u64::from_le_bytes(length) as usize;
+        }
+    }
+    (start, end)
+}
 
 /// The keys of a range in order, each with its value, from [`Store::scan`](crate::Store::scan) or
 /// [`View::scan`](crate::View::scan). Rows are fetched in pages. A scan of a store at its last sequence number sees writes made
@@ -38,48 +184,36 @@ type Row<'a> = (&'a [u8], &'a [u8]);
 /// # Ok(())
 /// # }
 /// ```
+///
+/// A scan of a view at its last sequence number goes both ways:
+///
+/// ```
+/// # use ucstore::{Operator, Options, Store};
+/// # fn main() -> Result<(), ucstore::Error> {
+/// let store = Store::create(Operator::Append, &Options::default())?;
+/// store.put("a", "1")?;
+/// store.put("b", "2")?;
+/// let view = store.view()?;
+/// let keys: Result<Vec<_>, _> = view.scan("", None).rev().map(|row| Ok(row?.0)).collect();
+/// assert_eq!(keys, Ok(vec![b"b".to_vec(), b"a".to_vec()]));
+/// # Ok(())
+/// # }
+/// ```
 #[derive(Debug)]
 pub struct Scan<S> {
     source: S,
     /// The sequence of a snapshot, or the last one.
     at: Option<u64>,
-    /// Where the next page begins.
+    /// The bounds of the rows that aren't fetched yet.
     low: Vec<u8>,
     high: Option<Vec<u8>>,
+    /// Whether no row is between these bounds.
+    is_fetched: bool,
     /// An error of the scan's making, for the first row.
     failure: Option<Error>,
-    page: Vec<u8>,
-    /// Where the next row begins in the page.
-    place: usize,
-    /// How many rows are left in the page.
-    left: u64,
-    /// How many rows the next page has at most.
-    limit: u64,
-    /// Whether no page comes after this one.
-    is_last: bool,
-}
-
-/// The least key above all that begin with a prefix; none if there is no key above them.
-pub(crate) fn end_of_prefix(prefix: &[u8]) -> Option<Vec<u8>> {
-    let last = prefix.iter().rposition(|byte| *byte != u8::MAX)?;
-    let mut end = prefix[..=last].to_vec();
-    end[last] += 1;
-    Some(end)
-}
-
-/// The bytes of as many rows: each is two byte strings, which follow their lengths.
-///
-/// # Safety
-///
-/// They are at the address.
-unsafe fn size_of_rows(page: *const u8, rows: u64) -> usize {
-    let mut size = 0;
-    for _ in 0..2 * rows {
-        // SAFETY: A length begins there.
-        let length = unsafe { page.add(size).cast::<[u8; 8]>().read() };
-        size += 8 + u64::from_le_bytes(length) as usize;
-    }
-    size
+    /// The rows before those that aren't fetched, and those after them.
+    front: Page,
+    back: Page,
 }
 
 impl<S: Source> Scan<S> {
@@ -92,12 +226,10 @@ impl<S: Source> Scan<S> {
             at,
             low,
             high,
+            is_fetched: false,
             failure,
-            page: Vec::new(),
-            place: 0,
-            left: 0,
-            limit: FIRST_ROWS,
-            is_last: false,
+            front: Page::new(),
+            back: Page::new(),
         }
     }
 
@@ -107,91 +239,109 @@ impl<S: Source> Scan<S> {
     ///
     /// Those of the scan. After an error there are no more rows.
     pub fn next_row(&mut self) -> Result<Option<Row<'_>>, Error> {
-        if self.left == 0 && !self.is_last {
-            self.fetch().inspect_err(|_| self.is_last = true)?;
+        if self.front.left == 0 && !self.is_fetched {
+            self.fetch_front().inspect_err(|_| self.end())?;
         }
-        if self.left == 0 {
-            return Ok(None);
+        if let Some(place) = self.front.take_near() {
+            return Ok(Some(self.front.row(place)));
         }
-        let (key, value) = self.row();
-        if self.left == 0 && !self.is_last {
-            self.go_on_after(key.clone())
-                .inspect_err(|_| self.is_last = true)?;
-        }
-        Ok(Some((&self.page[key], &self.page[value])))
+        let place = self.back.take_far().inspect_err(|_| self.end())?;
+        Ok(place.map(|place| self.back.row(place)))
     }
 
-    /// Lets the next page begin after a key of this one: no key is between it and itself with a zero byte.
-    fn go_on_after(&mut self, key: ops::Range<usize>) -> Result<(), Error> {
-        let key = &self.page[key];
-        self.low.clear();
-        self.low.try_reserve(key.len() + 1)?;
-        self.low.extend_from_slice(key);
-        self.low.push(0);
-        Ok(())
-    }
-
-    /// Fetches the next page. After one whose rows don't all fit, the next one asks for no more rows than did; after one that is less
-    /// than half full it asks for twice as many. The page grows only if its first row doesn't fit.
-    fn fetch(&mut self) -> Result<(), Error> {
+    /// Fetches rows from the front. Those that aren't fetched then begin after the last of these: no key is between that and itself
+    /// with a zero byte.
+    fn fetch_front(&mut self) -> Result<(), Error> {
         if let Some(failure) = self.failure.take() {
             return Err(failure);
         }
-        self.page.clear();
-        let least = match self.page.capacity() {
-            0 => FIRST_BYTES,
-            _ => PAGE_BYTES,
-        };
-        self.page.try_reserve_exact(least)?;
-        loop {
+        self.is_fetched = self.front.fetch(|limit, buffer| {
             let range = Range {
                 low: &self.low,
                 high: self.high.as_deref(),
                 at: self.at,
-                limit: self.limit,
+                limit,
             };
-            let (rows, size) = self.source.rows(&range, self.page.spare_capacity_mut())?;
-            let all_fit = size <= self.page.capacity();
-            if all_fit || rows > 0 {
-                // SAFETY: As many rows were copied there.
-                unsafe { self.page.set_len(size_of_rows(self.page.as_ptr(), rows)) };
-                self.is_last = all_fit && rows < self.limit;
-                if !all_fit {
-                    self.limit = rows;
-                } else if 2 * size <= PAGE_BYTES {
-                    self.limit = PAGE_ROWS.min(2 * self.limit);
-                }
-                (self.left, self.place) = (rows, 0);
-                return Ok(());
-            }
-            if self.limit == 1 {
-                self.page.try_reserve_exact(size)?;
-            }
-            self.limit = 1;
+            self.source.rows(&range, buffer)
+        })?;
+        if let Some(key) = self.front.farthest_key() {
+            self.low.clear();
+            self.low.try_reserve(key.len() + 1)?;
+            self.low.extend_from_slice(key);
+            self.low.push(0);
         }
+        Ok(())
     }
 
-    /// Where the next text of the page is, behind its length.
-    fn text(&mut self) -> ops::Range<usize> {
-        let length = self.page[self.place..].first_chunk().expect("a length");
-        let begin = self.place + 8;
-        self.place = begin + u64::from_le_bytes(*length) as usize;
-        begin..self.place
+    /// Lets no row follow.
+    fn end(&mut self) {
+        self.is_fetched = true;
+        (self.front.left, self.back.left) = (0, 0);
+    }
+}
+
+impl<S: BackSource> Scan<S> {
+    /// Returns the last key that wasn't returned yet and its value, valid until the next call, or `None` if there is none.
+    ///
+    /// # Errors
+    ///
+    /// Those of the scan, and [`Error::NotProtected`] for a scan at a snapshot's sequence number, which only goes forward. After an
+    /// error there are no more rows.
+    pub fn next_row_back(&mut self) -> Result<Option<Row<'_>>, Error> {
+        if self.back.left == 0 && !self.is_fetched {
+            self.fetch_back().inspect_err(|_| self.end())?;
+        }
+        if let Some(place) = self.back.take_near() {
+            return Ok(Some(self.back.row(place)));
+        }
+        let place = self.front.take_far().inspect_err(|_| self.end())?;
+        Ok(place.map(|place| self.front.row(place)))
     }
 
-    /// Where the next row of the page is.
-    fn row(&mut self) -> (ops::Range<usize>, ops::Range<usize>) {
-        self.left -= 1;
-        (self.text(), self.text())
+    /// Fetches rows from the back. Those that aren't fetched then end before the last of these.
+    fn fetch_back(&mut self) -> Result<(), Error> {
+        if let Some(failure) = self.failure.take() {
+            return Err(failure);
+        }
+        if self.at.is_some() {
+            return Err(Error::NotProtected);
+        }
+        self.is_fetched = self.back.fetch(|limit, buffer| {
+            let range = Range {
+                low: &self.low,
+                high: self.high.as_deref(),
+                at: None,
+                limit,
+            };
+            self.source.rows_back(&range, buffer)
+        })?;
+        if let Some(key) = self.back.farthest_key() {
+            let high = self.high.get_or_insert_with(Vec::new);
+            high.clear();
+            high.try_reserve(key.len())?;
+            high.extend_from_slice(key);
+        }
+        Ok(())
     }
+}
+
+/// Copies a row.
+fn owned(row: Result<Option<Row<'_>>, Error>) -> Option<Result<(Vec<u8>, Vec<u8>), Error>> {
+    let row = row.transpose()?;
+    Some(row.and_then(|(key, value)| Ok((copy(key)?, copy(value)?))))
 }
 
 impl<S: Source> Iterator for Scan<S> {
     type Item = Result<(Vec<u8>, Vec<u8>), Error>;
 
     fn next(&mut self) -> Option<Self::Item> {
-        let row = self.next_row().transpose()?;
-        Some(row.and_then(|(key, value)| Ok((copy(key)?, copy(value)?))))
+        owned(self.next_row())
+    }
+}
+
+impl<S: BackSource> DoubleEndedIterator for Scan<S> {
+    fn next_back(&mut self) -> Option<Self::Item> {
+        owned(self.next_row_back())
     }
 }
 
