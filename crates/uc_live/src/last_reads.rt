@@ -145,6 +145,6 @@ pub(crate) fn last_rows_back<O: Operator>(
     if gathered.is_empty() {
         return rows_back_at::<O>(alloc, version, low, high, version.last(), limit);
     }
-    let newer = sorted(alloc, gathered)?;
-    sorted_rows_back::<O>(alloc, version, gathered, newer, low, high, limit)
+    let run = sorted(alloc, gathered)?;
+    sorted_rows_back::<O>(alloc, version, gathered, run, low, high, limit)
 }
