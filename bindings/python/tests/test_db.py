@@ -121,6 +121,16 @@ class Calls(InFolder):
             self.assertEqual(list(db.keys(prefix=b"0012")), [b"%05d" % key for key in range(120, 130)])
             self.assertEqual(list(db.keys(prefix=b"")), [key for key, _ in rows])
             self.assertEqual(list(db.items(b"5", b"4")), [])
+            self.assertEqual(list(db.items(reverse=True)), rows[::-1])
+            self.assertEqual(list(reversed(db.items(b"00100", b"02999"))), rows[100:2999][::-1])
+            self.assertEqual(list(reversed(db)), [key for key, _ in rows[::-1]])
+            self.assertEqual(list(db.values(prefix=b"\xff", reverse=True)), [b"2", b"1"])
+            self.assertEqual(list(db.items(b"5", b"4", reverse=True)), [])
+            self.assertEqual(list(db.keys(prefix=b"0012", reverse=True)), [b"%05d" % key for key in range(129, 119, -1)])
+            few = db.items()
+            self.assertEqual(next(few), rows[0])
+            few.close()
+            self.assertEqual(list(few), [])
             for bounds in (b"a", None), (b"", b"b"):
                 with self.assertRaises(TypeError):
                     db.items(*bounds, prefix=b"p")

@@ -118,6 +118,7 @@ _SIGNATURES: Dict[str, Sequence[Any]] = {
     "snapshot_cursor": _CURSOR,
     "snapshot_prefix": _PREFIX,
     "snapshot_close": (_Pointer,),
+    "cursor_last": (_Pointer,),
     "cursor_page": (_Pointer, *_PLACE, *_PLACE, _Pointer, _Pointer),
     "cursor_close": (_Pointer,),
 }

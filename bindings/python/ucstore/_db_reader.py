@@ -92,10 +92,12 @@ class Cursor(Alone):
 
     _close = "cursor_close"
 
-    def pages(self) -> Iterator[Iterator[bytes]]:
+    def pages(self, reverse: bool) -> Iterator[Iterator[bytes]]:
         """Yields the rows in pages: keys, each followed by its value. Closes the cursor at the end."""
         count, length = 2 * _PAGE_ROWS, _PAGE_BYTES
         try:
+            if reverse:
+                self._call("cursor_last")
             while True:
                 lengths, room = (_U64 * count)(), (ctypes.c_char * length)()
                 found = self._fill(lengths, room)
@@ -122,6 +124,34 @@ class Cursor(Alone):
             return 0, size.value
         self._check(status)
         return (rows.value, size.value) if rows.value > 0 else None
+
+
+class Rows(Iterator[_Row]):
+    """The keys of a range with their values, from `items`. Rows are fetched in pages.
+
+    `reversed(rows)` returns them in reverse, if no row was taken yet. They are freed after the last row, or by `close`.
+    """
+
+    def __init__(self, cursor: Cursor, reverse: bool) -> None:
+        self._cursor, self._reverse = cursor, reverse
+        pages = cursor.pages(reverse)
+        self._rows = itertools.chain.from_iterable(zip(texts, texts) for texts in pages)
+
+    def __iter__(self) -> Iterator[_Row]:
+        # The loop calls no Python code for each row.
+        return self._rows
+
+    def __next__(self) -> _Row:
+        return next(self._rows)
+
+    def __reversed__(self) -> Rows:
+        """Returns the rows in reverse."""
+        return Rows(self._cursor, not self._reverse)
+
+    def close(self) -> None:
+        """Frees the rows: there are no more. A second call does nothing."""
+        self._rows = iter(())
+        self._cursor.close()
 
 
 class Reader(Handle):
@@ -164,26 +194,34 @@ class Reader(Handle):
             length = size.value
 
     def items(
-        self, low: Bytes = b"", high: Optional[Bytes] = None, *, prefix: Optional[Bytes] = None
-    ) -> Iterator[_Row]:
+        self, low: Bytes = b"", high: Optional[Bytes] = None, *, prefix: Optional[Bytes] = None, reverse: bool = False
+    ) -> Rows:
         """Returns an iterator over the keys from `low` to below `high`, or those that begin with `prefix`, with their values.
 
-        They are read at the point in time of the call, and fetched in pages. Without `high` the range goes to the last key.
+        They are read at the point in time of the call, and fetched in pages. Without `high` the range goes to the last key. With
+        `reverse` the greatest key comes first.
         """
-        pages = self._cursor(low, high, prefix).pages()
-        return itertools.chain.from_iterable(zip(texts, texts) for texts in pages)
+        return Rows(self._cursor(low, high, prefix), reverse)
 
-    def keys(self, low: Bytes = b"", high: Optional[Bytes] = None, *, prefix: Optional[Bytes] = None) -> Iterator[bytes]:
+    def keys(
+        self, low: Bytes = b"", high: Optional[Bytes] = None, *, prefix: Optional[Bytes] = None, reverse: bool = False
+    ) -> Iterator[bytes]:
         """Returns an iterator over the keys of `items`."""
-        return (key for key, _ in self.items(low, high, prefix=prefix))
+        return (key for key, _ in self.items(low, high, prefix=prefix, reverse=reverse))
 
-    def values(self, low: Bytes = b"", high: Optional[Bytes] = None, *, prefix: Optional[Bytes] = None) -> Iterator[bytes]:
+    def values(
+        self, low: Bytes = b"", high: Optional[Bytes] = None, *, prefix: Optional[Bytes] = None, reverse: bool = False
+    ) -> Iterator[bytes]:
         """Returns an iterator over the values of `items`."""
-        return (value for _, value in self.items(low, high, prefix=prefix))
+        return (value for _, value in self.items(low, high, prefix=prefix, reverse=reverse))
 
     def __iter__(self) -> Iterator[bytes]:
         """Returns an iterator over all keys."""
         return self.keys()
+
+    def __reversed__(self) -> Iterator[bytes]:
+        """Returns an iterator over all keys, the greatest first."""
+        return self.keys(reverse=True)
 
     def _get(self, key: bytes) -> Optional[bytes]:
         """Returns the value that a lookup copies to a buffer, or None."""

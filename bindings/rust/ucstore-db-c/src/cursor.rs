@@ -163,13 +163,13 @@ impl Cursor {
         self.row.map(|row| (text(row.key), text(row.value)))
     }
 
-    /// Copies rows, each as a key and a value, with the lengths of both. It steps over them.
+    /// Copies rows in the cursor's direction, each as a key and a value, with the lengths of both, and moves past them.
     fn copy(&mut self, page: &mut Page) -> Result<(), Refusal> {
         while let Some((key, value)) = self.row() {
             if !page.add(key, value) {
                 break;
             }
-            self.step()?;
+            self.take()?;
         }
         Ok(())
     }
@@ -442,7 +442,7 @@ pub unsafe extern "C" fn ucstore_db_cursor_status(cursor: *const CursorHandle) -
     })
 }
 
-/// Copies rows, starting at the current one, and moves past them.
+/// Copies rows, starting at the current one, in the direction of the last move, and moves past them.
 #[no_mangle]
 pub unsafe extern "C" fn ucstore_db_cursor_page(
     cursor: *mut CursorHandle,
