@@ -31,8 +31,9 @@ mod walkers;
 
 pub use answer::Answer;
 pub use answer_laws::{
-    equal_values_give_equal_answers, rows_back_are_rows_reversed, scan_is_answered_by_first_rows, scan_keys_are_named,
-    scan_keys_rise, scan_rows_are_determined, scan_rows_are_first, unprotected_is_refused,
+    equal_values_give_equal_answers, rows_back_are_rows_reversed, scan_is_answered_by_first_rows,
+    scan_keys_are_named, scan_keys_rise, scan_rows_are_determined, scan_rows_are_first,
+    unprotected_is_refused,
 };
 pub use answering::{answer_last, answer_one, get, get_last};
 pub use behind::{rows_at, rows_back_at, rows_back_behind, rows_behind, value_behind};
