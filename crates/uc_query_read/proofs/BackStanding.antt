@@ -13,7 +13,7 @@ use Rattle.uc_run.proofs.Order.{key_passed}
 use Rattle.uc_compact.proofs.Keys.{lt_of}
 use Rattle.uc_compact.specs.Inputs.{points_of}
 use Rattle.uc_query_read.specs.Ahead.{keys_ahead}
-use Rattle.uc_query_read.specs.Back.{back_walk_at, standing_below, StandsBelow, passed_back}
+use Rattle.uc_query_read.specs.Back.{back_walk_at, bound_of, standing_below, StandsBelow, passed_back}
 use Rattle.uc_query_read.specs.Walks.{Walk, runs_of}
 use Rattle.uc_query_read.proofs.BackKeys.{no_key, too_low, comes_last}
 use Rattle.uc_query_read.proofs.Standing.{more_length}
@@ -27,6 +27,11 @@ all_start high (r ∷ rs) = (refl, all_start high rs)
 pub runs_start : (high : Option (List ℕ)) (runs : List Contents) → runs_of (map (standing_below high) runs) ≡ runs
 runs_start high [] = refl
 runs_start high (r ∷ rs) = ap (λ (runs : List Contents). r ∷ runs) (runs_start high rs)
+
+-- a bound that isn't included is the key itself
+pub not_included : (high : Option (List ℕ)) → bound_of high false ≡ high
+not_included None = refl
+not_included (Some key) = refl
 
 -- ---- before a key's points once it was passed
 

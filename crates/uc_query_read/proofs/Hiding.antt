@@ -60,7 +60,7 @@ module _ (m : Operation) (at : ℕ) where
   cleared (seq ∷ seqs) some = cleared_by seq seqs (nat_le seq at) refl some (cleared seqs)
 
   module _ (x : List ℕ) where
-    abbrev IsOther : Entry → Type 0
+    abbrev pub IsOther : Entry → Type 0
     IsOther p = same_bytes p.key x ≡ false
 
     no_points : (ps : List Entry) → AllByRecursion IsOther ps → filter (is_visible x at) ps ≡ []
@@ -75,7 +75,7 @@ module _ (m : Operation) (at : ℕ) where
 
 -- ---- a fragment that hides a key hides those behind it that it covers
 
-any_later : (test : ℕ → Bool) (xs ys : List ℕ) → list_any test ys ≡ true → list_any test (xs ++ ys) ≡ true
+pub any_later : (test : ℕ → Bool) (xs ys : List ℕ) → list_any test ys ≡ true → list_any test (xs ++ ys) ≡ true
 any_later test [] ys h = h
 any_later test (x ∷ xs) ys h = by (test x) (any_later test xs ys h)
   where
@@ -83,7 +83,7 @@ any_later test (x ∷ xs) ys h = by (test x) (any_later test xs ys h)
     by true rest = refl
     by false rest = rest
 
-any_first : (test : ℕ → Bool) (xs ys : List ℕ) → list_any test xs ≡ true → list_any test (xs ++ ys) ≡ true
+pub any_first : (test : ℕ → Bool) (xs ys : List ℕ) → list_any test xs ≡ true → list_any test (xs ++ ys) ≡ true
 any_first test [] ys h = absurd (false≢true h)
 any_first test (x ∷ xs) ys h = by (test x) h (any_first test xs ys)
   where
@@ -91,7 +91,7 @@ any_first test (x ∷ xs) ys h = by (test x) h (any_first test xs ys)
     by true some rest = refl
     by false some rest = rest some
 
-both : (a b : Bool) → a ≡ true → b ≡ true → (a && b) ≡ true
+pub both : (a b : Bool) → a ≡ true → b ≡ true → (a && b) ≡ true
 both true b e f = f
 both false b e f = absurd (false≢true e)
 
@@ -127,12 +127,16 @@ module _ (key x end : List ℕ) (at : ℕ) (behind : bytes_cmp key x ≡ Less) (
   seen_over [] found = absurd (cc)
   seen_over (f ∷ fs) found = seen_by f fs (hides at key f) refl found (seen_over fs)
 
+-- a range deletion of a run that is seen covers a key
+abbrev pub IsSeenOver : List ℕ → ℕ → Contents → Type 0
+IsSeenOver x at run = list_any (λ seq. nat_le seq at) (flat_map (λ f. f.seqs) (filter (λ f. covers f x) run.fragments)) ≡ true
+
 -- ---- runs without points of a key, of which the last hides it
 
 module _ (m : Operation) (at : ℕ)
     (law : (run : Contents) (key : List ℕ) (at : ℕ) → IsRun run.low run.high run.points run.fragments → effect_on m (plain_list run) key at ≡ effect_found m run key at)
     (parts : (older newer : List Write) (key : List ℕ) (at : ℕ) → effect_on m (older ++ newer) key at ≡ composed m (effect_on m older key at) (effect_on m newer key at))
-    (key x end : List ℕ) (behind : bytes_cmp key x ≡ Less) (before : bytes_cmp x end ≡ Less) where
+    (x : List ℕ) where
   abbrev effect : List Standing → Effect
   effect cs = effect_on m (writes_of (runs_of cs)) x at
 
@@ -142,10 +146,10 @@ module _ (m : Operation) (at : ℕ)
   own_without : (c : Standing) → IsOfRun c → AllByRecursion (IsOther m at x) c.run.points → own c ≡ above_newest m [] (seen m at (over m at x c.run.fragments))
   own_without c is h = law c.run x at is ∙ found_without m at x c.run h
 
-  cleared_here : (c : Standing) (cs : List Standing) → IsOfRun c → AllByRecursion (IsOther m at x) c.run.points → hidden_to c.run key at ≡ Some end → effect (c ∷ cs) ≡ Set None
-  cleared_here c cs is h found =
+  cleared_here : (c : Standing) (cs : List Standing) → IsOfRun c → AllByRecursion (IsOther m at x) c.run.points → IsSeenOver x at c.run → effect (c ∷ cs) ≡ Set None
+  cleared_here c cs is h seen =
       parts (writes_of (runs_of cs)) (plain_list c.run) x at
-      ∙ ap (composed m (effect cs)) (own_without c is h ∙ cleared m at (over m at x c.run.fragments) (seen_over key x end at behind before c.run.fragments found))
+      ∙ ap (composed m (effect cs)) (own_without c is h ∙ cleared m at (over m at x c.run.fragments) seen)
 
   cleared_below : (c : Standing) (cs : List Standing) → IsOfRun c → AllByRecursion (IsOther m at x) c.run.points → effect cs ≡ Set None → effect (c ∷ cs) ≡ Set None
   cleared_below c cs is h rest =
@@ -154,7 +158,7 @@ module _ (m : Operation) (at : ℕ)
       ∙ ap (composed m (Set None)) (own_without c is h)
       ∙ ⊎_elim (λ keeps. ap (composed m (Set None)) keeps) (λ clears. ap (composed m (Set None)) clears) (nothing_or_cleared m at (seen m at (over m at x c.run.fragments)))
 
-  pub all_cleared : (cs : List Standing) (i : ℕ) → i < length cs → ((d : Standing) → hidden_to (get_or cs i d).run key at ≡ Some end) → AllByRecursion IsOfRun (take (suc i) cs) → AllByRecursion (IsOther m at x) (points_of (runs_of (take (suc i) cs))) → effect cs ≡ Set None
+  pub all_cleared : (cs : List Standing) (i : ℕ) → i < length cs → ((d : Standing) → IsSeenOver x at (get_or cs i d).run) → AllByRecursion IsOfRun (take (suc i) cs) → AllByRecursion (IsOther m at x) (points_of (runs_of (take (suc i) cs))) → effect cs ≡ Set None
   all_cleared [] i lt found are other = absurd (omega (arith, lt))
   all_cleared (c ∷ cs) zero lt found are other = cleared_here c cs are.0 (all-front (IsOther m at x) c.run.points [] other) (found c)
   all_cleared (c ∷ cs) (suc i) lt found are other =
@@ -163,14 +167,14 @@ module _ (m : Operation) (at : ℕ)
 
 -- ---- up to the end and the next key of these runs none of their points stands
 
-differs : (k y : List ℕ) → bytes_cmp k y ≡ Less → same_bytes k y ≡ false
+pub differs : (k y : List ℕ) → bytes_cmp k y ≡ Less → same_bytes k y ≡ false
 differs k y less = by (same_bytes k y) refl
   where
     by : (b : Bool) → same_bytes k y ≡ b → b ≡ false
     by true e = absurd (no_less_itself k (subst (λ (z : List ℕ). bytes_cmp k z ≡ Less) (sym (same_text k y (sym e))) less))
     by false e = refl
 
-differs_back : (k y : List ℕ) → bytes_cmp y k ≡ Less → same_bytes k y ≡ false
+pub differs_back : (k y : List ℕ) → bytes_cmp y k ≡ Less → same_bytes k y ≡ false
 differs_back k y less = by (same_bytes k y) refl
   where
     by : (b : Bool) → same_bytes k y ≡ b → b ≡ false
@@ -255,7 +259,7 @@ module _ (m : Operation)
       let other = others key (points_of (runs_of (take (place + 1) cursors))) m at x behind end bound next is least less in
       sym (gives (writes_of (runs_of cursors)) x at)
       ∙ ap (λ (e : Effect). applied m e None)
-      (all_cleared m at law parts key x end behind (below_end x end bound next is less) cursors place hidden.within hidden.hides
+      (all_cleared m at law parts x cursors place hidden.within (λ d. seen_over key x end at behind (below_end x end bound next is less) (get_or cursors place d).run.fragments (hidden.hides d))
       (subst (λ n. AllByRecursion IsOfRun (take n cursors)) one hidden.are_runs)
       (subst (λ n. AllByRecursion (IsOther m at x) (points_of (runs_of (take n cursors)))) one other))
 

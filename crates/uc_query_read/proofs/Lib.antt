@@ -14,3 +14,5 @@ pub mod Beside
 pub mod Oldest
 pub mod BackKeys
 pub mod BackStanding
+pub mod HidingBack
+pub mod SkippingBack

@@ -1,5 +1,5 @@
 -- The place of a walk over the points of several runs against the order of their keys.
-use Rattle.std.specs.Prelude.{◌≡◌, ℕ, false, List, Option, Some, None, min, reverse, if◌then◌else◌}
+use Rattle.std.specs.Prelude.{◌≡◌, ℕ, Bool, true, false, List, [], ◌∷◌, ◌++◌, Option, Some, None, min, reverse, if◌then◌else◌}
 use Rattle.std.specs.Ordering.{is_lt}
 use Rattle.uc_bytes.specs.Bytes.{bytes_cmp}
 use Rattle.uc_run_entry.specs.Run.{Contents}
@@ -30,3 +30,17 @@ abbrev pub greater_of : Option (List ℕ) → Option (List ℕ) → Option (List
 greater_of None other = other
 greater_of (Some key) None = Some key
 greater_of (Some key) (Some other) = if is_lt (bytes_cmp key other) then Some other else Some key
+
+-- a key, or the least one above it: what is below that is also the key itself
+abbrev pub bound_at : List ℕ → Bool → List ℕ
+bound_at key included = if included then key ++ 0 ∷ [] else key
+
+-- the keys below one, or at it too if it is included
+abbrev pub bound_of : Option (List ℕ) → Bool → Option (List ℕ)
+bound_of None included = None
+bound_of (Some key) included = Some (bound_at key included)
+
+-- the greater of two bounds: what is below a key, or up to another if there is one
+abbrev pub later_of : List ℕ → Option (List ℕ) → List ℕ × Bool
+later_of begin None = (begin, false)
+later_of begin (Some last) = if is_lt (bytes_cmp last begin) then (begin, false) else (last, true)

@@ -36,8 +36,9 @@ fn last_rows<O: Operator>(
         let Some((key, value)) = walk.next::<O>(alloc, at)? else {
             break;
         };
-        if let Some(value) = value {
-            rows.push(key, value.as_slice())?;
+        match value {
+            Some(value) => rows.push(key, value.as_slice())?,
+            None => walk.skip_dead::<O>(alloc, at),
         }
     }
     Ok(rows)

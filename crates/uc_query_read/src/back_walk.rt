@@ -1,14 +1,15 @@
 //! [`BackWalk`]: a walk over the points of several runs against the order of their keys.
-ghost use Rattle.std.specs.Prelude.{◌≡◌, ℕ, List, Option, Some, map, option_map, IfOk, IfSome};
+ghost use Rattle.std.specs.Prelude.{◌≡◌, ℕ, true, List, Option, Some, map, option_map, if◌then◌else◌, IfOk, IfSome};
 ghost use Rattle.std.specs.List.{AllByRecursion};
 ghost use Rattle.uc_model.specs.Meaning.{effect_on, value_of};
 ghost use Rattle.uc_run.specs.BackCursors.{IsPreviousKey};
 ghost use Rattle.uc_compact.specs.Inputs.{points_of, writes_of};
 ghost use Rattle.uc_version_state.specs.Versions.{contents_of};
 ghost use Rattle.uc_query_read.specs.Ahead.{Comes};
-ghost use Rattle.uc_query_read.specs.Back.{back_walk_at, greater_of, passed_back, standing_below, StandsBelow};
-ghost use Rattle.uc_query_read.specs.Walks.{runs_of, IsOfRun};
+ghost use Rattle.uc_query_read.specs.Back.{back_walk_at, bound_at, greater_of, passed_back, standing_below, StandsBelow};
+ghost use Rattle.uc_query_read.specs.Walks.{runs_of, IsOfRun, Skips};
 
+use crate::dead_below::dead_from;
 use crate::lookup::compose;
 use std::alloc::{AllocError, Global};
 use std::marker::Model;
@@ -28,6 +29,8 @@ pub(crate) struct BackWalk<'a> {
     low: &'a [u8],
     /// The points below this key are ahead, or all if there is none.
     high: Option<&'a [u8]>,
+    /// Whether those at that key are ahead too.
+    is_included: bool,
 }
 
 impl<'a> Model for BackWalk<'a> {
@@ -78,7 +81,7 @@ fn cursors_below<'a>(
 }
 
 /// The greatest of the keys before the cursors. It costs a comparison for each.
-fn greatest_key<'a>(cursors: &[BackCursor<'a>]) -> Option<&'a [u8]>
+pub(crate) fn greatest_key<'a>(cursors: &[BackCursor<'a>]) -> Option<&'a [u8]>
     ensures { (high : Option (List ℕ)) → AllByRecursion (StandsBelow high) cursors.now →
         IsPreviousKey (points_of (runs_of cursors.now)) high (option_map (λ k. k.now) result) }
 {
@@ -96,6 +99,32 @@ fn pass_each(cursors: &mut [BackCursor<'_>], key: &[u8])
     for place in 0..cursors.len() {
         cursors[place].pass(key);
     }
+}
+
+/// Moves each cursor back to before the points at and above a key, or above it if that is included. It moves none if memory is refused,
+/// and tells whether it moved them.
+fn pass_all(alloc: Global, cursors: &mut [BackCursor<'_>], bound: &[u8], is_included: bool) -> bool
+    ensures { cursors.new ≡ (if result then map (passed_back (bound_at bound.now is_included)) cursors.old else cursors.old) }
+{
+    if !is_included {
+        pass_each(cursors, bound);
+        return true;
+    }
+    let Ok(after) = key_after(alloc, bound) else {
+        return false;
+    };
+    pass_each(cursors, after.as_slice());
+    true
+}
+
+/// The least key above a key.
+fn key_after(alloc: Global, key: &[u8]) -> Result<Bytes, AllocError>
+    ensures { IfOk result (λ after. after ≡ bound_at key.now true) }
+{
+    let mut after = Vec::with_capacity(alloc, key.len().saturating_add(1))?;
+    after.extend_from_slice(key)?;
+    after.push(0)?;
+    Ok(Bytes::from(after))
 }
 
 /// The effect of the writes of the cursors' runs at or below a sequence on a key, before whose points all stand. It stops at the first
@@ -162,6 +191,7 @@ impl<'a> BackWalk<'a> {
             cursors: cursors_below(alloc, runs, high)?,
             low,
             high: bound_of(high),
+            is_included: false,
         })
     }
 
@@ -185,7 +215,30 @@ impl<'a> BackWalk<'a> {
         }
         pass_each(&mut self.cursors, key);
         self.high = Some(key);
+        self.is_included = false;
         let value = value_of_each::<O>(alloc, &self.cursors, key, at)?;
         Ok(Some((key, value)))
+    }
+
+    /// Passes keys without a value at a sequence: those before the last passed key, as far as a run's range deletion hides it and
+    /// neither that run nor a newer one has a point. It does nothing if no run hides that key, or memory is refused. It costs a step for
+    /// each run, and a search for those whose points are passed.
+    pub(crate) fn skip_dead<O: Operator>(&mut self, alloc: Global, at: u64)
+        ensures { Skips O.meaning at self.old self.new }
+    {
+        if self.is_included {
+            return;
+        }
+        let Some(key) = self.high else {
+            return;
+        };
+        let Some((bound, is_included)) = dead_from::<O>(&self.cursors, key, at) else {
+            return;
+        };
+        if !pass_all(alloc, &mut self.cursors, bound, is_included) {
+            return;
+        }
+        self.high = Some(bound);
+        self.is_included = is_included;
     }
 }

@@ -7,7 +7,8 @@
 //!
 //! [`answer_one`] returns the same answer from a version's runs. Read `answering.rt` first, then `lookup.rt`, and for
 //! scans `specs/Ahead.antt`, `specs/Walks.antt`, `walkers.rt`, `cursors.rt`, `dead_keys.rt` and `scan.rt`. `behind.rt` reads a
-//! version after newer writes. For scans against the order of keys read `specs/Back.antt`, `back_walk.rt` and `back_scan.rt`.
+//! version after newer writes. For scans against the order of keys read `specs/Back.antt`, `back_walk.rt`,
+//! `dead_below.rt` and `back_scan.rt`.
 //!
 //! An `Err(AllocError)` comes only if an allocation fails.
 //!
@@ -21,6 +22,7 @@ mod back_scan;
 mod back_walk;
 mod behind;
 mod cursors;
+mod dead_below;
 mod dead_keys;
 mod laws;
 mod lookup;

@@ -4,14 +4,14 @@ use Rattle.uc_run.specs.Cursors.{Standing}
 use Rattle.uc_version_state.specs.Versions.{contents_of}
 use Rattle.uc_query_read.specs.Back.{back_walk_at, StandsBelow}
 use Rattle.uc_query_read.specs.Walks.{runs_of}
-use Rattle.uc_query_read.proofs.BackStanding.{all_start, runs_start}
+use Rattle.uc_query_read.proofs.BackStanding.{all_start, not_included, runs_start}
 use Rattle.uc_query_read.proofs.back_walk.BackWalk.from.Goals as goal
 
 pub invariant_of-result : goal.invariant_of-result
 invariant_of-result c =
     let high = c.args.high.now in
     record {
-      stand = subst (λ (h : Option (List ℕ)). AllByRecursion (StandsBelow h) c.in_ok-cursors_below.field-0.items) (sym c.bound_of.ensures)
+      stand = subst (λ (h : Option (List ℕ)). AllByRecursion (StandsBelow h) c.in_ok-cursors_below.field-0.items) (sym (not_included (option_map (λ h. h.now) c.bound_of.result) ∙ c.bound_of.ensures))
           (subst (AllByRecursion (StandsBelow high)) (sym c.in_ok-cursors_below.ensures.cursors) (all_start high (contents_of c.args.runs.now)));
       of_runs = c.in_ok-cursors_below.ensures.of_runs;
     }
@@ -19,5 +19,5 @@ invariant_of-result c =
 pub returns : goal.returns
 returns c =
     let high = c.args.high.now in
-    ap (λ (h : Option (List ℕ)). back_walk_at c.args.low.now h (runs_of c.in_ok-cursors_below.field-0.items)) c.bound_of.ensures
+    ap (λ (h : Option (List ℕ)). back_walk_at c.args.low.now h (runs_of c.in_ok-cursors_below.field-0.items)) (not_included (option_map (λ h. h.now) c.bound_of.result) ∙ c.bound_of.ensures)
     ∙ ap (back_walk_at c.args.low.now high) (ap runs_of c.in_ok-cursors_below.ensures.cursors ∙ runs_start high (contents_of c.args.runs.now))

@@ -6,7 +6,7 @@ use Rattle.uc_run_entry.specs.Run.{Contents}
 use Rattle.uc_run.specs.BackCursors.{IsPreviousKey}
 use Rattle.uc_run.specs.Cursors.{Standing}
 use Rattle.uc_compact.specs.Inputs.{points_of, writes_of}
-use Rattle.uc_query_read.specs.Back.{passed_back, StandsBelow}
+use Rattle.uc_query_read.specs.Back.{bound_of, passed_back, StandsBelow}
 use Rattle.uc_query_read.specs.Walks.{runs_of, IsOfRun}
 use Rattle.uc_query_read.proofs.BackStanding.{Looks, ends, too_far, stand_before, same_runs, comes}
 use Rattle.uc_query_read.proofs.Beside.{moved_of_runs}
@@ -17,7 +17,7 @@ pub returns-in_default-clause-comes : goal.returns-in_default-clause-comes
 returns-in_default-clause-comes g c =
     let k = c.self.inside in
     let cursors = k.cursors.items in
-    let high = option_map (λ h. h.now) k.high in
+    let high = bound_of (option_map (λ h. h.now) k.high) k.is_included in
     let found = option_map (λ key. key.now) c.greatest_key.result in
     let looks : Looks c.args.self.now cursors k.low.now high found = record {
       is = c.self.view_is;
@@ -33,7 +33,7 @@ pub returns-then-is_lt-clause-comes : goal.returns-then-is_lt-clause-comes
 returns-then-is_lt-clause-comes g c =
     let k = c.self.inside in
     let cursors = k.cursors.items in
-    let high = option_map (λ h. h.now) k.high in
+    let high = bound_of (option_map (λ h. h.now) k.high) k.is_included in
     let found = option_map (λ key. key.now) c.greatest_key.result in
     let looks : Looks c.args.self.now cursors k.low.now high found = record {
       is = c.self.view_is;
@@ -51,7 +51,7 @@ pub value_of_each-requires : goal.value_of_each-requires
 value_of_each-requires g c =
     let k = c.self.inside in
     let cursors = k.cursors.items in
-    let high = option_map (λ h. h.now) k.high in
+    let high = bound_of (option_map (λ h. h.now) k.high) k.is_included in
     let found = option_map (λ key. key.now) c.greatest_key.result in
     let looks : Looks c.args.self.now cursors k.low.now high found = record {
       is = c.self.view_is;
@@ -72,7 +72,7 @@ pub invariant_of-self : goal.invariant_of-self
 invariant_of-self g c =
     let k = c.self.inside in
     let cursors = k.cursors.items in
-    let high = option_map (λ h. h.now) k.high in
+    let high = bound_of (option_map (λ h. h.now) k.high) k.is_included in
     let found = option_map (λ key. key.now) c.greatest_key.result in
     let looks : Looks c.args.self.now cursors k.low.now high found = record {
       is = c.self.view_is;
@@ -96,7 +96,7 @@ pub returns-in_err-value-clause-runs : goal.returns-in_err-value-clause-runs
 returns-in_err-value-clause-runs g c =
     let k = c.self.inside in
     let cursors = k.cursors.items in
-    let high = option_map (λ h. h.now) k.high in
+    let high = bound_of (option_map (λ h. h.now) k.high) k.is_included in
     let found = option_map (λ key. key.now) c.greatest_key.result in
     let looks : Looks c.args.self.now cursors k.low.now high found = record {
       is = c.self.view_is;
@@ -117,7 +117,7 @@ pub invariant_of-self-2 : goal.invariant_of-self-2
 invariant_of-self-2 g c =
     let k = c.self.inside in
     let cursors = k.cursors.items in
-    let high = option_map (λ h. h.now) k.high in
+    let high = bound_of (option_map (λ h. h.now) k.high) k.is_included in
     let found = option_map (λ key. key.now) c.greatest_key.result in
     let looks : Looks c.args.self.now cursors k.low.now high found = record {
       is = c.self.view_is;
@@ -141,7 +141,7 @@ pub returns-clause-comes : goal.returns-clause-comes
 returns-clause-comes g c =
     let k = c.self.inside in
     let cursors = k.cursors.items in
-    let high = option_map (λ h. h.now) k.high in
+    let high = bound_of (option_map (λ h. h.now) k.high) k.is_included in
     let found = option_map (λ key. key.now) c.greatest_key.result in
     let looks : Looks c.args.self.now cursors k.low.now high found = record {
       is = c.self.view_is;
@@ -162,7 +162,7 @@ pub returns-clause-value : goal.returns-clause-value
 returns-clause-value g c =
     let k = c.self.inside in
     let cursors = k.cursors.items in
-    let high = option_map (λ h. h.now) k.high in
+    let high = bound_of (option_map (λ h. h.now) k.high) k.is_included in
     let found = option_map (λ key. key.now) c.greatest_key.result in
     let looks : Looks c.args.self.now cursors k.low.now high found = record {
       is = c.self.view_is;
@@ -184,7 +184,7 @@ pub returns-clause-runs : goal.returns-clause-runs
 returns-clause-runs g c =
     let k = c.self.inside in
     let cursors = k.cursors.items in
-    let high = option_map (λ h. h.now) k.high in
+    let high = bound_of (option_map (λ h. h.now) k.high) k.is_included in
     let found = option_map (λ key. key.now) c.greatest_key.result in
     let looks : Looks c.args.self.now cursors k.low.now high found = record {
       is = c.self.view_is;
