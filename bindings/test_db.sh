@@ -14,7 +14,7 @@
 #
 # It takes some two minutes, or twelve with LONG=1. SEED (1) is that of what is drawn. It needs cargo with Rust 1.89, gcc,
 # clang, valgrind and python3, and no network. UCSTORE_LIB_DIR may name the folder of libucstore.a and libucstore.so.2; else
-# ./install at the top puts them into a temporary folder.
+# tools/install puts them into a temporary folder.
 set -euo pipefail
 here=$(cd "$(dirname "${BASH_SOURCE[0]}")" && pwd)
 work=$(mktemp -d)
@@ -53,10 +53,10 @@ check_needs() {
 
 install_all() {
     if [ -z "${UCSTORE_LIB_DIR:-}" ]; then
-        PREFIX="$work/usr" CARGO_TARGET_DIR="$work/target" "$here/../install" > "$work/installed"
+        PREFIX="$work/usr" CARGO_TARGET_DIR="$work/target" "$here/../tools/install" > "$work/installed"
         export UCSTORE_LIB_DIR=$work/usr/lib
     else
-        PREFIX="$work/usr" CARGO_TARGET_DIR="$work/target" "$here/../install" database > "$work/installed"
+        PREFIX="$work/usr" CARGO_TARGET_DIR="$work/target" "$here/../tools/install" database > "$work/installed"
     fi
     export PKG_CONFIG_PATH=$work/usr/lib/pkgconfig LD_LIBRARY_PATH=$work/usr/lib:$UCSTORE_LIB_DIR
     read -ra flags <<< "$(pkg-config --cflags --libs ucstore_db) -I$here/c -pthread"

@@ -10,7 +10,7 @@
 # needs a user who may mount one.
 #
 # It needs a python3 with distributed (Debian's python3-distributed): PYTHON may name one. UCSTORE_LIBRARY and UCSTORE_DB_LIBRARY may
-# name the shared objects; else ./install at the top puts them into a temporary folder. It takes four minutes.
+# name the shared objects; else tools/install puts them into a temporary folder. It takes four minutes.
 set -euo pipefail
 here=$(cd "$(dirname "${BASH_SOURCE[0]}")" && pwd)
 work=$(mktemp -d)
@@ -40,7 +40,7 @@ run() {
 
 python=$(find_python)
 if [ -z "${UCSTORE_LIBRARY:-}" ] || [ -z "${UCSTORE_DB_LIBRARY:-}" ]; then
-    PREFIX="$work/usr" "$here/../install" > "$work/installed"
+    PREFIX="$work/usr" "$here/../tools/install" > "$work/installed"
     export UCSTORE_LIBRARY=$work/usr/lib/libucstore.so.2 UCSTORE_DB_LIBRARY=$work/usr/lib/libucstore_db.so.2
     [ -e "$UCSTORE_DB_LIBRARY" ] || fail "the database isn't installed: it needs cargo"
 fi

@@ -12,7 +12,7 @@
 #
 # It takes about a minute, and with LONG=1 it opens 50,000 states. SEED (1) is that of what is drawn. Each part ends with `N states,
 # M wrong`, and the status is 1 where a state was wrong. Needs cc, python3 and cargo. UCSTORE_LIB_DIR may name the directory of
-# libucstore.a and libucstore.so.2; else ./install at the top puts them into a temporary one. UCSTORE_DB_LIBRARY may name the
+# libucstore.a and libucstore.so.2; else tools/install puts them into a temporary one. UCSTORE_DB_LIBRARY may name the
 # database's own library.
 set -euo pipefail
 here=$(cd "$(dirname "${BASH_SOURCE[0]}")" && pwd)
@@ -53,10 +53,10 @@ check_needs() {
 find_library() {
     if [ -n "${UCSTORE_DB_LIBRARY:-}" ]; then return; fi
     if [ -z "${UCSTORE_LIB_DIR:-}" ]; then
-        PREFIX="$work/usr" CARGO_TARGET_DIR="$work/target" "$here/../install" > "$work/installed"
+        PREFIX="$work/usr" CARGO_TARGET_DIR="$work/target" "$here/../tools/install" > "$work/installed"
         export UCSTORE_LIB_DIR=$work/usr/lib
     else
-        PREFIX="$work/usr" CARGO_TARGET_DIR="$work/target" "$here/../install" database > "$work/installed"
+        PREFIX="$work/usr" CARGO_TARGET_DIR="$work/target" "$here/../tools/install" database > "$work/installed"
     fi
     UCSTORE_DB_LIBRARY=$(find "$work/usr/lib" -name 'libucstore_db.so.*' | head -n 1)
     export UCSTORE_DB_LIBRARY

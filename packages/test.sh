@@ -1,5 +1,5 @@
 #!/bin/bash
-# Tries the packages of dist/, which ./package made:
+# Tries the packages of dist/, which tools/package made:
 #
 #     packages/test.sh [PART..]
 #
@@ -94,7 +94,7 @@ objects() {
         check_object "$(echo "$work"/tar/*/lib/"$(basename "$one" .symbols)")" "$one" "$(basename "$one" .symbols)"
     done
     cp "$dist"/*.* "$work/first"
-    "$top/package" > /dev/null
+    "$top/tools/package" > /dev/null
     for one in "$dist"/*.*; do
         cmp "$one" "$work/first/$(basename "$one")" || fail "$(basename "$one") differs when it is made again"
     done
@@ -167,7 +167,7 @@ END
         fail "a program over the crates doesn't run"
 }
 
-[ -d "$dist" ] || fail "there is no dist/: run ./package"
+[ -d "$dist" ] || fail "there is no dist/: run tools/package"
 if [ $# -eq 0 ]; then set -- objects debian wheel tar crates; fi
 for part; do
     case $part in

@@ -32,7 +32,7 @@ set -u -o pipefail
 here=$(cd "$(dirname "${BASH_SOURCE[0]}")" && pwd) || exit 1
 top=$here/../..
 ours=${OURS:-$top/crates/uc_c/out/libuc_c.a}
-# What numbers the stores, which ./install puts into the library.
+# What numbers the stores, which tools/install puts into the library.
 ids=$top/bindings/c/ids.c
 turns=${TURNS:-3}
 writes=${WRITES:-1300000}

@@ -9,7 +9,7 @@
 # and new ones for each run. A worker has one shard. Batches and keys are made before any clock starts.
 #
 # It needs a python3 with distributed (Debian's python3-distributed): PYTHON may name one. OURS is the shared object, beside which that of
-# the database is, or ./install at the top makes both. Each program runs in turn, TURNS times (3), and all must come to the same answers. Each figure is the median of its
+# the database is, or tools/install makes both. Each program runs in turn, TURNS times (3), and all must come to the same answers. Each figure is the median of its
 # turns. RESULTS names a file for the figures as JSON, of which plot.py makes batches.svg. It takes six minutes.
 set -u -o pipefail
 
@@ -52,7 +52,7 @@ find_python() {
 
 find_library() {
     if [ -z "${OURS:-}" ]; then
-        PREFIX="$folder/usr" "$here/../../install" > "$folder/installed" || exit 1
+        PREFIX="$folder/usr" "$here/../.tools/install" > "$folder/installed" || exit 1
         OURS=$folder/usr/lib/libucstore.so.2
     fi
     UCSTORE_LIBRARY=$(realpath -e "$OURS") || exit 2

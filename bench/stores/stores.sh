@@ -2,7 +2,7 @@
 # `folder`. It builds workload.c over each database, checks that each gives back what is written to it, and runs these in turn.
 #
 # - ours is bindings/rust/ucstore-db by its header for C. OURS names the folder of libucstore_db.a (the shared objects' folder of
-#   ./install), and `none` leaves it out.
+#   tools/install), and `none` leaves it out.
 # - RocksDB is that without assertions, which ../rocksdb/build.sh makes. LevelDB, LMDB and SQLite are Debian's. What isn't there
 #   is left out.
 # - Redis, for orientation, is a redis-server that is started here anew for each run. It listens on a Unix socket in the temporary folder

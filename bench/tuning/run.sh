@@ -4,7 +4,7 @@
 #     bench/tuning/run.sh
 #
 # tuning.c says what is done. It is built by `cc -std=c99 -O2` over the libucstore_db.a in the folder that OURS names (the shared
-# objects' folder of ./install). Each option is measured at each of its values, the others as they usually are. WRITES puts (1500000) of
+# objects' folder of tools/install). Each option is measured at each of its values, the others as they usually are. WRITES puts (1500000) of
 # 500,000 keys, 300,000 lookups and 30,000 scans are made TURNS times (3), in turn, and a figure is the median of its turns. RESULTS
 # names a file for the figures as JSON. It takes two minutes.
 set -u -o pipefail
