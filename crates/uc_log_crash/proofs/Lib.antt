@@ -5,3 +5,4 @@ pub mod ReadBack
 pub mod Told
 pub mod Searched
 pub mod Onward
+pub mod Folders

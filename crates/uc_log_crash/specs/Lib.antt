@@ -1,3 +1,4 @@
 pub mod Shown
 pub mod Marks
 pub mod Places
+pub mod Folders

@@ -1,6 +1,8 @@
 //! Laws about what a crash leaves of a log.
 ghost use Rattle.std.specs.Prelude.{◌≡◌, ℕ, ◌≤◌, ◌<◌, ◌++◌, List, Option, Some, None, length};
+ghost use Rattle.uc_folder.specs.Device.{File, Keep, first_whole, content, crashed_name};
 ghost use Rattle.uc_logrec.specs.Walk.{Walks, BeginsWith};
+ghost use Rattle.uc_log_crash.specs.Folders.{AreBytesOf};
 ghost use Rattle.uc_log_crash.specs.Shown.{Shows, IsUnforged, ReadsOn};
 ghost use Rattle.uc_log_crash.specs.Marks.{AreTrue, AreOwn, mark_of, with_mark};
 ghost use Rattle.uc_log_crash.specs.Places.{all_places, IsFirst};
@@ -24,6 +26,16 @@ pub fn batches_that_are_read_were_written()
         IsUnforged written synced shown → ReadsOn shown before synced found end → BeginsWith written (before ++ found) end }
 {
     walk_begins_log();
+}
+
+/// What a device shows of a folder's log after a crash is what a crash of `uc_folder` may leave of its records: so what is proved there of every
+/// crash holds of these bytes. What is read of them is what that crash leaves to be read.
+pub fn a_shown_log_is_a_crashed_one()
+    ensures { (f : File) (written shown : List ℕ) (synced : ℕ) (found : List (List ℕ)) (end : ℕ) → AreBytesOf f written synced →
+        IsUnforged written synced shown → ReadsOn shown (first_whole f.kept) synced found end →
+        (keep : Keep) × (content (crashed_name keep (Some f)) ≡ first_whole f.kept ++ found) }
+{
+    batches_that_are_read_were_written();
 }
 
 /// A crash leaves no log in which [`first_told`](crate::first_told) finds a batch, if its whole batches end where the synced bytes do, or

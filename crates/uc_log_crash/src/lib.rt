@@ -8,6 +8,8 @@
 //! is read after these is what was written next, in order and without a gap. By [`crash_is_no_damage`] no mark that is shown says
 //! that a batch which isn't there was on the device: so a mark that does tells damage, which no crash leaves.
 //!
+//! `uc_folder` says of records what this crate says of bytes: by [`a_shown_log_is_a_crashed_one`] its crashes leave what these bytes show.
+//!
 //! The second and the third law stand on a premise: bytes that nobody wrote at an offset don't pass as a batch there. Checksums and
 //! sequences make that so, but for chance, and for older bytes of the same log at the same offset.
 //!
@@ -21,7 +23,10 @@ mod telling;
 #[cfg(test)]
 mod tests;
 
-pub use laws::{batches_that_are_read_were_written, crash_is_no_damage, synced_batches_are_read};
+pub use laws::{
+    a_shown_log_is_a_crashed_one, batches_that_are_read_were_written, crash_is_no_damage,
+    synced_batches_are_read,
+};
 pub use mark::{mark_bytes, mark_of};
 pub use search::first_told;
 pub use telling::tells;

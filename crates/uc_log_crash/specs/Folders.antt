@@ -1,0 +1,12 @@
+-- A log of a folder as its bytes.
+use Rattle.std.specs.Prelude.{◌≡◌, ℕ, true, List, ◌++◌}
+use Rattle.uc_folder.specs.Device.{File, first_whole, are_whole}
+use Rattle.uc_logrec.specs.Log.{payloads_of}
+use Rattle.uc_logrec.specs.Walk.{Walks}
+
+-- These are the bytes that were written to a log: the batches of its records, none of them torn, of which the first `synced` bytes have
+-- those that are on the device for certain.
+pub record AreBytesOf (f : File) (written : List ℕ) (synced : ℕ) : Type 0 where
+  pub whole : are_whole (f.kept ++ f.waiting) ≡ true
+  pub batches : payloads_of written ≡ first_whole (f.kept ++ f.waiting)
+  pub kept : Walks written (first_whole f.kept) synced
