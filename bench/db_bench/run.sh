@@ -6,8 +6,8 @@
 #
 # A case is `memory` or `files`, or both where none is named. ../stores/stores.sh says what is built, and how often each row is run.
 # Keys have 16 bytes and values 100. KEYS (1000000) are filled in order into one database, and drawn into another. Then 1, 4 and 8
-# threads overwrite, read, seek (ten rows), read 32 keys together, read while one writes, add to counters, and delete; one reads all
-# rows.
+# threads overwrite, read, seek (ten rows, in order and in reverse), read 32 keys together, read while one writes, add to counters, and
+# delete; one reads all rows, in order and in reverse.
 #
 # RESULTS names a file for the figures as JSON.
 set -u -o pipefail
@@ -24,13 +24,13 @@ fail() {
 
 . "$here/../stores/stores.sh"
 
-works=(fillrandom overwrite readrandom multireadrandom seekrandom readwhilewriting mergerandom deleterandom)
+works=(fillrandom overwrite readrandom multireadrandom seekrandom seekreverse readwhilewriting mergerandom deleterandom)
 
 # How many operations a work has.
 operations_of() { # WORK
     case $1 in
         multireadrandom) echo $((keys / 32)) ;;
-        seekrandom) echo $((keys / 5)) ;;
+        seekrandom | seekreverse) echo $((keys / 5)) ;;
         mergerandom) echo $((keys / 2)) ;;
         *) echo "$keys" ;;
     esac
@@ -38,8 +38,8 @@ operations_of() { # WORK
 
 measure() { # CASE FOLDER|memory
     local threads work words=()
-    run_case "$1" "$2" unsynced 1 "$keys" 100 fillseq settle readseq:1:1
-    for work in fillseq readseq; do keep_work "$1" "$work" 1; done
+    run_case "$1" "$2" unsynced 1 "$keys" 100 fillseq settle readseq:1:1 readreverse:1:1
+    for work in fillseq readseq readreverse; do keep_work "$1" "$work" 1; done
     for threads in 1 4 8; do
         words=()
         for work in "${works[@]}"; do
@@ -55,9 +55,9 @@ measure() { # CASE FOLDER|memory
 
 set_goals() {
     local work program
-    for work in fillseq readseq "${works[@]}"; do
+    for work in fillseq readseq readreverse "${works[@]}"; do
         for program in RocksDB LevelDB; do goal "$work" '* threads' "$program" k/s 'at least' 1; done
-        goal "$work" '* threads' LMDB k/s 'at least' "$(case $work in readseq | readrandom) echo 0.8 ;; *) echo 1 ;; esac)"
+        goal "$work" '* threads' LMDB k/s 'at least' "$(case $work in readseq | readreverse | readrandom) echo 0.8 ;; *) echo 1 ;; esac)"
     done
 }
 

@@ -90,6 +90,19 @@ static void check_scan(const struct check *check, uint64_t low, uint64_t limit) 
     expect(scan(check->reader, key_in(key, 'c', low), limit) == wanted, "a scan has other rows");
 }
 
+static void check_scan_back(const struct check *check, uint64_t high, uint64_t limit) {
+    static uint8_t room[LONGEST];
+    uint8_t key[KEY];
+    uint64_t wanted = 0, rows = 0;
+    for (uint64_t number = high < CHECKED ? high + 1 : CHECKED; number-- > 0 && rows < limit;) {
+        if (is_there(check, number)) {
+            wanted += KEY + checked_value(room, number, writes_of(number)).length;
+            rows++;
+        }
+    }
+    expect(scan_back(check->reader, key_in(key, 'c', high), limit) == wanted, "a scan in reverse has other rows");
+}
+
 static void check_rows(const struct check *check) {
     check_lookups(check);
     check_together(check);
@@ -97,6 +110,9 @@ static void check_rows(const struct check *check) {
         check_scan(check, low, 1);
         check_scan(check, low, 100);
         check_scan(check, low, UINT64_MAX);
+        check_scan_back(check, low, 1);
+        check_scan_back(check, low, 100);
+        check_scan_back(check, low, UINT64_MAX);
     }
 }
 

@@ -3,6 +3,7 @@
 
 #include <leveldb/c.h>
 #include <pthread.h>
+#include <string.h>
 
 const bool has_memory = false, has_merges = false, has_scans = true;
 
@@ -96,6 +97,31 @@ uint64_t scan(struct session *session, struct text low, uint64_t limit) {
         leveldb_iter_value(rows, &value_length);
         bytes += key_length + value_length;
         leveldb_iter_next(rows);
+    }
+    leveldb_iter_destroy(rows);
+    return bytes;
+}
+
+uint64_t scan_back(struct session *session, struct text high, uint64_t limit) {
+    leveldb_iterator_t *rows = leveldb_create_iterator(db, reading);
+    uint64_t bytes = 0;
+    (void)session;
+    leveldb_iter_seek(rows, as_chars(high), high.length);
+    if (!leveldb_iter_valid(rows)) {
+        leveldb_iter_seek_to_last(rows);
+    } else {
+        size_t length;
+        const char *key = leveldb_iter_key(rows, &length);
+        if (length != high.length || memcmp(key, high.bytes, length) != 0) {
+            leveldb_iter_prev(rows);
+        }
+    }
+    for (; limit > 0 && leveldb_iter_valid(rows); limit--) {
+        size_t key_length, value_length;
+        leveldb_iter_key(rows, &key_length);
+        leveldb_iter_value(rows, &value_length);
+        bytes += key_length + value_length;
+        leveldb_iter_prev(rows);
     }
     leveldb_iter_destroy(rows);
     return bytes;

@@ -133,6 +133,25 @@ uint64_t scan(struct session *session, struct text low, uint64_t limit) {
     return bytes;
 }
 
+uint64_t scan_back(struct session *session, struct text high, uint64_t limit) {
+    MDB_val key = val_of(high), value;
+    uint64_t bytes = 0;
+    int status;
+    begin_reading(session);
+    expect_ok(mdb_cursor_renew(session->reading, session->rows));
+    status = mdb_cursor_get(session->rows, &key, &value, MDB_SET_RANGE);
+    if (status == MDB_NOTFOUND) {
+        status = mdb_cursor_get(session->rows, &key, &value, MDB_LAST);
+    } else if (status == MDB_SUCCESS && (key.mv_size != high.length || memcmp(key.mv_data, high.bytes, high.length) != 0)) {
+        status = mdb_cursor_get(session->rows, &key, &value, MDB_PREV);
+    }
+    for (; limit > 0 && status == MDB_SUCCESS; limit--) {
+        bytes += key.mv_size + value.mv_size;
+        status = mdb_cursor_get(session->rows, &key, &value, MDB_PREV);
+    }
+    return bytes;
+}
+
 void close_session(struct session *session) {
     mdb_cursor_close(session->rows);
     mdb_txn_abort(session->reading);

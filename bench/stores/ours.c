@@ -92,6 +92,24 @@ uint64_t scan(struct session *session, struct text low, uint64_t limit) {
     return bytes;
 }
 
+uint64_t scan_back(struct session *session, struct text high, uint64_t limit) {
+    struct ucstore_db_cursor *rows;
+    uint64_t bytes = 0;
+    (void)session;
+    expect_ok(ucstore_db_cursor(db, NULL, 0, NULL, 0, false, &rows));
+    expect_ok(ucstore_db_cursor_seek_for_prev(rows, high.bytes, high.length));
+    for (; limit > 0 && ucstore_db_cursor_valid(rows); limit--) {
+        size_t key_length, value_length;
+        ucstore_db_cursor_key(rows, &key_length);
+        ucstore_db_cursor_value(rows, &value_length);
+        bytes += key_length + value_length;
+        expect_ok(ucstore_db_cursor_prev(rows));
+    }
+    expect_ok(ucstore_db_cursor_status(rows));
+    expect_ok(ucstore_db_cursor_close(rows));
+    return bytes;
+}
+
 void close_session(struct session *session) {
     free(session);
 }

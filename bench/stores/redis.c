@@ -188,6 +188,10 @@ uint64_t scan(struct session *session, struct text low, uint64_t limit) {
     return 0;
 }
 
+uint64_t scan_back(struct session *session, struct text high, uint64_t limit) {
+    return scan(session, high, limit);
+}
+
 void close_session(struct session *session) {
     close(session->server);
     free(session);

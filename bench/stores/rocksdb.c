@@ -184,6 +184,22 @@ uint64_t scan(struct session *session, struct text low, uint64_t limit) {
     return bytes;
 }
 
+uint64_t scan_back(struct session *session, struct text high, uint64_t limit) {
+    rocksdb_iterator_t *rows = rocksdb_create_iterator(db, reading);
+    uint64_t bytes = 0;
+    (void)session;
+    rocksdb_iter_seek_for_prev(rows, as_chars(high), high.length);
+    for (; limit > 0 && rocksdb_iter_valid(rows); limit--) {
+        size_t key_length, value_length;
+        rocksdb_iter_key(rows, &key_length);
+        rocksdb_iter_value(rows, &value_length);
+        bytes += key_length + value_length;
+        rocksdb_iter_prev(rows);
+    }
+    rocksdb_iter_destroy(rows);
+    return bytes;
+}
+
 void close_session(struct session *session) {
     take_back(session);
     free(session);

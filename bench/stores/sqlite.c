@@ -8,7 +8,7 @@ const bool has_memory = false, has_merges = true, has_scans = true;
 static const struct settings *opened;
 static char path[4096];
 
-enum statement { PUT, ADD, DELETE_KEY, GET, SCAN, STATEMENTS };
+enum statement { PUT, ADD, DELETE_KEY, GET, SCAN, SCAN_BACK, STATEMENTS };
 
 static const char *const texts[STATEMENTS] = {
     "INSERT INTO rows VALUES (?1, ?2) ON CONFLICT (key) DO UPDATE SET value = ?2",
@@ -16,6 +16,7 @@ static const char *const texts[STATEMENTS] = {
     "DELETE FROM rows WHERE key = ?1",
     "SELECT value FROM rows WHERE key = ?1",
     "SELECT key, value FROM rows WHERE key >= ?1 ORDER BY key LIMIT ?2",
+    "SELECT key, value FROM rows WHERE key <= ?1 ORDER BY key DESC LIMIT ?2",
 };
 
 struct session {
@@ -107,8 +108,9 @@ size_t get_many(struct session *session, const struct text *keys, size_t count) 
     return found;
 }
 
-uint64_t scan(struct session *session, struct text low, uint64_t limit) {
-    sqlite3_stmt *statement = begin(session, SCAN, low);
+/* Reads the rows of a statement that begins at a key. */
+static uint64_t read_rows(struct session *session, int place, struct text key, uint64_t limit) {
+    sqlite3_stmt *statement = begin(session, place, key);
     uint64_t bytes = 0;
     int status;
     sqlite3_bind_int64(statement, 2, (sqlite3_int64)limit);
@@ -118,6 +120,14 @@ uint64_t scan(struct session *session, struct text low, uint64_t limit) {
     expect_status(session, status, SQLITE_DONE);
     sqlite3_reset(statement);
     return bytes;
+}
+
+uint64_t scan(struct session *session, struct text low, uint64_t limit) {
+    return read_rows(session, SCAN, low, limit);
+}
+
+uint64_t scan_back(struct session *session, struct text high, uint64_t limit) {
+    return read_rows(session, SCAN_BACK, high, limit);
 }
 
 void close_session(struct session *session) {

@@ -46,6 +46,9 @@ size_t get_many(struct session *session, const struct text *keys, size_t count);
 /* Reads the first rows, at most `limit`, from a key on, and says how many bytes they have. */
 uint64_t scan(struct session *session, struct text low, uint64_t limit);
 
+/* Reads the last rows, at most `limit`, up to a key, the greatest first, and says how many bytes they have. */
+uint64_t scan_back(struct session *session, struct text high, uint64_t limit);
+
 void close_session(struct session *session);
 
 /* Waits until nothing is left to be flushed and compacted. */

@@ -6,7 +6,8 @@
  * where it says none. The works have the names of RocksDB's db_bench and of YCSB:
  *
  * - fillseq, fillrandom, overwrite: sets keys, in order or drawn; deleterandom; mergerandom: adds to drawn counters;
- * - readrandom, multireadrandom (32 keys a call), readseq (all rows in their order), seekrandom (a scan of ten rows);
+ * - readrandom, multireadrandom (32 keys a call), readseq and readreverse (all rows in their order, or against it), seekrandom and
+ *   seekreverse (a scan of ten rows);
  * - readwhilewriting: lookups, while one thread more sets drawn keys;
  * - load, and a to f: YCSB's workloads, whose keys are drawn by a power law; a-even, b-even and c-even draw them evenly. The scans of e
  *   have 1 to 100 rows, f reads, and writes what it read;
@@ -125,6 +126,21 @@ static void seek_drawn(struct worker *worker, uint64_t place) {
     read_rows(worker, drawn(place) % keys, 10);
 }
 
+/* Reads rows up to a key, the greatest first. */
+static void read_rows_back(struct worker *worker, uint64_t number, uint64_t limit) {
+    uint8_t key[KEY];
+    expect(scan_back(worker->session, key_in(key, 'k', number), limit) > 0 || limit == 0, "a scan has no rows");
+}
+
+static void read_all_back(struct worker *worker, uint64_t place) {
+    (void)place;
+    read_rows_back(worker, UINT64_MAX, UINT64_MAX);
+}
+
+static void seek_drawn_back(struct worker *worker, uint64_t place) {
+    read_rows_back(worker, drawn(place) % keys, 10);
+}
+
 static void add_drawn(struct worker *worker, uint64_t place) {
     uint8_t key[KEY];
     add(worker->session, key_in(key, 'm', drawn(place) % keys), 1);
@@ -238,7 +254,9 @@ static const struct work works[] = {
     {"readrandom", read_drawn, NULL},
     {"multireadrandom", read_together, NULL},
     {"readseq", read_all, NULL},
+    {"readreverse", read_all_back, NULL},
     {"seekrandom", seek_drawn, NULL},
+    {"seekreverse", seek_drawn_back, NULL},
     {"mergerandom", add_drawn, NULL},
     {"deleterandom", delete_drawn, NULL},
     {"readwhilewriting", read_drawn, fill_drawn},
@@ -382,7 +400,8 @@ static const struct work *work_of(const char *name, size_t length) {
 
 /* Whether a work scans. */
 static bool is_scan(const struct work *work) {
-    return work->run == read_all || work->run == seek_drawn || work->run == ycsb_e;
+    return work->run == read_all || work->run == read_all_back || work->run == seek_drawn || work->run == seek_drawn_back ||
+           work->run == ycsb_e;
 }
 
 /* Runs a work, whose name a word begins with. */
