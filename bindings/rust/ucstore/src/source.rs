@@ -31,11 +31,7 @@ pub(crate) mod sealed {
     pub trait RowsBack {
         /// The last rows, the greatest key first, as many as fit the buffer: how many these are, and the size of all.
         #[allow(private_interfaces)]
-        fn rows_back(
-            &self,
-            range: &Range<'_>,
-            buffer: Buffer<'_>,
-        ) -> Result<(u64, usize), Error>;
+        fn rows_back(&self, range: &Range<'_>, buffer: Buffer<'_>) -> Result<(u64, usize), Error>;
     }
 }
 
@@ -69,7 +65,8 @@ impl sealed::Rows for View {
 impl sealed::RowsBack for &View {
     #[allow(private_interfaces)]
     fn rows_back(&self, range: &Range<'_>, buffer: Buffer<'_>) -> Result<(u64, usize), Error> {
-        self.reads().rows_by(sys::ucstore_view_scan_back, range, buffer)
+        self.reads()
+            .rows_by(sys::ucstore_view_scan_back, range, buffer)
     }
 }
 
