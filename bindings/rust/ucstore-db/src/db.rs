@@ -15,7 +15,7 @@ use std::fmt;
 use std::mem::MaybeUninit;
 use std::path::Path;
 use std::sync::{Arc, Weak};
-use ucstore::Batch;
+use ucstore::{Batch, KeyValue};
 
 /// The most bytes of a buffer that a thread keeps for its next operation.
 const MOST_KEPT: usize = 64 << 10;
@@ -298,7 +298,7 @@ impl Db {
     /// # Errors
     ///
     /// As [`get`](Db::get).
-    pub fn first_key_value(&self) -> Result<Option<(Vec<u8>, Vec<u8>)>, Error> {
+    pub fn first_key_value(&self) -> Result<Option<KeyValue>, Error> {
         self.snapshot_to_scan()?.first_key_value()
     }
 
@@ -307,7 +307,7 @@ impl Db {
     /// # Errors
     ///
     /// As [`get`](Db::get).
-    pub fn last_key_value(&self) -> Result<Option<(Vec<u8>, Vec<u8>)>, Error> {
+    pub fn last_key_value(&self) -> Result<Option<KeyValue>, Error> {
         self.snapshot_to_scan()?.last_key_value()
     }
 

@@ -113,7 +113,7 @@ pub use options::{Options, Sync};
 pub use snapshot::{Rows, Snapshot};
 pub use stats::Stats;
 pub use ucstore;
-pub use ucstore::{Batch, Operator};
+pub use ucstore::{Batch, KeyValue, Operator};
 
 use std::sync::{Mutex, MutexGuard, PoisonError, TryLockError};
 

@@ -7,7 +7,7 @@ use std::cell::Cell;
 use std::fmt;
 use std::mem::MaybeUninit;
 use std::sync::Arc;
-use ucstore::{Scan, View};
+use ucstore::{KeyValue, Scan, View};
 
 /// The rows of a range, in the order of their keys' bytes, as they were when it was made. They are fetched in pages, from both ends.
 ///
@@ -144,7 +144,7 @@ impl Snapshot {
     /// # Errors
     ///
     /// As [`get`](Snapshot::get).
-    pub fn first_key_value(&self) -> Result<Option<(Vec<u8>, Vec<u8>)>, Error> {
+    pub fn first_key_value(&self) -> Result<Option<KeyValue>, Error> {
         Ok(self.iter()?.next().transpose()?)
     }
 
@@ -153,7 +153,7 @@ impl Snapshot {
     /// # Errors
     ///
     /// As [`get`](Snapshot::get).
-    pub fn last_key_value(&self) -> Result<Option<(Vec<u8>, Vec<u8>)>, Error> {
+    pub fn last_key_value(&self) -> Result<Option<KeyValue>, Error> {
         Ok(self.iter()?.next_back().transpose()?)
     }
 

@@ -20,6 +20,9 @@ const PAGE_BYTES: usize = 16 * 1024;
 /// The bytes of a length.
 const LENGTH: usize = 8;
 
+/// A key and its value.
+pub type KeyValue = (Vec<u8>, Vec<u8>);
+
 /// A borrowed key and its value.
 type Row<'a> = (&'a [u8], &'a [u8]);
 
@@ -326,13 +329,13 @@ impl<S: BackSource> Scan<S> {
 }
 
 /// Copies a row.
-fn owned(row: Result<Option<Row<'_>>, Error>) -> Option<Result<(Vec<u8>, Vec<u8>), Error>> {
+fn owned(row: Result<Option<Row<'_>>, Error>) -> Option<Result<KeyValue, Error>> {
     let row = row.transpose()?;
     Some(row.and_then(|(key, value)| Ok((copy(key)?, copy(value)?))))
 }
 
 impl<S: Source> Iterator for Scan<S> {
-    type Item = Result<(Vec<u8>, Vec<u8>), Error>;
+    type Item = Result<KeyValue, Error>;
 
     fn next(&mut self) -> Option<Self::Item> {
         owned(self.next_row())
