@@ -1,6 +1,7 @@
 //! Drawn scans from both ends of a range, beside a map.
 
 use std::collections::{BTreeMap, VecDeque};
+use std::time::{Duration, Instant};
 use ucstore::{Operator, Options, Store, View};
 
 type Map = BTreeMap<Vec<u8>, Vec<u8>>;
@@ -156,4 +157,28 @@ fn a_view_shows_no_later_write_backwards() {
         assert_eq!(value, [7; 100]);
     }
     assert_eq!(keys.next(), None);
+}
+
+#[test]
+fn deleted_ranges_are_skipped_both_ways() {
+    let store = Store::create(Operator::Append, &Options::default()).unwrap();
+    for key in 0..200_000u32 {
+        store.put(key.to_be_bytes(), "old").unwrap();
+    }
+    store.flush().unwrap();
+    store
+        .delete_range(1u32.to_be_bytes(), 199_999u32.to_be_bytes())
+        .unwrap();
+    store.put(100_000u32.to_be_bytes(), "new").unwrap();
+    let view = store.view().unwrap();
+    let keys = [0u32, 100_000, 199_999].map(|key| key.to_be_bytes().to_vec());
+    let begun = Instant::now();
+    for _ in 0..1_000 {
+        let forward = view.scan("", None).map(|row| row.unwrap().0);
+        assert!(forward.eq(keys.iter().cloned()));
+        let back = view.scan("", None).rev().map(|row| row.unwrap().0);
+        assert!(back.eq(keys.iter().rev().cloned()));
+    }
+    // A step for each deleted key would take minutes.
+    assert!(begun.elapsed() < Duration::from_secs(20));
 }
