@@ -6,6 +6,7 @@ use crate::memory::{text, Place, Room};
 use crate::status::Status;
 use db::{Error, Rows, Snapshot};
 use std::ffi::{c_char, c_void};
+use std::ops::Bound;
 use std::ptr;
 use std::slice;
 
@@ -60,7 +61,7 @@ impl Cursor {
     /// One at the first row of a range of a snapshot.
     fn of(snapshot: Snapshot, low: &[u8], high: Option<&[u8]>) -> Result<Cursor, Refusal> {
         let mut cursor = Cursor {
-            rows: snapshot.range(low, high)?,
+            rows: snapshot.range::<&[u8]>((Bound::Included(low), below(high)))?,
             snapshot,
             low: low.to_vec(),
             high: high.map(<[u8]>::to_vec),
@@ -74,37 +75,43 @@ impl Cursor {
 
     /// Moves to the first row of the range at or above a key.
     fn seek(&mut self, key: &[u8]) -> Result<(), Refusal> {
-        let low = key.max(&self.low).to_vec();
-        let high = self.high.clone();
-        self.start(&low, high.as_deref(), Direction::Forward)
+        let rows = self.rows_from(Bound::Included(key.max(&self.low)));
+        self.start(rows, Direction::Forward)
     }
 
     /// Moves to the last row of the range at or below a key.
     fn seek_for_prev(&mut self, key: &[u8]) -> Result<(), Refusal> {
-        let low = self.low.clone();
-        let mut high = after(key);
-        if let Some(bound) = &self.high {
-            high = high.min(bound.clone());
-        }
-        self.start(&low, Some(&high), Direction::Back)
+        let high = match self.high.as_deref() {
+            Some(high) if high <= key => Bound::Excluded(high),
+            _ => Bound::Included(key),
+        };
+        let rows = self.rows_to(high);
+        self.start(rows, Direction::Back)
     }
 
     /// Moves to the first or the last row of the range.
     fn rewind(&mut self, direction: Direction) -> Result<(), Refusal> {
-        let (low, high) = (self.low.clone(), self.high.clone());
-        self.start(&low, high.as_deref(), direction)
+        let rows = self.rows_from(Bound::Included(&self.low));
+        self.start(rows, direction)
     }
 
-    /// Moves to the first or the last row between two keys.
-    fn start(
-        &mut self,
-        low: &[u8],
-        high: Option<&[u8]>,
-        direction: Direction,
-    ) -> Result<(), Refusal> {
+    /// The rows of the range from a key on.
+    fn rows_from(&self, low: Bound<&[u8]>) -> Result<Rows, Error> {
+        self.snapshot
+            .range::<&[u8]>((low, below(self.high.as_deref())))
+    }
+
+    /// The rows of the range up to a key.
+    fn rows_to(&self, high: Bound<&[u8]>) -> Result<Rows, Error> {
+        self.snapshot
+            .range::<&[u8]>((Bound::Included(self.low.as_slice()), high))
+    }
+
+    /// Moves to the first or the last one of these rows.
+    fn start(&mut self, rows: Result<Rows, Error>, direction: Direction) -> Result<(), Refusal> {
         self.row = None;
         self.failure = None;
-        self.rows = self.snapshot.range(low, high)?;
+        self.rows = rows?;
         self.direction = direction;
         self.take()
     }
@@ -113,8 +120,8 @@ impl Cursor {
     fn step(&mut self) -> Result<(), Refusal> {
         match self.row() {
             Some((key, _)) if self.direction == Direction::Back => {
-                let (low, high) = (after(key), self.high.clone());
-                self.start(&low, high.as_deref(), Direction::Forward)
+                let rows = self.rows_from(Bound::Excluded(key));
+                self.start(rows, Direction::Forward)
             }
             Some(_) => self.take(),
             None => Ok(()),
@@ -125,8 +132,8 @@ impl Cursor {
     fn step_back(&mut self) -> Result<(), Refusal> {
         match self.row() {
             Some((key, _)) if self.direction == Direction::Forward => {
-                let (low, high) = (self.low.clone(), key.to_vec());
-                self.start(&low, Some(&high), Direction::Back)
+                let rows = self.rows_to(Bound::Excluded(key));
+                self.start(rows, Direction::Back)
             }
             Some(_) => self.take(),
             None => Ok(()),
@@ -220,9 +227,9 @@ unsafe fn bounds<'a>(
     Ok((low, high))
 }
 
-/// The least key above a key.
-fn after(key: &[u8]) -> Vec<u8> {
-    [key, &[0]].concat()
+/// The end of a range below a key, if there is one.
+fn below(high: Option<&[u8]>) -> Bound<&[u8]> {
+    high.map_or(Bound::Unbounded, Bound::Excluded)
 }
 
 /// The least key above all that begin with a prefix; none if there is no key above them.

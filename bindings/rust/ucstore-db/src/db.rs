@@ -13,6 +13,7 @@ use crate::workers::Workers;
 use std::cell::Cell;
 use std::fmt;
 use std::mem::MaybeUninit;
+use std::ops::RangeBounds;
 use std::path::Path;
 use std::sync::{Arc, Weak};
 use ucstore::{Batch, KeyValue};
@@ -311,13 +312,29 @@ impl Db {
         self.snapshot_to_scan()?.last_key_value()
     }
 
-    /// The keys from `low` to below `high`, or to the last one, with their values, at one moment.
+    /// The keys of a range, with their values, at one moment. All keys are those of [`iter`](Db::iter).
+    ///
+    /// ```
+    /// # use ucstore_db::{Db, Options};
+    /// # fn main() -> Result<(), ucstore_db::Error> {
+    /// let db = Db::in_memory(&Options::default())?;
+    /// for key in ["a", "b", "c"] {
+    ///     db.put(key, "1")?;
+    /// }
+    /// for row in db.range("b"..)?.rev() {
+    ///     let (key, value) = row?;
+    ///     println!("{}: {}", key.escape_ascii(), value.escape_ascii());
+    /// }
+    /// assert_eq!(db.range("a"..="b")?.count(), 2);
+    /// # Ok(())
+    /// # }
+    /// ```
     ///
     /// # Errors
     ///
     /// As [`iter`](Db::iter).
-    pub fn range(&self, low: impl AsRef<[u8]>, high: Option<&[u8]>) -> Result<Rows, Error> {
-        self.snapshot_to_scan()?.range(low, high)
+    pub fn range<K: AsRef<[u8]>>(&self, range: impl RangeBounds<K>) -> Result<Rows, Error> {
+        self.snapshot_to_scan()?.range(range)
     }
 
     /// The keys that begin with these bytes, with their values, at one moment.

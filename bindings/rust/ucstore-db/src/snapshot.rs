@@ -6,6 +6,7 @@ use crate::newest::sort;
 use std::cell::Cell;
 use std::fmt;
 use std::mem::MaybeUninit;
+use std::ops::RangeBounds;
 use std::sync::Arc;
 use ucstore::{KeyValue, Scan, View};
 
@@ -136,7 +137,7 @@ impl Snapshot {
     ///
     /// As [`get`](Snapshot::get), also for each row.
     pub fn iter(&self) -> Result<Rows, Error> {
-        self.range("", None)
+        self.range::<&[u8]>(..)
     }
 
     /// The least key that has a value, with it.
@@ -157,13 +158,13 @@ impl Snapshot {
         Ok(self.iter()?.next_back().transpose()?)
     }
 
-    /// The keys from `low` to below `high`, or to the last one, with their values.
+    /// The keys of a range, with their values.
     ///
     /// # Errors
     ///
     /// As [`iter`](Snapshot::iter).
-    pub fn range(&self, low: impl AsRef<[u8]>, high: Option<&[u8]>) -> Result<Rows, Error> {
-        Ok(self.view_to_scan()?.into_scan(low, high))
+    pub fn range<K: AsRef<[u8]>>(&self, range: impl RangeBounds<K>) -> Result<Rows, Error> {
+        Ok(self.view_to_scan()?.into_range(range))
     }
 
     /// The keys that begin with these bytes, with their values.

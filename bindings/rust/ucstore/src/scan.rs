@@ -4,8 +4,9 @@ use crate::error::Error;
 use crate::memory::copy;
 use crate::reads::Range;
 use crate::source::{BackSource, Buffer, Source};
+use std::borrow::Cow;
 use std::iter::FusedIterator;
-use std::ops;
+use std::ops::{self, Bound, RangeBounds};
 
 /// The most rows of the first page: many scans read no more. Each page may have twice as many as the one before.
 const FIRST_ROWS: u64 = 16;
@@ -28,6 +29,28 @@ type Row<'a> = (&'a [u8], &'a [u8]);
 
 /// Where a key and its value are in a page.
 type Place = (ops::Range<usize>, ops::Range<usize>);
+
+/// The ends of a range of keys: its least key, and the least one above it, if there is one.
+pub(crate) fn ends_of<'a, K: AsRef<[u8]> + 'a>(
+    range: &'a impl RangeBounds<K>,
+) -> (Cow<'a, [u8]>, Option<Cow<'a, [u8]>>) {
+    let low = match range.start_bound() {
+        Bound::Included(key) => Cow::Borrowed(key.as_ref()),
+        Bound::Excluded(key) => Cow::Owned(after(key.as_ref())),
+        Bound::Unbounded => Cow::default(),
+    };
+    let high = match range.end_bound() {
+        Bound::Included(key) => Some(Cow::Owned(after(key.as_ref()))),
+        Bound::Excluded(key) => Some(Cow::Borrowed(key.as_ref())),
+        Bound::Unbounded => None,
+    };
+    (low, high)
+}
+
+/// The least key above a key.
+fn after(key: &[u8]) -> Vec<u8> {
+    [key, &[0]].concat()
+}
 
 /// The least key above all that begin with a prefix; none if there is no key above them.
 pub(crate) fn end_of_prefix(prefix: &[u8]) -> Option<Vec<u8>> {

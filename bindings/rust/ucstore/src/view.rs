@@ -5,11 +5,12 @@ use crate::error::{check, Error};
 use crate::lookup_source::LookupSource;
 use crate::reads::{Functions, Reads};
 use crate::report::Report;
-use crate::scan::{end_of_prefix, Scan};
+use crate::scan::{end_of_prefix, ends_of, Scan};
 use crate::sys;
 use std::cell::UnsafeCell;
 use std::fmt;
 use std::mem::MaybeUninit;
+use std::ops::RangeBounds;
 use std::ptr;
 
 /// The functions that read a view.
@@ -156,9 +157,31 @@ impl View {
         Scan::of(self, low.as_ref(), high, None)
     }
 
-    /// Returns the rows of a [`scan`](View::scan), which own the view.
-    pub fn into_scan(self, low: impl AsRef<[u8]>, high: Option<&[u8]>) -> Scan<View> {
-        Scan::of(self, low.as_ref(), high, None)
+    /// Returns the keys of a range, with their values, as [`scan`](View::scan) does.
+    ///
+    /// ```
+    /// # use ucstore::{Operator, Options, Store};
+    /// # fn main() -> Result<(), ucstore::Error> {
+    /// let store = Store::create(Operator::Append, &Options::default())?;
+    /// for key in ["a", "b", "c"] {
+    ///     store.put(key, "1")?;
+    /// }
+    /// let view = store.view()?;
+    /// assert_eq!(view.range("a"..="b").count(), 2);
+    /// let last = view.range("b"..).next_back().transpose()?;
+    /// assert_eq!(last, Some((b"c".to_vec(), b"1".to_vec())));
+    /// # Ok(())
+    /// # }
+    /// ```
+    pub fn range<K: AsRef<[u8]>>(&self, range: impl RangeBounds<K>) -> Scan<&View> {
+        let (low, high) = ends_of(&range);
+        self.scan(low, high.as_deref())
+    }
+
+    /// Returns the rows of a [`range`](View::range), which own the view.
+    pub fn into_range<K: AsRef<[u8]>>(self, range: impl RangeBounds<K>) -> Scan<View> {
+        let (low, high) = ends_of(&range);
+        Scan::of(self, &low, high.as_deref(), None)
     }
 
     /// Returns the keys that begin with `prefix`, with their values, as [`scan`](View::scan) does.
@@ -170,7 +193,7 @@ impl View {
     /// Returns the rows of a [`prefix`](View::prefix), which own the view.
     pub fn into_prefix(self, prefix: impl AsRef<[u8]>) -> Scan<View> {
         let prefix = prefix.as_ref();
-        self.into_scan(prefix, end_of_prefix(prefix).as_deref())
+        Scan::of(self, prefix, end_of_prefix(prefix).as_deref(), None)
     }
 
     /// Returns the rows of a [`scan`](View::scan) at a snapshot that the store had when the view was taken.

@@ -1,6 +1,7 @@
 //! Drawn scans from both ends of a range, beside a map.
 
 use std::collections::{BTreeMap, VecDeque};
+use std::ops::Bound;
 use std::time::{Duration, Instant};
 use ucstore::{Operator, Options, Store, View};
 
@@ -33,6 +34,15 @@ impl Numbers {
         (0..length)
             .map(|_| bytes[self.below(bytes.len() as u64) as usize])
             .collect()
+    }
+
+    /// A bound of a range, of each kind.
+    fn bound(&mut self) -> Bound<Vec<u8>> {
+        match self.below(5) {
+            0 => Bound::Unbounded,
+            1 | 2 => Bound::Included(self.key()),
+            _ => Bound::Excluded(self.key()),
+        }
     }
 
     /// A value, now and then one that fills a page.
@@ -139,6 +149,44 @@ fn scans_go_both_ways() {
             assert!(back.iter().eq(rows_of(&map, b"", None).iter().rev()));
         }
     }
+}
+
+/// Whether a key is in a range. The least key may be above the greatest.
+fn is_in(key: &[u8], low: &Bound<Vec<u8>>, high: &Bound<Vec<u8>>) -> bool {
+    let is_above = match low {
+        Bound::Included(low) => low.as_slice() <= key,
+        Bound::Excluded(low) => low.as_slice() < key,
+        Bound::Unbounded => true,
+    };
+    is_above
+        && match high {
+            Bound::Included(high) => key <= high.as_slice(),
+            Bound::Excluded(high) => key < high.as_slice(),
+            Bound::Unbounded => true,
+        }
+}
+
+#[test]
+fn ranges_have_bounds_of_each_kind() {
+    let mut numbers = Numbers(7);
+    let store = Store::create(Operator::Append, &Options::default()).unwrap();
+    let mut map = Map::new();
+    for _ in 0..300 {
+        write(&mut numbers, Operator::Append, &store, &mut map);
+    }
+    let view = store.view().unwrap();
+    for _ in 0..2_000 {
+        let (low, high) = (numbers.bound(), numbers.bound());
+        let wanted = || map.keys().filter(|key| is_in(key, &low, &high));
+        let range = || view.range::<Vec<u8>>((low.clone(), high.clone()));
+        assert!(range().map(|row| row.unwrap().0).eq(wanted().cloned()));
+        assert!(range()
+            .rev()
+            .map(|row| row.unwrap().0)
+            .eq(wanted().rev().cloned()));
+    }
+    assert_eq!(view.range::<&[u8]>(..).count(), map.len());
+    assert_eq!(view.range("a".."a").count(), 0);
 }
 
 #[test]
