@@ -57,11 +57,9 @@ pub(crate) unsafe fn read_sized<T: Copy>(
     // SAFETY: The caller owes as many bytes.
     let given = unsafe { slice::from_raw_parts(at.cast::<MaybeUninit<u8>>().as_ptr(), size) };
     let known = size.min(size_of::<T>());
+    let mut unknown = given[known..].iter();
     // SAFETY: After the fields that this library knows the header's struct has whole fields without gaps.
-    if given[known..]
-        .iter()
-        .any(|byte| unsafe { byte.assume_init() } != 0)
-    {
+    if unknown.any(|byte| unsafe { byte.assume_init() } != 0) {
         return Err(Status::BadSize.into());
     }
     let mut read = default;
