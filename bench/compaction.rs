@@ -5,12 +5,12 @@ use crate::store::{Entry, Fragment, Run, What, cut};
 
 const MAX_SEQUENCE: u64 = (1 << 56) - 1;
 
-/// How operands are joined.
+/// The way in which operands are joined.
 pub(crate) trait Operator {
     /// The value that an operand makes of none.
     fn first(operand: &[u8]) -> Vec<u8>;
 
-    /// What an older text becomes with a newer operand.
+    /// The value that an older one becomes with a newer operand.
     fn joined(older: Vec<u8>, newer: &[u8]) -> Vec<u8>;
 }
 

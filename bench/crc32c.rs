@@ -2,7 +2,7 @@
 
 const POLYNOMIAL: u32 = 0x82f6_3b78;
 
-/// A row for each number of zero bytes behind a byte, and in it an entry for each byte.
+/// A row for each number of zero bytes after a byte, and in it an entry for each byte.
 static TABLES: [[u32; 256]; 8] = tables();
 
 const fn tables() -> [[u32; 256]; 8] {

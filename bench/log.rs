@@ -16,7 +16,7 @@ pub fn checksum(bytes: &[u8]) -> u32 {
     crc.rotate_right(15).wrapping_add(0xa282_ead8)
 }
 
-/// How a log ended.
+/// The end of a log.
 #[derive(Clone, Copy)]
 pub enum Ended {
     Clean,

@@ -3,9 +3,9 @@
 #[path = "crc32c.rs"]
 mod crc32c;
 
-/// How many bytes a block has.
+/// The bytes of a block.
 pub const BLOCK: usize = 32_768;
-/// How many bytes stand in front of a record's data.
+/// The bytes of a record's header.
 pub const HEADER: usize = 7;
 
 pub const FULL: u8 = 1;
@@ -67,7 +67,7 @@ pub fn push_varint(out: &mut Vec<u8>, mut number: usize) {
     out.push(number as u8);
 }
 
-/// A text behind its length.
+/// Bytes after their length.
 pub fn string(bytes: &[u8]) -> Vec<u8> {
     let mut out = Vec::new();
     push_varint(&mut out, bytes.len());

@@ -23,21 +23,21 @@ mod log_writer;
 use log_writer::{DELETE, MERGE, PUT, RANGE, head, push_payload, push_varint, string};
 use std::io::{self, BufRead, BufWriter, Write};
 
-/// How many keys the counters have.
+/// The number of the counters' keys.
 const KEYS: u64 = 300_000;
-/// How many keys a range of the counters spans.
+/// The number of keys in a range of the counters.
 const SPAN: u64 = 30;
-/// How many keys the hot counters have.
+/// The number of the hot counters' keys.
 const HOT_KEYS: u64 = 1_000;
-/// How many keys are put before most are deleted.
+/// The number of keys that are put before most are deleted.
 const DELETED_KEYS: u64 = 250_000;
-/// Of so many of these keys one is left.
+/// Of this number of these keys one is left.
 const LEFT_OF: u64 = 10;
-/// Of so many neighbours a range deletion leaves the last ones.
+/// Of this number of neighbours a range deletion leaves the last ones.
 const NEIGHBOURS: u64 = 1_000;
-/// How many of them it deletes.
+/// The number of those that it deletes.
 const RANGED: u64 = 900;
-/// How many writes a batch of these has.
+/// The number of writes in a batch of these.
 const DELETED_BATCH: usize = 100;
 
 /// Bytes drawn by lot, the same in each run.
@@ -62,9 +62,9 @@ impl Lot {
 /// What a log of puts holds.
 #[derive(Clone, Copy)]
 struct Shape {
-    /// How many puts a batch has.
+    /// The number of puts in a batch.
     puts: u32,
-    /// How long a value is.
+    /// The length of a value.
     value: usize,
 }
 
@@ -117,7 +117,7 @@ enum Kind {
 }
 
 impl Kind {
-    /// How many writes a batch has.
+    /// The number of writes in a batch.
     fn writes(self) -> u32 {
         match self {
             Kind::Puts(shape) => shape.puts,
@@ -145,7 +145,7 @@ fn counter_key(number: u64) -> String {
     format!("account/{number:08}")
 }
 
-/// The record of a write of the key with a number, with what stands behind the key.
+/// The record of a write of the key with a number, with the bytes after the key.
 fn record(tag: u8, number: u64, second: &[u8]) -> Vec<u8> {
     let key = string(counter_key(number).as_bytes());
     [&[tag], key.as_slice(), second].concat()
@@ -186,7 +186,7 @@ fn push_hot_write(lot: &mut Lot, out: &mut Vec<u8>) {
     });
 }
 
-/// As many batches as fit so many bytes.
+/// As many batches as fit a number of bytes.
 fn make_log(kind: Kind, size: usize) -> Vec<u8> {
     let mut log = Vec::with_capacity(size);
     let mut lot = Lot(0x2545_f491_4f6c_dd1d);

@@ -31,7 +31,7 @@ pub(crate) enum Kind {
     DeleteRange,
 }
 
-/// A write whose texts lie in the arena.
+/// A write whose bytes lie in the arena.
 pub(crate) struct Slot {
     pub(crate) seq: u64,
     pub(crate) kind: Kind,
@@ -108,7 +108,7 @@ impl Memtable {
     }
 }
 
-/// A point whose texts lie in the arena.
+/// A point whose bytes lie in the arena.
 pub(crate) struct EntryRef<'a> {
     pub(crate) key: &'a [u8],
     pub(crate) seq: u64,

@@ -6,7 +6,7 @@ use std::ops::Bound;
 
 pub(crate) type Values = BTreeMap<Vec<u8>, Vec<u8>>;
 
-/// The number that 8 bytes stand for, low byte first; 0 for any other text.
+/// The number that 8 bytes stand for, low byte first; 0 for any other bytes.
 fn number(bytes: &[u8]) -> u64 {
     bytes.try_into().map_or(0, u64::from_le_bytes)
 }

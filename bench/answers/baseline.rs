@@ -6,9 +6,9 @@
 //!
 //! It reads a log of counters from standard input, folds its writes as they come, and answers the workload's queries: the
 //! same line as `ours`, with one run and a point for each key. With `--one-batch` all queries are one batch, and with
-//! `--threads` so many threads draw pieces of 16 queries. `operands` prints how many operands the lookups of `hot` fold:
-//! those behind the last put or deletion of each key, where nothing has folded them before. `rows` writes all keys that have a
-//! value, in order, and their values, each text behind its length of 4 bytes, low byte first.
+//! `--threads` that number of threads draws pieces of 16 queries. `operands` prints how many operands the lookups of `hot` fold:
+//! those after the last put or deletion of each key, where nothing has folded them before. `rows` writes all keys that have a
+//! value, in order, and their values, each key and value after its length of 4 bytes, low byte first.
 
 #[path = "../log.rs"]
 mod log;
@@ -35,7 +35,7 @@ const SCANS: usize = 500;
 const TIMES: usize = 10;
 const MOST_ROWS: u64 = 50;
 
-/// How many queries a thread draws at a time.
+/// The number of queries that a thread draws at a time.
 const PIECE: usize = 16;
 
 enum Query {

@@ -24,7 +24,7 @@ fn round(numbers: &mut [u64; 6], by: u64) {
     *f = f.wrapping_add(*a & 7);
 }
 
-/// How many rounds a thread does in a try.
+/// The number of a thread's rounds in a try.
 fn rounds_in_a_try() -> u64 {
     let mut numbers = [1, 2, 3, 4, 5, 6];
     let start = Instant::now();
@@ -39,7 +39,7 @@ fn rounds_in_a_try() -> u64 {
     rounds
 }
 
-/// How many rounds so many threads do together, in millions a second.
+/// The rounds of a number of threads together, in millions a second.
 fn rounds_of(threads: usize) -> f64 {
     let rounds: u64 = thread::scope(|scope| {
         let started: Vec<_> = (0..threads).map(|_| scope.spawn(rounds_in_a_try)).collect();

@@ -3,7 +3,7 @@
 //!     baseline SHAPE RUNS WRITES [KEEPS WHERE]
 //!     baseline writes SHAPE RUNS WRITES
 //!
-//! `writes` writes the writes instead, each as a byte for its kind and two texts, each after its length of 4 bytes, low byte first.
+//! `writes` writes the writes instead, each as a byte for its kind and two byte strings, each after its length of 4 bytes, low byte first.
 
 #[path = "../compaction.rs"]
 mod compaction;
@@ -20,7 +20,7 @@ const SPREAD: u64 = 0x9e37_79b9_7f4a_7c15;
 const STRIDE: u64 = 7919;
 const COMMA: u8 = b',';
 
-/// Joins texts with a comma.
+/// Joins strings with a comma.
 struct Append;
 
 impl Operator for Append {
@@ -67,7 +67,7 @@ fn digits(number: u64) -> [u8; 10] {
     digits
 }
 
-/// The write after `before` others: its kind and its texts.
+/// The write after `before` others: its kind and its byte strings.
 fn write_after(load: Load, before: u64, random: u64) -> (Kind, Vec<u8>, Vec<u8>) {
     let all = load.runs * load.writes;
     let number = (before + 1).to_le_bytes().to_vec();

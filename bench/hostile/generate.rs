@@ -2,19 +2,20 @@
 //!
 //!     generate NAME AMOUNT
 //!
-//! Logs of so many bytes, or a record less:
+//! Logs of a number of bytes, or a record less:
 //!
 //! `zeros`, `ones`, `random`: bytes that are 0, FF, or drawn by lot. `firsts`: empty FIRST records. `middles`: a FIRST record, and
-//! behind it empty MIDDLE records. `joined`: one put, whose value stands in a FIRST, MIDDLEs and a LAST. `shorts`: batches that
+//! after it empty MIDDLE records. `joined`: one put, whose value stands in a FIRST, MIDDLEs and a LAST. `shorts`: batches that
 //! delete the empty key. `empties`: batches of nothing. `deletes`: one batch that deletes the empty key again and again.
 //!
-//! Logs of so many writes: `operands` merges of one key, `prefix` puts of keys that begin with the same 60 bytes, `neighbours`
+//! Logs of a number of writes: `operands` merges of one key, `prefix` puts of keys that begin with the same 60 bytes, `neighbours`
 //! range deletions, each of which overlaps the next, and `stairs` range deletions that all overlap. `long` puts keys of 1 MiB
 //! that differ in the last bytes alone.
 //!
-//! Scripts: `picks` and `lookups` have as many short lines as fit so many bytes, `operand_lines` merges one key so often, and `many_runs` puts 64
-//! keys and has so many lookups with a pick behind each. Heads of `ask` with a log behind them: `asked` has as many lookups as fit
-//! so many bytes over an empty log, `gets` so many lookups of a key in three writes, `scans` so many scans without a limit of 100 keys.
+//! Scripts: `picks` and `lookups` have as many short lines as fit a number of bytes, `operand_lines` merges one key that number of
+//! times, and `many_runs` puts 64 keys and has a number of lookups with a pick after each. Heads of `ask` with a log after them:
+//! `asked` has as many lookups as fit a number of bytes over an empty log, `gets` a number of lookups of a key in three writes,
+//! `scans` a number of scans without a limit of 100 keys.
 
 #[path = "../log_writer.rs"]
 mod log_writer;
@@ -24,16 +25,16 @@ use log_writer::{
 };
 use std::io::{self, Write};
 
-/// How many writes a batch has where it has several.
+/// The number of writes in a batch of several.
 const BATCH: usize = 1_000;
 
-/// How long the common prefix of keys is.
+/// The length of the common prefix of keys.
 const PREFIX: usize = 60;
 
-/// How long a long key is.
+/// The length of a long key.
 const LONG: usize = 1 << 20;
 
-/// How many keys each scan gives.
+/// The number of keys of each scan.
 const SCANNED: u64 = 100;
 
 /// Bytes drawn by lot (Marsaglia's xorshift), the same in each run.
@@ -72,7 +73,7 @@ fn record(tag: u8, texts: &[&[u8]]) -> Vec<u8> {
     record
 }
 
-/// A log of writes, so many in a batch.
+/// A log of writes, a number in each batch.
 fn log_of(writes: impl Iterator<Item = Vec<u8>>, batch: usize) -> Vec<u8> {
     let mut log = Vec::new();
     let mut seq = 1;
@@ -103,14 +104,14 @@ fn log_of_payloads(size: usize, payload: impl Fn(u64) -> Vec<u8>) -> Vec<u8> {
     log
 }
 
-/// A put of a long value, whose log has so many bytes or a few less.
+/// A put of a long value, whose log has a number of bytes or a few less.
 fn joined(size: usize) -> Vec<u8> {
     let blocks = size.div_ceil(BLOCK);
     let value = vec![b'v'; size - blocks * HEADER - 32];
     log_of([record(PUT, &[b"k", &value])].into_iter(), 1)
 }
 
-/// A batch of deletions of the empty key, whose log has so many bytes or a few less.
+/// A batch of deletions of the empty key, whose log has a number of bytes or a few less.
 fn deletes(size: usize) -> Vec<u8> {
     let deletion = record(DELETE, &[b""]);
     let count = (size - size.div_ceil(BLOCK) * HEADER - 32) / deletion.len();
@@ -136,18 +137,18 @@ fn key(number: usize) -> [u8; 4] {
     (number as u32).to_be_bytes()
 }
 
-/// So many range deletions, from each key to the one that a number of keys behind it.
+/// A number of range deletions, from each key to the one a number of keys after it.
 fn ranges(count: usize, span: usize) -> Vec<u8> {
     let range = |number| record(RANGE, &[&key(number), &key(number + span)]);
     log_of((0..count).map(range), BATCH)
 }
 
-/// As many of a line as fit so many bytes.
+/// As many of a line as fit a number of bytes.
 fn lines(line: &str, size: usize) -> Vec<u8> {
     line.as_bytes().repeat(size / line.len())
 }
 
-/// A head of so many equal lines, in front of a log.
+/// A head of a number of equal lines, in front of a log.
 fn asked(line: &str, count: usize, log: &[u8]) -> Vec<u8> {
     [&line.as_bytes().repeat(count), b"log\n".as_slice(), log].concat()
 }
@@ -163,7 +164,7 @@ fn scanned() -> Vec<u8> {
     log_of((0..SCANNED).map(put), 10)
 }
 
-/// Puts of 64 keys, and so many lookups with a pick behind each.
+/// Puts of 64 keys, and a number of lookups with a pick after each.
 fn many_runs(count: usize) -> Vec<u8> {
     let mut script = String::new();
     for number in 0..64 {

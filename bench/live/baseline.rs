@@ -5,8 +5,9 @@
 //!
 //! It reads a log of counters from standard input, and applies its first COUNT batches of SIZE writes to the map: the same line as
 //! `ours`, with one run, a point for each key, and no time for compactions. It has no snapshots: each lookup reads what is
-//! there then. `fed` does what `bench/beside fed` does, by versions of our layout behind `RwLock<Arc<_>>` (`fed.rs`). `writes` writes
-//! the first COUNT writes for `rocksdb` and `ours`, each as a byte for its kind and two texts, each after its length of 4 bytes, low byte first.
+//! there then. `fed` does what `bench/beside fed` does, by versions of our layout in a `RwLock<Arc<_>>` (`fed.rs`). `writes` writes
+//! the first COUNT writes for `rocksdb` and `ours`, each as a byte for its kind and two byte strings, each after its length of 4 bytes,
+//! low byte first.
 
 #[path = "../compaction.rs"]
 mod compaction;
@@ -27,9 +28,9 @@ use std::time::{Duration, Instant};
 use store::Numbers;
 use writes::{key_of, number, with_value, writes_of, Write, KEYS};
 
-/// How many lookups there are behind each batch of live writes.
+/// The number of lookups after each batch of live writes.
 const LOOKUPS: usize = 100;
-/// How many lookups there are behind all feeds.
+/// The number of lookups after all feeds.
 const LAST_LOOKUPS: usize = 20_000;
 /// Of how many feeds around a place the median is taken.
 const AROUND: usize = 11;
@@ -110,7 +111,7 @@ impl Live {
         self.checksum = answers.iter().fold(self.checksum, with_value);
     }
 
-    /// The median of the feeds around the one before which so many writes were fed by batches of a size.
+    /// The median of the feeds around the one before which a number of writes were fed by batches of a size.
     fn median_at(&self, writes: usize, size: usize) -> u128 {
         let first = (writes / size).saturating_sub(AROUND / 2);
         let mut around: Vec<&Duration> = self.feeds.iter().skip(first).take(AROUND).collect();
@@ -137,7 +138,7 @@ impl Live {
     }
 }
 
-/// Applies batches, and looks keys up behind each or behind all.
+/// Applies batches, and looks keys up after each or after all.
 fn measure(writes: &[Write], mode: &str, size: usize, count: usize) {
     let (each, last) = match mode {
         "live" => (LOOKUPS, 0),

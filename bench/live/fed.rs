@@ -1,4 +1,4 @@
-//! The work of `bench/beside fed` in plain Rust: versions of our layout behind `RwLock<Arc<_>>`, which one thread feeds, one compacts
+//! The work of `bench/beside fed` in plain Rust: versions of our layout in a `RwLock<Arc<_>>`, which one thread feeds, one compacts
 //! and two read.
 
 use crate::compaction::{compact, Counter, Keeping};
@@ -12,9 +12,9 @@ use std::sync::{Arc, RwLock};
 use std::thread;
 use std::time::{Duration, Instant};
 
-/// How many runs a version has at the most: a feed waits then, as RocksDB's flush does by default.
+/// The most runs of a version: a feed waits then, as RocksDB's flush does by default.
 const MOST_RUNS: usize = 19;
-/// How many lookups there are behind all feeds.
+/// The number of lookups after all feeds.
 const LAST_LOOKUPS: usize = 20_000;
 
 /// A run, with the lowest sequence of its writes.
@@ -59,7 +59,7 @@ impl Version {
     }
 }
 
-/// The run of a batch whose writes stand behind a sequence, and fill no memtable.
+/// The run of a batch whose writes come after a sequence, and fill no memtable.
 fn flushed(batch: &[Write], last: u64) -> Placed {
     let mut memtable = Memtable::default();
     for (write, seq) in batch.iter().zip(last + 1..) {
@@ -116,7 +116,7 @@ impl Store {
         drop(before);
     }
 
-    /// Feeds a batch once there is room for its run. Whether it had to wait.
+    /// Feeds a batch once its run fits. Tells whether it had to wait.
     fn feed(&self, batch: &[Write]) -> bool {
         let mut waited = false;
         while self.pin().runs.len() == MOST_RUNS {
@@ -186,7 +186,7 @@ impl Store {
         self.pin().keeps.last().is_some_and(|keep| *keep > 0)
     }
 
-    /// How many nanoseconds each lookup takes, from the first batch's snapshot until all is fed.
+    /// The nanoseconds of each lookup, from the first batch's snapshot until all is fed.
     fn ask(&self, seed: u64) -> Vec<u64> {
         let mut numbers = Numbers { state: seed };
         let mut times = Vec::new();
@@ -213,7 +213,7 @@ struct Feeding {
 }
 
 impl Feeding {
-    /// Feeds batches, and behind each takes the next snapshot and releases the one before.
+    /// Feeds batches, and after each takes the next snapshot and releases the one before.
     fn of(store: &Store, batches: &[&[Write]]) -> Feeding {
         let mut feeding = Feeding::default();
         for batch in batches {
@@ -231,7 +231,7 @@ impl Feeding {
     }
 }
 
-/// The time that so many of 1,000 don't pass.
+/// The time that a number of 1,000 don't exceed.
 fn below(times: &[u64], share: usize) -> u64 {
     times.get(times.len() * share / 1000).copied().unwrap_or(0)
 }

@@ -47,7 +47,7 @@ impl Run {
         fragment.seqs.get(newer).copied()
     }
 
-    /// What the writes at or below a sequence do to a key, behind what newer runs do.
+    /// What the writes at or below a sequence do to a key, before the writes of newer runs.
     fn under(&self, key: &[u8], at: u64, mut newer: Folded) -> Effect {
         let deleted = self.deleted_at(key, at);
         for point in &self.points[self.seek(key)..] {

@@ -2,10 +2,10 @@
 
 use crate::log::{read_batch, Ended, LogReader, Op};
 
-/// How many keys a log of counters has.
+/// The number of keys of a log of counters.
 pub(crate) const KEYS: u64 = 300_000;
 
-/// A write with its texts.
+/// A write with its bytes.
 pub(crate) enum Write {
     Put(Vec<u8>, Vec<u8>),
     Delete(Vec<u8>),
@@ -23,7 +23,7 @@ impl Write {
         }
     }
 
-    /// A byte for its kind, and its texts.
+    /// A byte for its kind, and its byte strings.
     pub(crate) fn parts(&self) -> (u8, [&[u8]; 2]) {
         match self {
             Write::Put(key, value) => (b'p', [key, value]),
@@ -55,7 +55,7 @@ pub(crate) fn writes_of(log: &[u8]) -> Vec<Write> {
     writes
 }
 
-/// The number that 8 bytes stand for, low byte first; 0 for any other text.
+/// The number that 8 bytes stand for, low byte first; 0 for any other bytes.
 pub(crate) fn number(bytes: &[u8]) -> u64 {
     bytes.try_into().map_or(0, u64::from_le_bytes)
 }

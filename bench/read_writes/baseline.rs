@@ -1,7 +1,7 @@
 //! Reads the writes of a log into a list, in plain Rust, to measure `uc_batch::read_writes` against.
 //!
-//! It reads standard input whole, makes a list of writes that own their texts, and prints the nanoseconds
-//! that this took, how many writes there are, and a checksum of their sequences and their texts' lengths.
+//! It reads standard input whole, makes a list of writes that own their bytes, and prints the nanoseconds
+//! that this took, the number of writes, and a checksum of their sequences and their lengths.
 
 #[path = "../log.rs"]
 mod log;
@@ -10,7 +10,7 @@ use log::{Ended, LogReader, Op, read_batch};
 use std::io::{self, Read};
 use std::time::Instant;
 
-/// A change that owns its texts.
+/// A change that owns its bytes.
 enum Owned {
     Put(Vec<u8>, Vec<u8>),
     Delete(Vec<u8>),

@@ -3,7 +3,7 @@
 //!     baseline [--memtable N] [--trigger N] [--ratio N] [--percent N] [--least N] [--greatest N] [--values]
 //!
 //! It reads a log from standard input, flushes its writes to runs, prints a report, compacts what universal compaction
-//! picks until that is nothing, and reports again: the same text as `ucstore report`. With `--values` it prints how
+//! picks until that is nothing, and reports again: the same output as `ucstore report`. With `--values` it prints how
 //! many keys have a value then, and a checksum of both, in place of all else.
 
 #[path = "../compaction.rs"]

@@ -23,7 +23,7 @@ impl Options {
     };
 }
 
-/// So many runs behind the first ones.
+/// A number of runs after the first ones.
 #[derive(Clone, Copy)]
 pub(crate) struct Stretch {
     pub(crate) first: usize,
@@ -41,7 +41,7 @@ fn all_runs(options: &Options, sizes: &[u64]) -> Option<Stretch> {
     })
 }
 
-/// How many runs are collected from the first on.
+/// The number of runs that are collected from the first on.
 fn collected(options: &Options, sizes: &[u64]) -> usize {
     let mut sum = 0;
     let mut count = 0;

@@ -3,7 +3,7 @@
 //!     baseline COUNT
 //!     baseline writes COUNT
 //!
-//! `writes` writes the writes instead, each as a byte for its kind and two texts, each after its length of 4 bytes, low byte first.
+//! `writes` writes the writes instead, each as a byte for its kind and two byte strings, each after its length of 4 bytes, low byte first.
 
 #[path = "../store.rs"]
 mod store;
@@ -170,7 +170,7 @@ fn drawn(writes: u64) -> impl Iterator<Item = Change> {
     (0..writes).map(move |_| change_of(numbers.next(), writes / WRITES_TO_A_KEY))
 }
 
-/// The second text of a change: a value, an operand, where a range ends, or none.
+/// The second byte string of a change: a value, an operand, where a range ends, or none.
 fn with_second<R>(seq: u64, change: &Change, then: impl FnOnce(&[u8]) -> R) -> R {
     match change.kind {
         Kind::DeleteRange => then(&change.end),
@@ -241,7 +241,7 @@ fn with_value(checksum: u64, value: Option<&[u8]>) -> u64 {
     sum.wrapping_mul(31).wrapping_add(1)
 }
 
-/// A checksum of the values of so many random keys at the last sequence.
+/// A checksum of the values of a number of random keys at the last sequence.
 fn looked_up(runs: &[Run], writes: u64, lookups: u64) -> u64 {
     let mut numbers = Numbers { state: 2 };
     let mut checksum = 0;
@@ -253,7 +253,7 @@ fn looked_up(runs: &[Run], writes: u64, lookups: u64) -> u64 {
     checksum
 }
 
-/// How many points all runs have, and how large they are.
+/// The number of points of all runs, and their size.
 fn totals(runs: &[Run]) -> (usize, u64) {
     let points = runs.iter().map(|run| run.points.len()).sum();
     (points, runs.iter().map(|run| run.size).sum())

@@ -1,4 +1,4 @@
-//! Pins and installs in plain Rust: versions of the same layout behind `RwLock<Arc<_>>`, and claim words.
+//! Pins and installs in plain Rust: versions of the same layout in a `RwLock<Arc<_>>`, and claim words.
 use std::sync::atomic::{AtomicU64, Ordering::{Acquire, Release, SeqCst}};
 use std::sync::{Arc, RwLock};
 use std::time::Instant;

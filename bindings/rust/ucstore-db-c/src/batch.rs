@@ -27,7 +27,7 @@ pub unsafe extern "C" fn ucstore_db_batch_put(
     value_length: usize,
 ) -> i32 {
     call(|| {
-        // SAFETY: C owes the handle, which no other call uses, and both texts.
+        // SAFETY: C owes the handle, which no other call uses, and both byte strings.
         let (batch, key, value) = unsafe {
             let texts = (text(key, key_length)?, text(value, value_length)?);
             (Handle::get_mut(batch)?, texts.0, texts.1)
@@ -47,7 +47,7 @@ pub unsafe extern "C" fn ucstore_db_batch_merge(
     operand_length: usize,
 ) -> i32 {
     call(|| {
-        // SAFETY: C owes the handle, which no other call uses, and both texts.
+        // SAFETY: C owes the handle, which no other call uses, and both byte strings.
         let (batch, key, operand) = unsafe {
             let texts = (text(key, key_length)?, text(operand, operand_length)?);
             (Handle::get_mut(batch)?, texts.0, texts.1)
@@ -65,7 +65,7 @@ pub unsafe extern "C" fn ucstore_db_batch_delete(
     key_length: usize,
 ) -> i32 {
     call(|| {
-        // SAFETY: C owes the handle, which no other call uses, and the text.
+        // SAFETY: C owes the handle, which no other call uses, and the bytes.
         let (batch, key) = unsafe { (Handle::get_mut(batch)?, text(key, key_length)?) };
         batch.delete(key)?;
         Ok(())
@@ -82,7 +82,7 @@ pub unsafe extern "C" fn ucstore_db_batch_delete_range(
     end_length: usize,
 ) -> i32 {
     call(|| {
-        // SAFETY: C owes the handle, which no other call uses, and both texts.
+        // SAFETY: C owes the handle, which no other call uses, and both byte strings.
         let (batch, begin, end) = unsafe {
             let texts = (text(begin, begin_length)?, text(end, end_length)?);
             (Handle::get_mut(batch)?, texts.0, texts.1)

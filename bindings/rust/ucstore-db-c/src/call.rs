@@ -15,7 +15,7 @@ pub(crate) struct Refusal {
 }
 
 impl Refusal {
-    /// A status that says a text.
+    /// A status with a message of its own.
     fn with(status: Status, text: String) -> Refusal {
         let text = CString::new(text).map_or(Cow::from(status.text()), Cow::from);
         Refusal { status, text }
@@ -65,7 +65,7 @@ pub(crate) fn call(work: impl FnOnce() -> Result<(), Refusal>) -> i32 {
     match outcome {
         Ok(()) => Status::Ok as i32,
         Err(refusal) => {
-            // A thread that ends may have no text any more.
+            // A thread that ends may have lost its message.
             let _ = SAID.try_with(|said| said.replace(refusal.text));
             refusal.status as i32
         }
@@ -86,7 +86,7 @@ mod tests {
 
     /// The message of this thread's last refused call.
     fn said() -> String {
-        // SAFETY: It is a text that ends with a zero byte, and no call is under way.
+        // SAFETY: It is a string that ends with a zero byte, and no call is under way.
         let text = unsafe { CStr::from_ptr(ucstore_db_error_text()) };
         text.to_str().unwrap().into()
     }
@@ -121,7 +121,7 @@ mod tests {
             fault: "a zero\0byte".into(),
         };
         let refusal = Refusal::from(cause.clone());
-        // A message that can't be a string of C becomes the status's text.
+        // A message that can't be a string of C becomes the status's own.
         assert_eq!(&*refusal.text, c"corrupted file");
         let Error::Damaged { file, offset, .. } = cause else {
             unreachable!();

@@ -38,7 +38,7 @@ struct Row {
     value: Lent,
 }
 
-/// A text that is lent.
+/// Bytes that are lent.
 #[derive(Clone, Copy)]
 struct Lent {
     at: *const u8,
@@ -189,7 +189,7 @@ struct Page {
 }
 
 impl Page {
-    /// Adds a row, and tells whether there was room.
+    /// Adds a row, and tells whether it fitted.
     fn add(&mut self, key: &[u8], value: &[u8]) -> bool {
         if self.lengths.left() < 2 || self.bytes.left() < key.len() + value.len() {
             return false;
@@ -252,7 +252,7 @@ pub unsafe extern "C" fn ucstore_db_cursor(
     cursor: *mut *mut CursorHandle,
 ) -> i32 {
     call(|| {
-        // SAFETY: C owes the handle, the texts and the memory.
+        // SAFETY: C owes the handle, the byte strings and the memory.
         let (db, (low, high), place) = unsafe {
             let bounds = bounds(low, low_length, high, high_length, bounded)?;
             (Handle::get(db)?, bounds, Place::of(cursor)?)
@@ -275,7 +275,7 @@ pub unsafe extern "C" fn ucstore_db_prefix(
     cursor: *mut *mut CursorHandle,
 ) -> i32 {
     call(|| {
-        // SAFETY: C owes the handle, the text and the memory.
+        // SAFETY: C owes the handle, the bytes and the memory.
         let (db, prefix, place) = unsafe {
             let prefix = text(prefix, prefix_length)?;
             (Handle::get(db)?, prefix, Place::of(cursor)?)
@@ -299,7 +299,7 @@ pub unsafe extern "C" fn ucstore_db_snapshot_cursor(
     cursor: *mut *mut CursorHandle,
 ) -> i32 {
     call(|| {
-        // SAFETY: C owes the handle, the texts and the memory.
+        // SAFETY: C owes the handle, the byte strings and the memory.
         let (snapshot, (low, high), place) = unsafe {
             let bounds = bounds(low, low_length, high, high_length, bounded)?;
             (SnapshotHandle::lock(snapshot)?, bounds, Place::of(cursor)?)
@@ -318,7 +318,7 @@ pub unsafe extern "C" fn ucstore_db_snapshot_prefix(
     cursor: *mut *mut CursorHandle,
 ) -> i32 {
     call(|| {
-        // SAFETY: C owes the handle, the text and the memory.
+        // SAFETY: C owes the handle, the bytes and the memory.
         let (snapshot, prefix, place) = unsafe {
             let prefix = text(prefix, prefix_length)?;
             (SnapshotHandle::lock(snapshot)?, prefix, Place::of(cursor)?)
@@ -338,7 +338,7 @@ pub unsafe extern "C" fn ucstore_db_cursor_seek(
     key_length: usize,
 ) -> i32 {
     call(|| {
-        // SAFETY: C owes the handle, which no other call uses, and the text.
+        // SAFETY: C owes the handle, which no other call uses, and the bytes.
         let (cursor, key) = unsafe { (Handle::get_mut(cursor)?, text(key, key_length)?) };
         cursor.seek(key)
     })
@@ -413,7 +413,7 @@ pub unsafe extern "C" fn ucstore_db_cursor_value(
     unsafe { lend(cursor, length, |row| row.value) }
 }
 
-/// Lends a text of the row: null and a length of 0 if there is none.
+/// Lends a key or a value of the row: null and a length of 0 if there is none.
 ///
 /// # Safety
 ///

@@ -39,7 +39,7 @@ pub unsafe extern "C" fn ucstore_db_open(
         if folder.is_null() {
             return Err(Status::Null.into());
         }
-        // SAFETY: C owes a text that ends with a zero byte.
+        // SAFETY: C owes a string that ends with a zero byte.
         let folder = OsStr::from_bytes(unsafe { CStr::from_ptr(folder) }.to_bytes());
         // SAFETY: C owes as much.
         unsafe { open_by(options, db, |options| Db::open(folder, options)) }
@@ -92,7 +92,7 @@ pub unsafe extern "C" fn ucstore_db_put(
     value_length: usize,
 ) -> i32 {
     call(|| {
-        // SAFETY: C owes the handle and both texts.
+        // SAFETY: C owes the handle and both byte strings.
         let (db, key, value) = unsafe {
             (
                 Handle::get(db)?,
@@ -114,7 +114,7 @@ pub unsafe extern "C" fn ucstore_db_merge(
     operand_length: usize,
 ) -> i32 {
     call(|| {
-        // SAFETY: C owes the handle and both texts.
+        // SAFETY: C owes the handle and both byte strings.
         let (db, key, operand) = unsafe {
             (
                 Handle::get(db)?,
@@ -134,7 +134,7 @@ pub unsafe extern "C" fn ucstore_db_delete(
     key_length: usize,
 ) -> i32 {
     call(|| {
-        // SAFETY: C owes the handle and the text.
+        // SAFETY: C owes the handle and the bytes.
         let (db, key) = unsafe { (Handle::get(db)?, text(key, key_length)?) };
         Ok(db.delete(key)?)
     })
@@ -150,7 +150,7 @@ pub unsafe extern "C" fn ucstore_db_delete_range(
     end_length: usize,
 ) -> i32 {
     call(|| {
-        // SAFETY: C owes the handle and both texts.
+        // SAFETY: C owes the handle and both byte strings.
         let (db, begin, end) = unsafe {
             (
                 Handle::get(db)?,
@@ -195,7 +195,7 @@ pub unsafe extern "C" fn ucstore_db_write_bytes(
     synced: bool,
 ) -> i32 {
     call(|| {
-        // SAFETY: C owes the handle and the text.
+        // SAFETY: C owes the handle and the bytes.
         let (db, batch) = unsafe { (Handle::get(db)?, text(batch, batch_length)?) };
         Ok(db.write_bytes(batch, synced)?)
     })
@@ -219,7 +219,7 @@ pub unsafe extern "C" fn ucstore_db_get(
     size: *mut usize,
 ) -> i32 {
     call(|| {
-        // SAFETY: C owes the handle, the text and the memory.
+        // SAFETY: C owes the handle, the bytes and the memory.
         let (db, key, value) = unsafe {
             let value = Value::of(room, room_length, size)?;
             (Handle::get(db)?, text(key, key_length)?, value)
@@ -242,7 +242,7 @@ pub unsafe extern "C" fn ucstore_db_get_many(
     size: *mut usize,
 ) -> i32 {
     call(|| {
-        // SAFETY: C owes the handle, the texts and the memory.
+        // SAFETY: C owes the handle, the byte strings and the memory.
         let (db, keys, values) = unsafe {
             let keys = Keys::of(keys, keys_length, key_lengths, count)?;
             let values = Values::of(value_lengths, count, room, room_length, size)?;

@@ -91,7 +91,7 @@ pub(crate) fn events_of(function: EventFunction, context: *mut c_void) -> Option
     }))
 }
 
-/// An event and its text, which isn't in it yet.
+/// An event and its message, which isn't in it yet.
 struct Told {
     event: CEvent,
     text: CString,

@@ -27,7 +27,7 @@ pub(crate) unsafe fn items<'a, T>(at: *const T, count: usize) -> Result<&'a [T],
     }
 }
 
-/// The bytes of a text.
+/// The bytes at an address of C's.
 ///
 /// # Safety
 ///
@@ -129,7 +129,7 @@ impl<T: Copy> Room<T> {
     ///
     /// # Safety
     ///
-    /// If the address isn't null, there is memory for as many items as long as the room is used.
+    /// If the address isn't null, there is memory for that number of items as long as this is used.
     pub(crate) unsafe fn of(at: *mut T, count: usize) -> Result<Room<T>, Refusal> {
         if at.is_null() && count > 0 {
             return Err(Status::Null.into());
@@ -148,7 +148,7 @@ impl<T: Copy> Room<T> {
         self.filled
     }
 
-    /// The number of items that there is still room for.
+    /// The number of items that still fit.
     pub(crate) fn left(&self) -> usize {
         self.count - self.filled
     }
@@ -158,15 +158,15 @@ impl<T: Copy> Room<T> {
         if self.count == 0 {
             return &mut [];
         }
-        // SAFETY: Who made the room owes the memory, which overlaps nothing else that is used meanwhile.
+        // SAFETY: Whoever made this owes the memory, which overlaps nothing else that is used meanwhile.
         unsafe { slice::from_raw_parts_mut(self.at.cast(), self.count) }
     }
 
-    /// Writes items after the others, as many as there is room for.
+    /// Writes items after the others, as many as fit.
     pub(crate) fn push(&mut self, items: &[T]) {
         let count = items.len().min(self.left());
         if count > 0 {
-            // SAFETY: Who made the room owes the memory, and it is C's own: no borrow of the library's lies there.
+            // SAFETY: Whoever made this owes the memory, and it is C's own: no borrow of the library's lies there.
             unsafe {
                 let place = self.at.add(self.filled);
                 place.copy_from_nonoverlapping(items.as_ptr(), count);

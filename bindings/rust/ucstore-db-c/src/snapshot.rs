@@ -32,7 +32,7 @@ impl Value {
         Ok(Value { room, size })
     }
 
-    /// Lets a lookup copy a value there, as much of it as there is room for, which returns the size of all of it.
+    /// Lets a lookup copy a value there, as much of it as fits, which returns the size of all of it.
     pub(crate) fn put_by(
         mut self,
         lookup: impl FnOnce(&mut [MaybeUninit<u8>]) -> Result<Option<usize>, db::Error>,
@@ -113,7 +113,7 @@ impl Values {
         }
     }
 
-    /// Copies the values one after the other, as much of them as there is room for.
+    /// Copies the values one after the other, as much of them as fits.
     pub(crate) fn put(mut self, values: Vec<Option<Vec<u8>>>) -> Result<(), Refusal> {
         let mut size = 0;
         for value in &values {
@@ -167,7 +167,7 @@ pub unsafe extern "C" fn ucstore_db_snapshot_get(
     size: *mut usize,
 ) -> i32 {
     call(|| {
-        // SAFETY: C owes the handle, the text and the memory.
+        // SAFETY: C owes the handle, the bytes and the memory.
         let (snapshot, key, value) = unsafe {
             let value = Value::of(room, room_length, size)?;
             (
@@ -194,7 +194,7 @@ pub unsafe extern "C" fn ucstore_db_snapshot_get_many(
     size: *mut usize,
 ) -> i32 {
     call(|| {
-        // SAFETY: C owes the handle, the texts and the memory.
+        // SAFETY: C owes the handle, the byte strings and the memory.
         let (snapshot, keys, values) = unsafe {
             let keys = Keys::of(keys, keys_length, key_lengths, count)?;
             let values = Values::of(value_lengths, count, room, room_length, size)?;

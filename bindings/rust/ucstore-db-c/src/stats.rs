@@ -151,7 +151,7 @@ pub unsafe extern "C" fn ucstore_db_stats_text(
             (Handle::get(db)?, room, Place::of(size)?)
         };
         let text = db.stats().to_string();
-        // The last byte of the room is for the zero.
+        // The last byte of the buffer is for the zero.
         let kept = text.len().min(room.left().saturating_sub(1));
         room.push(&text.as_bytes()[..kept]);
         room.push(&[0]);

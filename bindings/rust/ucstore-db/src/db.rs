@@ -151,7 +151,7 @@ impl Db {
     ///
     /// # Errors
     ///
-    /// [`Error::Store`] if it is refused before it is logged, and [`Error::File`] if its log has no room for it. Then it, and what came
+    /// [`Error::Store`] if it is refused before it is logged, and [`Error::File`] if the disk of its log is full. Then it, and what came
     /// with it, isn't taken, and later writes may be.
     ///
     /// [`Error::ReadOnly`] if its log fails, or has failed: it isn't taken. The one that failed may be there again, or
@@ -238,8 +238,8 @@ impl Db {
         self.look_up(key, |holder| holder.get_into(key, value))
     }
 
-    /// Copies the value under a key into a room, as much of it as there is room for. Returns the size of all of it, if there is
-    /// one: what of the room is below it has values then.
+    /// Copies the value of a key into a buffer, as much of it as fits. Returns the size of all of it, if there is
+    /// one: the part of the buffer below it is initialized then.
     ///
     /// # Errors
     ///

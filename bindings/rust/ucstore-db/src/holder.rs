@@ -35,7 +35,7 @@ impl Holder<'_> {
         }
     }
 
-    /// Copies the value under a key into a room, and returns the size of all of it, if there is one.
+    /// Copies the value under a key into a buffer, and returns the size of all of it, if there is one.
     pub(crate) fn get_to_room(
         &self,
         key: &[u8],

@@ -97,8 +97,8 @@ impl Snapshot {
         Ok(self.view_to_read(&key).get_into(key, value)?)
     }
 
-    /// Copies the value under a key into a room, as much of it as there is room for. Returns the size of all of it, if there is
-    /// one: what of the room is below it has values then.
+    /// Copies the value of a key into a buffer, as much of it as fits. Returns the size of all of it, if there is
+    /// one: the part of the buffer below it is initialized then.
     ///
     /// # Errors
     ///

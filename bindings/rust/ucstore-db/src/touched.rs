@@ -138,7 +138,7 @@ impl<'a> Keys<'a> {
         Some(text)
     }
 
-    /// The length of a text: 7 bits a byte, the low ones first.
+    /// A length: 7 bits a byte, the low ones first.
     fn length(&mut self) -> Option<usize> {
         let mut length = 0;
         for shift in (0..32).step_by(7) {

@@ -63,7 +63,7 @@ impl Story {
         }
     }
 
-    /// How many batches a map has, if it is that of some.
+    /// The number of batches that make a map, if it is that of some.
     fn count(&self, map: &Map) -> Option<usize> {
         self.maps.iter().position(|held| held == map)
     }
@@ -127,7 +127,7 @@ fn a_log_may_end_before_zeros() {
     assert_eq!(device.files(), story.device.files());
 }
 
-/// Damages each byte. The folder isn't opened, or else only what could be a torn end is lost: what is after so many batches.
+/// Damages each byte. The folder isn't opened, or else only what could be a torn end is lost: the batches after a given number.
 fn damage_each_byte(story: &Story, kept: usize) {
     let (files, logs) = (story.device.files(), story.device.logs());
     let last_name = logs.keys().next_back().unwrap();

@@ -57,7 +57,7 @@ impl Killed {
     }
 }
 
-/// How many rows there are, and what was set aside.
+/// The number of rows, and what was set aside.
 fn opened(files: &Files) -> Result<(Map, Files), Error> {
     let device = Device::of(files);
     let map = map_of(&open(&device)?);

@@ -12,7 +12,7 @@ use ucstore_db::{Db, DiskFolder, Error, File, Folder, Options};
 /// A folder of the file system, where one file gets its name once that is let.
 struct Held {
     folder: DiskFolder,
-    /// How its name ends.
+    /// The end of its name.
     name: &'static str,
     /// Tells that it wants its name, and waits.
     gate: Arc<(Barrier, Barrier)>,

@@ -9,7 +9,7 @@ use ucstore_db::{Batch, Db, Operator, Options};
 
 const THREADS: u64 = 8;
 
-/// How many keys a writer has.
+/// The number of a writer's keys.
 const KEYS: usize = 40;
 
 fn counters() -> Options {
@@ -131,7 +131,7 @@ impl Rising {
     }
 }
 
-/// Sets keys to a number, by batches of each kind: a single operation, many, and some behind a deletion of the range.
+/// Sets keys to a number, by batches of each kind: a single operation, many, and some after a deletion of the range.
 fn set(db: &Db, keys: &[Rising], drawn: usize, number: u64) {
     let mut batch = Batch::new();
     let chosen = match number % 20 {

@@ -7,7 +7,7 @@ use common::{is_long, map_of, seed, Call, Device, Histories, History, Map, Numbe
 use std::sync::Arc;
 use ucstore_db::{Batch, Db, Error, Options, Snapshot, Sync};
 
-/// How a part is opened, without threads.
+/// The options of a part's openings, without threads.
 fn options() -> Options {
     let mut options = Options {
         compactors: 0,
@@ -77,7 +77,7 @@ impl Step {
     }
 }
 
-/// How far a part came, and what another log says of it.
+/// The progress of a part, and its mark in another log.
 #[derive(Default)]
 struct Part {
     /// The last sequence after each batch that was acknowledged; first after none.
@@ -282,7 +282,7 @@ fn a_crash_while_something_is_given_up_loses_nothing() {
         let next = (part.lasts.len() - 1).min(history.maps.len() - 2);
         let (bytes, _) = bytes_at(&history, next, part.last() + 1);
         let db = part.db.take().unwrap();
-        // It isn't acknowledged, and perhaps another log goes on behind it.
+        // It isn't acknowledged, and perhaps another log continues after it.
         db.write_bytes(&bytes, true).unwrap();
         if numbers.below(2) == 0 {
             device.fail(Some(Call::Rename), 0, false);

@@ -13,7 +13,7 @@ type Files = BTreeMap<String, Vec<u8>>;
 /// The bytes of the record that a close writes: two headers and a mark.
 const CLOSING: usize = 7 + 12 + 4;
 
-/// How a part is opened, without threads.
+/// The options of a part's openings, without threads.
 fn options() -> Options {
     let mut options = Options {
         compactors: 0,

@@ -9,7 +9,7 @@ use std::sync::atomic::{AtomicBool, AtomicU64, Ordering};
 use std::sync::{Arc, Mutex};
 use ucstore_db::{Db, Error, File, Folder, Options};
 
-/// A device of so many bytes.
+/// A device of a given size in bytes.
 #[derive(Clone)]
 struct Small {
     device: Device,
@@ -154,7 +154,7 @@ fn a_write_without_room_is_refused_and_later_ones_go_on() {
         assert!(db.failure().is_none() && db.get("large").unwrap().is_none());
         db.put("small", "write").unwrap();
     }
-    // Somebody makes room.
+    // Somebody frees space.
     small.room.fetch_add(1 << 20, Ordering::SeqCst);
     db.put("large", vec![8; 10_000]).unwrap();
     let map = map_of(&db);

@@ -10,10 +10,10 @@ use std::thread;
 use std::time::Duration;
 use ucstore_db::{Db, File, Folder, Options, Sync};
 
-/// How many writes have to be acknowledged while a sync is held.
+/// The least number of writes to be acknowledged while a sync is held.
 const ENOUGH: u64 = 3;
 
-/// How long a sync is held at most.
+/// The longest time for which a sync is held.
 const MOST: Duration = Duration::from_secs(5);
 
 /// Which syncs are held, and what became of them.
@@ -22,7 +22,7 @@ struct Holds {
     /// From how many bytes on the sync of a file is held, and whether that of the directory is.
     least: Option<usize>,
     of_directory: bool,
-    /// How many writes were acknowledged.
+    /// The number of writes that were acknowledged.
     acknowledged: u64,
     passed: u64,
     timed_out: u64,

@@ -13,11 +13,11 @@ use ucstore_db::{Batch, Db, Operator, Options, Rows, Sync};
 const WRITERS: u64 = 4;
 const READERS: u64 = 2;
 
-/// How many counters and texts a writer has.
+/// The number of counters, and of strings, of a writer.
 const COUNTERS: u64 = 50;
 const TEXTS: u64 = 500;
 
-/// How many bytes a text has at most.
+/// The most bytes of a string.
 const LONGEST: u64 = 400;
 
 /// Bounds of files, their bytes, and the process. What is held has 1 MiB at most, and logs that are longer than
@@ -58,12 +58,12 @@ impl Writer {
         }
     }
 
-    /// A key of a kind: `a` and `b` are counters, `t` are texts.
+    /// A key of a kind: `a` and `b` are counters, `t` are strings.
     fn key(&self, kind: char, number: u64) -> String {
         format!("{}{kind}{number:03}", self.number)
     }
 
-    /// The key of some text.
+    /// The key of a random string.
     fn draw_text(&mut self) -> String {
         let number = self.numbers.below(TEXTS);
         self.key('t', number)
@@ -108,7 +108,7 @@ impl Writer {
         db.write(&batch).unwrap();
     }
 
-    /// Removes counters of both kinds, and texts.
+    /// Removes counters of both kinds, and strings.
     fn delete_range(&mut self, db: &Db) {
         let mut batch = Batch::new();
         let first = self.numbers.below(COUNTERS);
@@ -149,7 +149,7 @@ fn read(db: &Db, number: u64) {
     );
 }
 
-/// How many files a folder has, and how many bytes they have.
+/// The number of a folder's files, and of their bytes.
 fn files(folder: &Path) -> (usize, u64) {
     let entries = fs::read_dir(folder).unwrap();
     // One that is removed meanwhile has none.
@@ -157,7 +157,7 @@ fn files(folder: &Path) -> (usize, u64) {
     lengths.fold((0, 0), |(count, sum), length| (count + 1, sum + length))
 }
 
-/// How many bytes of memory the process has.
+/// The memory of the process, in bytes.
 fn memory() -> u64 {
     let text = fs::read_to_string("/proc/self/statm").unwrap();
     let pages = text.split(' ').nth(1).unwrap();

@@ -267,9 +267,9 @@ fn a_closed_database_refuses_writes() {
 struct Gate {
     device: Device,
     is_shut: Arc<(Mutex<bool>, Condvar)>,
-    /// How many syncs wait.
+    /// The number of syncs that wait.
     waiting: Arc<AtomicU64>,
-    /// How many syncs come before one that panics, if one does.
+    /// The number of syncs before one that panics, if one does.
     panics_behind: Arc<Mutex<Option<u64>>>,
 }
 

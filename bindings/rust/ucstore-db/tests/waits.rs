@@ -9,7 +9,7 @@ use std::thread;
 use std::time::{Duration, Instant};
 use ucstore_db::{ucstore, Db, Error, Event, File, Folder, Listener, Options, Sync, WeakDb};
 
-/// How long a sync of a slow device takes.
+/// The duration of a sync of a slow device.
 const SLOW: Duration = Duration::from_secs(2);
 
 /// A device whose files take long to sync, or whose bases take long to be appended to.

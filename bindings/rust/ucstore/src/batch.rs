@@ -22,7 +22,7 @@ pub struct Batch {
     handle: UnsafeCell<sys::ucstore_batch>,
 }
 
-// The library lets handles go from thread to thread. What is behind this one is reached through it alone.
+// The library lets handles go from thread to thread. Its batch is reached through it alone.
 unsafe impl Send for Batch {}
 
 impl Batch {
@@ -136,7 +136,7 @@ impl Batch {
         bytes.clear();
         bytes.reserve(self.size());
         let mut size = 0;
-        // SAFETY: All bytes are copied there, because there is room for them.
+        // SAFETY: All bytes are copied there, because they fit.
         unsafe {
             sys::ucstore_batch_bytes(
                 self.handle(),
@@ -148,7 +148,7 @@ impl Batch {
         }
     }
 
-    /// How many bytes the batch has.
+    /// The size of the batch in bytes.
     pub(crate) fn size(&self) -> usize {
         let mut size = 0;
         unsafe { sys::ucstore_batch_bytes(self.handle(), ptr::null_mut(), 0, &mut size) };
@@ -160,7 +160,7 @@ impl Batch {
         self.handle.get()
     }
 
-    /// Adds an operation of two texts.
+    /// Adds an operation of two byte strings.
     fn add(
         &mut self,
         function: unsafe extern "C" fn(

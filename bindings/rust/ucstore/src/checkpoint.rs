@@ -7,11 +7,11 @@ use std::fmt;
 use std::iter::FusedIterator;
 use std::ptr;
 
-/// How many rows the first piece has at most, and how many any has.
+/// The most rows of the first piece, and of any.
 const FIRST_ROWS: u64 = 16;
 const MOST_ROWS: u64 = 4096;
 
-/// How many bytes a piece has at most that has more rows than one.
+/// The most bytes of a piece of several rows.
 const ROOM_BYTES: usize = 64 * 1024;
 
 /// The rows of a view at its last sequence number as a write-ahead log, piece by piece, from [`View::checkpoint`].
@@ -41,9 +41,9 @@ const ROOM_BYTES: usize = 64 * 1024;
 /// ```
 pub struct Checkpoint {
     handle: sys::ucstore_checkpoint,
-    /// How many bytes the pieces so far have.
+    /// The number of bytes of the pieces so far.
     length: u64,
-    /// How many rows the next piece has at most.
+    /// The most rows of the next piece.
     rows: u64,
     room: Vec<u8>,
     /// Whether no piece comes any more.
@@ -81,8 +81,8 @@ impl Checkpoint {
         Ok(size.map(|size| &self.room[..size]))
     }
 
-    /// Lays the next piece out in the room, and tells how many bytes it has. It has fewer rows if it doesn't fit, and the
-    /// room grows for a single one.
+    /// Lays the next piece out in the buffer, and returns its size in bytes. It has fewer rows if it doesn't fit, and the
+    /// buffer grows for a single one.
     fn lay_out(&mut self) -> Result<Option<usize>, Error> {
         loop {
             let mut size = 0;

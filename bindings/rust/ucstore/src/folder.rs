@@ -48,11 +48,11 @@ pub enum FolderAction {
     Nothing,
     /// Creates the log of a number, without bytes.
     CreateLog(u64),
-    /// Appends the batch to the log of a number, with a mark: so many of its batches are durable.
+    /// Appends the batch to the log of a number, with a mark of the number of its batches that are durable.
     Append(u64, u64),
     /// Syncs the log of a number. So many batches were there when this was asked for.
     SyncLog(u64, u64),
-    /// Truncates the log of a number after so many batches, and syncs it.
+    /// Truncates the log of a number after its first `batches`, and syncs it.
     CutLog(u64, u64),
     /// Syncs the directory.
     SyncNames,
@@ -64,7 +64,7 @@ pub enum FolderAction {
     SyncCopy,
     /// Renames it to the log of a number.
     NameCopy(u64),
-    /// Writes the rows of the logs before a number, and of so many batches of the log of that number, to a new file.
+    /// Writes the rows of the logs before a number, and of the first batches of the log of that number, to a new file.
     WriteBase(u64, u64),
     /// Syncs that file.
     SyncBase,
@@ -82,7 +82,7 @@ pub enum FolderAction {
 pub struct FolderMachine(sys::ucstore_folder_state);
 
 impl FolderMachine {
-    /// The machine of a folder in which some files were found, and so many batches in the log that goes on. That is sealed if all of
+    /// The machine of a folder in which some files were found, and the number of batches in the log that goes on. That is sealed if all of
     /// them are durable: then it isn't copied.
     pub fn open(files: &FolderFiles, count: u64, is_sealed: bool) -> FolderMachine {
         let found = sys::ucstore_folder_found {
@@ -173,7 +173,7 @@ impl FolderMachine {
         expect(unsafe { sys::ucstore_folder_ask_switch(&mut self.0) });
     }
 
-    /// Asks for a base of the logs before a number, and of so many batches of the log of that number. Nothing changes if another base
+    /// Asks for a base of the logs before a number, and of the first batches of the log of that number. Nothing changes if another base
     /// has as much.
     pub fn ask_checkpoint(&mut self, number: u64, past: u64) {
         expect(unsafe { sys::ucstore_folder_ask_checkpoint(&mut self.0, number, past) });

@@ -82,9 +82,9 @@ pub struct LogWrites<'a> {
     place: sys::ucstore_log_place,
     /// A batch's writes.
     room: Vec<u8>,
-    /// Where the next write begins in the room.
+    /// The place in the buffer where the next write begins.
     at: usize,
-    /// How many writes are left in the room.
+    /// The number of writes that are left in the buffer.
     left: u64,
     ended: Option<Ended>,
     failed: bool,
@@ -232,7 +232,7 @@ impl LogWrites<'_> {
         Ok(())
     }
 
-    /// The next bytes of the room.
+    /// The next bytes of the buffer.
     fn bytes(&mut self, count: usize) -> &[u8] {
         let begin = self.at;
         self.at += count;
@@ -243,7 +243,7 @@ impl LogWrites<'_> {
         u64::from_le_bytes(self.bytes(8).try_into().expect("a number has 8 bytes"))
     }
 
-    /// Where the next text of the room is, behind its length.
+    /// The place of the next key or value in the buffer, which its length precedes.
     fn text(&mut self) -> ops::Range<usize> {
         let length = self.number() as usize;
         let begin = self.at;
@@ -251,7 +251,7 @@ impl LogWrites<'_> {
         begin..self.at
     }
 
-    /// The next write of the room.
+    /// The next write of the buffer.
     fn write(&mut self) -> Write<&[u8]> {
         self.left -= 1;
         let sequence = self.number();

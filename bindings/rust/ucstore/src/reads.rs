@@ -84,7 +84,7 @@ pub(crate) struct Range<'a> {
     pub(crate) high: Option<&'a [u8]>,
     /// The sequence of a snapshot, or the last one.
     pub(crate) at: Option<u64>,
-    /// How many rows there are at most.
+    /// The most rows.
     pub(crate) limit: u64,
 }
 
@@ -108,7 +108,7 @@ impl<H> Reads<H> {
         Ok(false)
     }
 
-    /// Copies the value under a key into a room, as much of it as there is room for. Returns the size of all of it, if there
+    /// Copies the value of a key into a buffer, as much of it as fits. Returns the size of all of it, if there
     /// is one.
     pub(crate) fn get_to_room(
         &self,
@@ -258,7 +258,7 @@ fn found(status: i32, size: usize) -> Result<Option<usize>, Error> {
     }
 }
 
-/// The value that a lookup copies into a room, if there is one. It returns the size of all of it.
+/// The value that a lookup copies into a buffer, if there is one. It returns the size of all of it.
 fn value_by(
     mut lookup: impl FnMut(&mut [MaybeUninit<u8>]) -> Result<Option<usize>, Error>,
 ) -> Result<Option<Vec<u8>>, Error> {

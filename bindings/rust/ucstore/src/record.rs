@@ -4,7 +4,7 @@ use crate::error::{check, Error};
 use crate::sys;
 use std::mem::MaybeUninit;
 
-/// The bytes of a record's header in a log, and the most that a record has behind it.
+/// The bytes of a record's header in a log, and the most that follow it.
 const HEADER_SIZE: usize = 7;
 const MOST_FRAGMENT: usize = 32_768 - HEADER_SIZE;
 

@@ -25,7 +25,7 @@ pub struct Replay<'a> {
 }
 
 impl<'a> Replay<'a> {
-    /// That of a log whose batches behind a place come behind what the store has.
+    /// The replay of a log whose batches after a place follow those that the store has.
     pub(crate) fn of(store: &'a Store, log: &'a [u8], place: sys::ucstore_log_place) -> Replay<'a> {
         let last = store.last();
         Replay {

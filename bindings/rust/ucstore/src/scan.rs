@@ -416,7 +416,7 @@ mod tests {
         }
     }
 
-    /// How often a scan asks for rows whose values have these lengths.
+    /// The number of times that a scan asks for rows, of values of these lengths.
     fn asked(lengths: Vec<usize>) -> usize {
         let values = Values {
             lengths,

@@ -22,7 +22,7 @@ pub(crate) mod sealed {
 
     /// The rows of a range. No type outside this crate has them.
     pub trait Rows {
-        /// The first rows, as many as fit the room: how many these are, and the size of all.
+        /// The first rows, as many as fit the buffer: their number, and the size of all.
         #[allow(private_interfaces)]
         fn rows(&self, range: &Range<'_>, room: Buffer<'_>) -> Result<(u64, usize), Error>;
     }

@@ -46,7 +46,7 @@ pub struct Store {
     handle: UnsafeCell<sys::ucstore>,
 }
 
-// The library lets handles go from thread to thread. What is behind this one is reached through it alone.
+// The library lets handles go from thread to thread. Its store is reached through it alone.
 unsafe impl Send for Store {}
 
 impl Store {

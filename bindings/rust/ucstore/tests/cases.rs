@@ -10,7 +10,7 @@ use ucstore::{Batch, Ended, Error, Operator, Options, Scan, Store};
 /// From how many times on a byte is a piece with its number.
 const LONG_RUN: usize = 16;
 
-/// What is put behind each command.
+/// The command that follows each other one.
 #[derive(Clone, Copy, PartialEq)]
 enum Way {
     Nothing,
@@ -30,7 +30,7 @@ impl Way {
     }
 }
 
-/// A case: where it begins in its file, its lines before `----`, and those behind it.
+/// A case: where it begins in its file, its lines before `----`, and those after it.
 struct Case<'a> {
     line: usize,
     input: Vec<&'a str>,
@@ -86,7 +86,7 @@ fn is_plain(byte: u8) -> bool {
     byte.is_ascii_alphanumeric() || b"_/.,-".contains(&byte)
 }
 
-/// The bytes of what stands between quotes, and what is behind it.
+/// The bytes between quotes, and the rest.
 fn quoted(word: &str) -> (Vec<u8>, &str) {
     let (mut text, rest) = word.split_once('"').expect("a quote at the end");
     let mut bytes = vec![];
@@ -99,7 +99,7 @@ fn quoted(word: &str) -> (Vec<u8>, &str) {
     (bytes, rest)
 }
 
-/// The bytes of a piece without its number, and what is behind it.
+/// The bytes of a piece without its number, and the rest.
 fn piece(word: &str) -> (Vec<u8>, &str) {
     if let Some(word) = word.strip_prefix('"') {
         return quoted(word);
@@ -119,7 +119,7 @@ fn piece(word: &str) -> (Vec<u8>, &str) {
     }
 }
 
-/// The text that a word spells: pieces with `+` between them.
+/// The bytes that a word spells: pieces with `+` between them.
 fn text_of(mut word: &str) -> Vec<u8> {
     let mut text = vec![];
     loop {
@@ -137,12 +137,12 @@ fn text_of(mut word: &str) -> Vec<u8> {
     }
 }
 
-/// The texts that words spell.
+/// The byte strings that words spell.
 fn texts_of(words: &[&str]) -> Vec<Vec<u8>> {
     words.iter().map(|word| text_of(word)).collect()
 }
 
-/// A piece that spells a text: a word, or a quoted one.
+/// A piece that spells bytes: a word, or a quoted one.
 fn piece_of(text: &[u8]) -> String {
     if !text.is_empty() && text.iter().all(|byte| is_plain(*byte)) {
         return String::from_utf8_lossy(text).into();
@@ -155,12 +155,12 @@ fn piece_of(text: &[u8]) -> String {
     format!("\"{}\"", shown.collect::<String>())
 }
 
-/// How often the first byte of a text comes.
+/// The number of times that the first byte occurs.
 fn run_of(text: &[u8]) -> usize {
     text.iter().take_while(|byte| **byte == text[0]).count()
 }
 
-/// The word that spells a text.
+/// The word that spells these bytes.
 fn word_of(text: &[u8]) -> String {
     let mut run = run_of(text);
     let mut word = if run >= LONG_RUN {
@@ -190,7 +190,7 @@ fn name_of(error: Error) -> String {
     name
 }
 
-/// The words of a command up to `at`, `limit` and `sequence`, and those that stand behind these.
+/// The words of a command up to `at`, `limit` and `sequence`, and those after them.
 struct Arguments<'a> {
     texts: Vec<Vec<u8>>,
     named: HashMap<&'a str, &'a str>,
@@ -248,7 +248,7 @@ fn push(batch: &mut Batch, line: &str) {
     added.expect("an operation is added");
 }
 
-/// Plays the cases of a file, one behind the other.
+/// Plays the cases of a file, one after the other.
 struct Player {
     way: Way,
     store: Option<Store>,
@@ -332,7 +332,7 @@ impl Player {
         }
     }
 
-    /// Puts behind a command what the way says, unless that would give up what is prepared.
+    /// Makes the command that the way adds, unless that would discard a prepared compaction.
     fn put_behind(&mut self) -> Result<(), Error> {
         let (Some(store), None) = (&self.store, &self.record) else {
             return Ok(());

@@ -23,7 +23,7 @@ impl Logged {
         self.store.commit();
     }
 
-    /// Cuts the log behind its last whole batch, as an owner does before more is written.
+    /// Truncates the log after its last whole batch, as an owner does before more is written.
     fn cut(mut self) -> Logged {
         let (offset, ended) = log_writes(&self.log).end().unwrap();
         assert_eq!(ended, self.ended);

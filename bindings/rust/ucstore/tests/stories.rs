@@ -7,7 +7,7 @@ use std::path::{Path, PathBuf};
 use story::{told, Case};
 use ucstore::Operator;
 
-/// How many cases the files have at least: one that isn't found is no success.
+/// The least number of cases in the files: a missing file is no success.
 const LEAST_CASES: usize = 56;
 
 fn folder() -> PathBuf {
@@ -27,7 +27,7 @@ fn printed(case: &Case<'_>) -> String {
     first
 }
 
-/// The cases of a text that print something else than they say, each with its line and what it prints.
+/// The cases of a story whose output differs from the expected one, each with its line and its output.
 fn wrong_cases(text: &str) -> (usize, Vec<String>) {
     let cases = story::cases_of(text);
     let wrong = cases.iter().filter_map(|case| {

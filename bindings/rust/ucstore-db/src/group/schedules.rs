@@ -13,7 +13,7 @@ use std::mem;
 enum Kind {
     Usual,
     Synced,
-    /// No other has room beside it.
+    /// No other fits beside it.
     Large,
     LargeSynced,
 }
@@ -234,7 +234,7 @@ impl<'a> State<'a> {
     }
 }
 
-/// A state as a text. Equal ones go on equally.
+/// A state as a string. Equal states go on equally.
 #[derive(Default)]
 struct Outline {
     text: String,

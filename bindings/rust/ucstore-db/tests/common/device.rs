@@ -56,7 +56,7 @@ struct Content {
     disk: Vec<u8>,
     /// The sectors that the next sync writes.
     dirty: BTreeSet<usize>,
-    /// How many syncs failed. Each handle is told once.
+    /// The number of syncs that failed. Each handle is told once.
     errors: u64,
 }
 
@@ -82,14 +82,14 @@ pub enum Extent {
 struct Fault {
     /// None if all calls count.
     call: Option<Call>,
-    /// How many of them come before it.
+    /// The number of them that come before it.
     left: u64,
-    /// Whether those behind it fail too.
+    /// Whether the later ones fail too.
     lasts: bool,
     does: Extent,
 }
 
-/// How a call goes.
+/// The outcome of a call.
 struct Outcome {
     /// What is done of it; all if it doesn't fail.
     done: Extent,
@@ -117,7 +117,7 @@ pub struct Device {
 struct Opened {
     device: Device,
     number: usize,
-    /// How many of the file's errors it was told.
+    /// The number of the file's errors that it was told.
     seen: u64,
 }
 
@@ -159,7 +159,7 @@ impl Device {
         files
     }
 
-    /// How many calls there were, and how many of them failed.
+    /// The number of calls, and of those that failed.
     pub fn calls(&self) -> (u64, u64) {
         let disk = self.lock();
         (disk.calls, disk.failed)
@@ -378,7 +378,7 @@ impl Content {
         }
     }
 
-    /// How long it may be after a crash: as it was on the device, or is now, or between.
+    /// Its possible lengths after a crash: as it was on the device, or is now, or between.
     fn length_left(&self, numbers: &mut Numbers) -> usize {
         let (disk, bytes) = (self.disk.len(), self.bytes.len());
         let (least, most) = (disk.min(bytes), disk.max(bytes));

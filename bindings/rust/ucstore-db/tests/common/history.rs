@@ -1,4 +1,4 @@
-//! [`History`]: drawn batches and calls, and what a database holds behind each batch.
+//! [`History`]: drawn batches and calls, and the contents of a database after each batch.
 
 use super::{Device, Numbers};
 use std::collections::BTreeMap;
@@ -32,7 +32,7 @@ pub enum Step {
 pub struct History {
     pub steps: Vec<Step>,
     batches: Vec<Vec<Operation>>,
-    /// What a database holds behind each batch; first behind none.
+    /// The contents of a database after each batch. The first are those before any.
     pub maps: Vec<Map>,
 }
 
@@ -42,14 +42,14 @@ pub struct Histories {
     pub numbers: Numbers,
 }
 
-/// How far a history came.
+/// The progress of a history.
 #[derive(Debug, Default)]
 pub struct Run {
-    /// How many batches were written, also the one that was refused.
+    /// The number of batches that were written, with the one that was refused.
     pub tried: usize,
-    /// How many were acknowledged.
+    /// The number of batches that were acknowledged.
     pub acknowledged: usize,
-    /// How many of those are on the device.
+    /// The number of those that are on the device.
     pub kept: usize,
     /// The database, unless it couldn't be opened.
     pub db: Option<Db>,

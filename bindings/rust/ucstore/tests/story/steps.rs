@@ -8,7 +8,7 @@ use ucstore::{
     Batch, Ended, Error, Job, LookupSource, Operator, Options, Report, Scan, Store, View,
 };
 
-/// How often threads read and write.
+/// The number of times that threads read and write.
 const TURNS: u32 = 200;
 
 /// A store under an operator and options, and what was made of it.

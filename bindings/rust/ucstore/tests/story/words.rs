@@ -45,7 +45,7 @@ fn number_of(word: &str) -> u64 {
         .unwrap_or_else(|_| panic!("{word} is no number"))
 }
 
-/// The bytes of a part of a word: text, `0x6b00`, `u64:5`, or `[40000*b]`.
+/// The bytes of a part of a word: letters, `0x6b00`, `u64:5`, or `[40000*b]`.
 fn part(part: &str) -> Vec<u8> {
     if let Some(digits) = part.strip_prefix("0x") {
         let pair = |place| u8::from_str_radix(&digits[place..place + 2], 16).unwrap();
@@ -70,7 +70,7 @@ pub fn bytes_of(word: &str) -> Vec<u8> {
     }
 }
 
-/// How bytes are printed: as text if they are letters, digits and commas.
+/// Prints bytes: as they are if they are letters, digits and commas.
 pub fn word_of(bytes: &[u8]) -> String {
     if bytes.is_empty() {
         return NONE.into();
