@@ -64,7 +64,7 @@ impl Effect {
     }
 }
 
-/// What a stripe's points of a key do, and below them its newest range deletion.
+/// The effect of a stripe's points of a key, and below them of its newest range deletion.
 fn effect_of<O: Operator>(points: &[&Entry], deleted: Option<u64>) -> Effect {
     let (mut effect, mut newer) = (Effect::Keep, points);
     if let Some(deleted) = deleted {
@@ -104,7 +104,7 @@ impl<'a> Groups<'a> {
     }
 }
 
-/// What is kept: the sequences that reads are made at, and with the oldest run a sequence of the stripe at the bottom.
+/// The sequences that are kept: those that reads are made at, and with the oldest run one of the stripe at the bottom.
 #[derive(Clone, Copy)]
 pub(crate) struct Keeping<'a> {
     pub(crate) keeps: &'a [u64],
@@ -145,7 +145,7 @@ impl Keeping<'_> {
         kept
     }
 
-    /// What stands for points of a stripe, where a range deletion of it covers the key.
+    /// The replacement of a stripe's points, where a range deletion of it covers the key.
     fn what_kept<O: Operator>(
         &self,
         stripe: &Stripe,

@@ -183,7 +183,7 @@ impl<'a> LogReader<'a> {
     }
 }
 
-/// What a counted record does.
+/// The effect of a counted record.
 #[derive(Clone, Copy)]
 pub enum Op<'a> {
     Put(&'a [u8], &'a [u8]),

@@ -59,7 +59,7 @@ impl Lot {
     }
 }
 
-/// What a log of puts holds.
+/// The contents of a log of puts.
 #[derive(Clone, Copy)]
 struct Shape {
     /// The number of puts in a batch.
@@ -68,7 +68,7 @@ struct Shape {
     value: usize,
 }
 
-/// What keys of a log look like.
+/// The form of a log's keys.
 #[derive(Clone, Copy)]
 enum Keys {
     Words,
@@ -107,7 +107,7 @@ fn word_of(number: u64) -> String {
     word
 }
 
-/// What a log holds.
+/// The contents of a log.
 #[derive(Clone, Copy)]
 enum Kind {
     Puts(Shape),

@@ -88,7 +88,7 @@ pub(crate) fn each_clean_write(log: &[u8], take: impl FnMut(Op)) {
     }
 }
 
-/// The values after all writes of a log, which is let go of.
+/// The values after all writes of a log, which is freed.
 pub(crate) fn values_of(log: Vec<u8>) -> Values {
     let mut values = Values::new();
     each_clean_write(&log, |op| apply(&mut values, op));

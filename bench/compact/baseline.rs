@@ -35,7 +35,7 @@ impl Operator for Append {
     }
 }
 
-/// What the runs hold.
+/// The contents of the runs.
 #[derive(Clone, Copy)]
 enum Shape {
     Counter,
@@ -168,7 +168,7 @@ fn checksum_of(run: &Run) -> u64 {
     sum
 }
 
-/// What is compacted, and how.
+/// A compaction's runs and options.
 #[derive(Clone, Copy)]
 struct Plan {
     load: Load,

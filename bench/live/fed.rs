@@ -204,7 +204,7 @@ impl Store {
     }
 }
 
-/// What came of feeds.
+/// The outcome of feeds.
 #[derive(Default)]
 struct Feeding {
     feeds: Duration,

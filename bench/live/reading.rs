@@ -47,7 +47,7 @@ impl Run {
         fragment.seqs.get(newer).copied()
     }
 
-    /// What the writes at or below a sequence do to a key, before the writes of newer runs.
+    /// The effect on a key of the writes at or below a sequence, before the writes of newer runs.
     fn under(&self, key: &[u8], at: u64, mut newer: Folded) -> Effect {
         let deleted = self.deleted_at(key, at);
         for point in &self.points[self.seek(key)..] {
@@ -79,7 +79,7 @@ impl Folded {
         self.0 = Some(self.0.unwrap_or(0).wrapping_add(operand));
     }
 
-    /// What they make of a value.
+    /// The value that they make of another one.
     fn over(self, value: &[u8]) -> Option<Vec<u8>> {
         Some(match self.0 {
             None => value.to_vec(),
@@ -87,15 +87,15 @@ impl Folded {
         })
     }
 
-    /// What they make of none.
+    /// The value that they make of none.
     fn alone(self) -> Option<Vec<u8>> {
         self.0.map(|sum| sum.to_le_bytes().to_vec())
     }
 }
 
-/// What some runs do to a key.
+/// The effect of some runs on a key.
 enum Effect {
-    /// What older runs do counts too.
+    /// Older runs count too.
     Fold(Folded),
     Set(Option<Vec<u8>>),
 }

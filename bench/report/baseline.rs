@@ -236,7 +236,7 @@ impl Store {
     }
 }
 
-/// What the words ask for.
+/// The request in the words.
 struct Asked {
     options: Options,
     values: bool,

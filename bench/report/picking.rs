@@ -73,7 +73,7 @@ fn newest_runs(options: &Options, runs: usize) -> Option<Stretch> {
     })
 }
 
-/// What is compacted next, by the sizes of the runs, the newest first.
+/// The next compaction, by the sizes of the runs, the newest first.
 pub(crate) fn picked(options: &Options, sizes: &[u64]) -> Option<Stretch> {
     if sizes.len() < options.trigger {
         return None;

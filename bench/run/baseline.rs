@@ -61,7 +61,7 @@ impl Run {
         fragment.seqs.get(newer).copied()
     }
 
-    /// What the writes at or below a sequence together do to a key.
+    /// The effect on a key of all writes at or below a sequence.
     fn effect(&self, key: &[u8], at: u64) -> Effect {
         let deleted = self.deleted_at(key, at);
         let begin = self.seek(key);
@@ -164,7 +164,7 @@ fn change_of(random: u64, keys: u64) -> Change {
     Change { kind, key: key_at(place), end: key_at(place.saturating_add(REACH)) }
 }
 
-/// So many changes, each drawn as it comes.
+/// A number of changes, each drawn as it comes.
 fn drawn(writes: u64) -> impl Iterator<Item = Change> {
     let mut numbers = Numbers { state: 1 };
     (0..writes).map(move |_| change_of(numbers.next(), writes / WRITES_TO_A_KEY))

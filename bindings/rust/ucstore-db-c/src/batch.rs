@@ -10,7 +10,7 @@ use std::ffi::c_void;
 #[no_mangle]
 pub unsafe extern "C" fn ucstore_db_batch_create(batch: *mut *mut BatchHandle) -> i32 {
     call(|| {
-        // SAFETY: C owes the memory.
+        // SAFETY: The caller guarantees the memory.
         let place = unsafe { Place::of(batch) }?;
         place.put(Handle::begin(Batch::new()));
         Ok(())
@@ -27,7 +27,7 @@ pub unsafe extern "C" fn ucstore_db_batch_put(
     value_length: usize,
 ) -> i32 {
     call(|| {
-        // SAFETY: C owes the handle, which no other call uses, and both byte strings.
+        // SAFETY: The caller guarantees the handle, which no other call uses, and both byte strings.
         let (batch, key, value) = unsafe {
             let texts = (text(key, key_length)?, text(value, value_length)?);
             (Handle::get_mut(batch)?, texts.0, texts.1)
@@ -47,7 +47,7 @@ pub unsafe extern "C" fn ucstore_db_batch_merge(
     operand_length: usize,
 ) -> i32 {
     call(|| {
-        // SAFETY: C owes the handle, which no other call uses, and both byte strings.
+        // SAFETY: The caller guarantees the handle, which no other call uses, and both byte strings.
         let (batch, key, operand) = unsafe {
             let texts = (text(key, key_length)?, text(operand, operand_length)?);
             (Handle::get_mut(batch)?, texts.0, texts.1)
@@ -65,7 +65,7 @@ pub unsafe extern "C" fn ucstore_db_batch_delete(
     key_length: usize,
 ) -> i32 {
     call(|| {
-        // SAFETY: C owes the handle, which no other call uses, and the bytes.
+        // SAFETY: The caller guarantees the handle, which no other call uses, and the bytes.
         let (batch, key) = unsafe { (Handle::get_mut(batch)?, text(key, key_length)?) };
         batch.delete(key)?;
         Ok(())
@@ -82,7 +82,7 @@ pub unsafe extern "C" fn ucstore_db_batch_delete_range(
     end_length: usize,
 ) -> i32 {
     call(|| {
-        // SAFETY: C owes the handle, which no other call uses, and both byte strings.
+        // SAFETY: The caller guarantees the handle, which no other call uses, and both byte strings.
         let (batch, begin, end) = unsafe {
             let texts = (text(begin, begin_length)?, text(end, end_length)?);
             (Handle::get_mut(batch)?, texts.0, texts.1)
@@ -96,7 +96,7 @@ pub unsafe extern "C" fn ucstore_db_batch_delete_range(
 #[no_mangle]
 pub unsafe extern "C" fn ucstore_db_batch_clear(batch: *mut BatchHandle) -> i32 {
     call(|| {
-        // SAFETY: C owes the handle, which no other call uses.
+        // SAFETY: The caller guarantees the handle, which no other call uses.
         unsafe { Handle::get_mut(batch) }?.clear();
         Ok(())
     })
@@ -106,7 +106,7 @@ pub unsafe extern "C" fn ucstore_db_batch_clear(batch: *mut BatchHandle) -> i32 
 #[no_mangle]
 pub unsafe extern "C" fn ucstore_db_batch_count(batch: *const BatchHandle, count: *mut u64) -> i32 {
     call(|| {
-        // SAFETY: C owes the handle, which no other call uses, and the memory.
+        // SAFETY: The caller guarantees the handle, which no other call uses, and the memory.
         let (batch, place) = unsafe { (Handle::get(batch)?, Place::of(count)?) };
         place.put(batch.len() as u64);
         Ok(())
@@ -117,7 +117,7 @@ pub unsafe extern "C" fn ucstore_db_batch_count(batch: *const BatchHandle, count
 #[no_mangle]
 pub unsafe extern "C" fn ucstore_db_batch_close(batch: *mut BatchHandle) -> i32 {
     call(|| {
-        // SAFETY: C owes the handle, which no other call uses.
+        // SAFETY: The caller guarantees the handle, which no other call uses.
         drop(unsafe { Handle::end(batch) }?);
         Ok(())
     })

@@ -219,7 +219,7 @@ unsafe fn bounds<'a>(
     high_length: usize,
     bounded: bool,
 ) -> Result<(&'a [u8], Option<&'a [u8]>), Refusal> {
-    // SAFETY: The caller owes as much.
+    // SAFETY: The caller guarantees this.
     let (low, high) = unsafe {
         let high = bounded.then(|| text(high, high_length)).transpose()?;
         (text(low, low_length)?, high)
@@ -252,7 +252,7 @@ pub unsafe extern "C" fn ucstore_db_cursor(
     cursor: *mut *mut CursorHandle,
 ) -> i32 {
     call(|| {
-        // SAFETY: C owes the handle, the byte strings and the memory.
+        // SAFETY: The caller guarantees the handle, the byte strings and the memory.
         let (db, (low, high), place) = unsafe {
             let bounds = bounds(low, low_length, high, high_length, bounded)?;
             (Handle::get(db)?, bounds, Place::of(cursor)?)
@@ -275,7 +275,7 @@ pub unsafe extern "C" fn ucstore_db_prefix(
     cursor: *mut *mut CursorHandle,
 ) -> i32 {
     call(|| {
-        // SAFETY: C owes the handle, the bytes and the memory.
+        // SAFETY: The caller guarantees the handle, the bytes and the memory.
         let (db, prefix, place) = unsafe {
             let prefix = text(prefix, prefix_length)?;
             (Handle::get(db)?, prefix, Place::of(cursor)?)
@@ -299,7 +299,7 @@ pub unsafe extern "C" fn ucstore_db_snapshot_cursor(
     cursor: *mut *mut CursorHandle,
 ) -> i32 {
     call(|| {
-        // SAFETY: C owes the handle, the byte strings and the memory.
+        // SAFETY: The caller guarantees the handle, the byte strings and the memory.
         let (snapshot, (low, high), place) = unsafe {
             let bounds = bounds(low, low_length, high, high_length, bounded)?;
             (SnapshotHandle::lock(snapshot)?, bounds, Place::of(cursor)?)
@@ -318,7 +318,7 @@ pub unsafe extern "C" fn ucstore_db_snapshot_prefix(
     cursor: *mut *mut CursorHandle,
 ) -> i32 {
     call(|| {
-        // SAFETY: C owes the handle, the bytes and the memory.
+        // SAFETY: The caller guarantees the handle, the bytes and the memory.
         let (snapshot, prefix, place) = unsafe {
             let prefix = text(prefix, prefix_length)?;
             (SnapshotHandle::lock(snapshot)?, prefix, Place::of(cursor)?)
@@ -338,7 +338,7 @@ pub unsafe extern "C" fn ucstore_db_cursor_seek(
     key_length: usize,
 ) -> i32 {
     call(|| {
-        // SAFETY: C owes the handle, which no other call uses, and the bytes.
+        // SAFETY: The caller guarantees the handle, which no other call uses, and the bytes.
         let (cursor, key) = unsafe { (Handle::get_mut(cursor)?, text(key, key_length)?) };
         cursor.seek(key)
     })
@@ -352,7 +352,7 @@ pub unsafe extern "C" fn ucstore_db_cursor_seek_for_prev(
     key_length: usize,
 ) -> i32 {
     call(|| {
-        // SAFETY: C owes the handle, which no other call uses, and the key.
+        // SAFETY: The caller guarantees the handle, which no other call uses, and the key.
         let (cursor, key) = unsafe { (Handle::get_mut(cursor)?, text(key, key_length)?) };
         cursor.seek_for_prev(key)
     })
@@ -361,35 +361,35 @@ pub unsafe extern "C" fn ucstore_db_cursor_seek_for_prev(
 /// Moves to the first row.
 #[no_mangle]
 pub unsafe extern "C" fn ucstore_db_cursor_first(cursor: *mut CursorHandle) -> i32 {
-    // SAFETY: C owes the handle, which no other call uses.
+    // SAFETY: The caller guarantees the handle, which no other call uses.
     call(|| unsafe { Handle::get_mut(cursor) }?.rewind(Direction::Forward))
 }
 
 /// Moves to the last row.
 #[no_mangle]
 pub unsafe extern "C" fn ucstore_db_cursor_last(cursor: *mut CursorHandle) -> i32 {
-    // SAFETY: C owes the handle, which no other call uses.
+    // SAFETY: The caller guarantees the handle, which no other call uses.
     call(|| unsafe { Handle::get_mut(cursor) }?.rewind(Direction::Back))
 }
 
 /// Moves to the row before.
 #[no_mangle]
 pub unsafe extern "C" fn ucstore_db_cursor_prev(cursor: *mut CursorHandle) -> i32 {
-    // SAFETY: C owes the handle, which no other call uses.
+    // SAFETY: The caller guarantees the handle, which no other call uses.
     call(|| unsafe { Handle::get_mut(cursor) }?.step_back())
 }
 
 /// Moves to the next row.
 #[no_mangle]
 pub unsafe extern "C" fn ucstore_db_cursor_next(cursor: *mut CursorHandle) -> i32 {
-    // SAFETY: C owes the handle, which no other call uses.
+    // SAFETY: The caller guarantees the handle, which no other call uses.
     call(|| unsafe { Handle::get_mut(cursor) }?.step())
 }
 
 /// Returns true if the cursor is positioned at a row.
 #[no_mangle]
 pub unsafe extern "C" fn ucstore_db_cursor_valid(cursor: *const CursorHandle) -> bool {
-    // SAFETY: C owes the handle, which no other call changes.
+    // SAFETY: The caller guarantees the handle, which no other call changes.
     unsafe { Handle::get(cursor) }.is_ok_and(|cursor| cursor.row.is_some())
 }
 
@@ -399,7 +399,7 @@ pub unsafe extern "C" fn ucstore_db_cursor_key(
     cursor: *const CursorHandle,
     length: *mut usize,
 ) -> *const c_char {
-    // SAFETY: C owes the handle, which no other call changes, and the memory.
+    // SAFETY: The caller guarantees the handle, which no other call changes, and the memory.
     unsafe { lend(cursor, length, |row| row.key) }
 }
 
@@ -409,7 +409,7 @@ pub unsafe extern "C" fn ucstore_db_cursor_value(
     cursor: *const CursorHandle,
     length: *mut usize,
 ) -> *const c_char {
-    // SAFETY: C owes the handle, which no other call changes, and the memory.
+    // SAFETY: The caller guarantees the handle, which no other call changes, and the memory.
     unsafe { lend(cursor, length, |row| row.value) }
 }
 
@@ -423,7 +423,7 @@ unsafe fn lend(
     length: *mut usize,
     part: impl FnOnce(Row) -> Lent,
 ) -> *const c_char {
-    // SAFETY: The caller owes as much.
+    // SAFETY: The caller guarantees this.
     let (cursor, place) = unsafe { (Handle::get(cursor), Place::of(length)) };
     let nothing = Lent {
         at: ptr::null(),
@@ -441,7 +441,7 @@ unsafe fn lend(
 #[no_mangle]
 pub unsafe extern "C" fn ucstore_db_cursor_status(cursor: *const CursorHandle) -> i32 {
     call(|| {
-        // SAFETY: C owes the handle, which no other call changes.
+        // SAFETY: The caller guarantees the handle, which no other call changes.
         match &unsafe { Handle::get(cursor) }?.failure {
             Some(error) => Err(error.clone().into()),
             None => Ok(()),
@@ -461,7 +461,7 @@ pub unsafe extern "C" fn ucstore_db_cursor_page(
     size: *mut usize,
 ) -> i32 {
     call(|| {
-        // SAFETY: C owes the handle, which no other call uses, and the memory.
+        // SAFETY: The caller guarantees the handle, which no other call uses, and the memory.
         let (cursor, mut page, rows, size) = unsafe {
             let page = Page {
                 lengths: Room::of(lengths, lengths_count)?,
@@ -485,7 +485,7 @@ pub unsafe extern "C" fn ucstore_db_cursor_page(
 #[no_mangle]
 pub unsafe extern "C" fn ucstore_db_cursor_close(cursor: *mut CursorHandle) -> i32 {
     call(|| {
-        // SAFETY: C owes the handle, which no other call uses.
+        // SAFETY: The caller guarantees the handle, which no other call uses.
         drop(unsafe { Handle::end(cursor) }?);
         Ok(())
     })

@@ -14,15 +14,15 @@ use std::os::unix::ffi::OsStrExt;
 ///
 /// # Safety
 ///
-/// C owes the options and the place.
+/// The caller guarantees the options and the place.
 unsafe fn open_by(
     options: *const COptions,
     place: *mut *mut DbHandle,
     open: impl FnOnce(&db::Options) -> Result<Db, db::Error>,
 ) -> Result<(), Refusal> {
-    // SAFETY: C owes the memory.
+    // SAFETY: The caller guarantees the memory.
     let place = unsafe { Place::of(place) }?;
-    // SAFETY: C owes the struct, and what it leads to.
+    // SAFETY: The caller guarantees the struct, and what it leads to.
     let options = unsafe { COptions::at(options)?.read() }?;
     place.put(Handle::begin(open(&options)?));
     Ok(())
@@ -39,9 +39,9 @@ pub unsafe extern "C" fn ucstore_db_open(
         if folder.is_null() {
             return Err(Status::Null.into());
         }
-        // SAFETY: C owes a string that ends with a zero byte.
+        // SAFETY: The caller guarantees a string that ends with a zero byte.
         let folder = OsStr::from_bytes(unsafe { CStr::from_ptr(folder) }.to_bytes());
-        // SAFETY: C owes as much.
+        // SAFETY: The caller guarantees this.
         unsafe { open_by(options, db, |options| Db::open(folder, options)) }
     })
 }
@@ -52,14 +52,14 @@ pub unsafe extern "C" fn ucstore_db_in_memory(
     options: *const COptions,
     db: *mut *mut DbHandle,
 ) -> i32 {
-    // SAFETY: C owes as much.
+    // SAFETY: The caller guarantees this.
     call(|| unsafe { open_by(options, db, Db::in_memory) })
 }
 
 /// Shuts a database down, and keeps its handle.
 #[no_mangle]
 pub unsafe extern "C" fn ucstore_db_end(db: *const DbHandle) -> i32 {
-    // SAFETY: C owes the handle.
+    // SAFETY: The caller guarantees the handle.
     call(|| Ok(unsafe { Handle::get(db) }?.close()?))
 }
 
@@ -70,7 +70,7 @@ pub unsafe extern "C" fn ucstore_db_close(db: *mut DbHandle) -> i32 {
         if db.is_null() {
             return Ok(());
         }
-        // SAFETY: C owes a handle that only functions of the database's own threads use.
+        // SAFETY: The caller guarantees a handle that only functions of the database's own threads use.
         let outcome = unsafe { Handle::get(db) }?.close();
         // SAFETY: They have ended, and C uses it no more.
         drop(unsafe { Handle::end(db) }?);
@@ -92,7 +92,7 @@ pub unsafe extern "C" fn ucstore_db_put(
     value_length: usize,
 ) -> i32 {
     call(|| {
-        // SAFETY: C owes the handle and both byte strings.
+        // SAFETY: The caller guarantees the handle and both byte strings.
         let (db, key, value) = unsafe {
             (
                 Handle::get(db)?,
@@ -114,7 +114,7 @@ pub unsafe extern "C" fn ucstore_db_merge(
     operand_length: usize,
 ) -> i32 {
     call(|| {
-        // SAFETY: C owes the handle and both byte strings.
+        // SAFETY: The caller guarantees the handle and both byte strings.
         let (db, key, operand) = unsafe {
             (
                 Handle::get(db)?,
@@ -134,7 +134,7 @@ pub unsafe extern "C" fn ucstore_db_delete(
     key_length: usize,
 ) -> i32 {
     call(|| {
-        // SAFETY: C owes the handle and the bytes.
+        // SAFETY: The caller guarantees the handle and the bytes.
         let (db, key) = unsafe { (Handle::get(db)?, text(key, key_length)?) };
         Ok(db.delete(key)?)
     })
@@ -150,7 +150,7 @@ pub unsafe extern "C" fn ucstore_db_delete_range(
     end_length: usize,
 ) -> i32 {
     call(|| {
-        // SAFETY: C owes the handle and both byte strings.
+        // SAFETY: The caller guarantees the handle and both byte strings.
         let (db, begin, end) = unsafe {
             (
                 Handle::get(db)?,
@@ -166,7 +166,7 @@ pub unsafe extern "C" fn ucstore_db_delete_range(
 #[no_mangle]
 pub unsafe extern "C" fn ucstore_db_write(db: *const DbHandle, batch: *const BatchHandle) -> i32 {
     call(|| {
-        // SAFETY: C owes both handles, and no other call uses the batch.
+        // SAFETY: The caller guarantees both handles, and no other call uses the batch.
         let (db, batch) = unsafe { (Handle::get(db)?, Handle::get(batch)?) };
         Ok(db.write(batch)?)
     })
@@ -180,7 +180,7 @@ pub unsafe extern "C" fn ucstore_db_write_with(
     synced: bool,
 ) -> i32 {
     call(|| {
-        // SAFETY: C owes both handles, and no other call uses the batch.
+        // SAFETY: The caller guarantees both handles, and no other call uses the batch.
         let (db, batch) = unsafe { (Handle::get(db)?, Handle::get(batch)?) };
         Ok(db.write_with(batch, synced)?)
     })
@@ -195,7 +195,7 @@ pub unsafe extern "C" fn ucstore_db_write_bytes(
     synced: bool,
 ) -> i32 {
     call(|| {
-        // SAFETY: C owes the handle and the bytes.
+        // SAFETY: The caller guarantees the handle and the bytes.
         let (db, batch) = unsafe { (Handle::get(db)?, text(batch, batch_length)?) };
         Ok(db.write_bytes(batch, synced)?)
     })
@@ -204,7 +204,7 @@ pub unsafe extern "C" fn ucstore_db_write_bytes(
 /// Waits until all acknowledged writes are durable.
 #[no_mangle]
 pub unsafe extern "C" fn ucstore_db_sync(db: *const DbHandle) -> i32 {
-    // SAFETY: C owes the handle.
+    // SAFETY: The caller guarantees the handle.
     call(|| Ok(unsafe { Handle::get(db) }?.sync()?))
 }
 
@@ -219,7 +219,7 @@ pub unsafe extern "C" fn ucstore_db_get(
     size: *mut usize,
 ) -> i32 {
     call(|| {
-        // SAFETY: C owes the handle, the bytes and the memory.
+        // SAFETY: The caller guarantees the handle, the bytes and the memory.
         let (db, key, value) = unsafe {
             let value = Value::of(room, room_length, size)?;
             (Handle::get(db)?, text(key, key_length)?, value)
@@ -242,7 +242,7 @@ pub unsafe extern "C" fn ucstore_db_get_many(
     size: *mut usize,
 ) -> i32 {
     call(|| {
-        // SAFETY: C owes the handle, the byte strings and the memory.
+        // SAFETY: The caller guarantees the handle, the byte strings and the memory.
         let (db, keys, values) = unsafe {
             let keys = Keys::of(keys, keys_length, key_lengths, count)?;
             let values = Values::of(value_lengths, count, room, room_length, size)?;
@@ -259,7 +259,7 @@ pub unsafe extern "C" fn ucstore_db_snapshot(
     snapshot: *mut *mut SnapshotHandle,
 ) -> i32 {
     call(|| {
-        // SAFETY: C owes the handle and the memory.
+        // SAFETY: The caller guarantees the handle and the memory.
         let (db, place) = unsafe { (Handle::get(db)?, Place::of(snapshot)?) };
         place.put(SnapshotHandle::begin_snapshot(db.snapshot()?));
         Ok(())
@@ -274,7 +274,7 @@ pub unsafe extern "C" fn ucstore_db_take_mark(
     snapshot: *mut *mut SnapshotHandle,
 ) -> i32 {
     call(|| {
-        // SAFETY: C owes the handle and the memory.
+        // SAFETY: The caller guarantees the handle and the memory.
         let (db, place) = unsafe { (Handle::get(db)?, Place::of(snapshot)?) };
         let mark = db.take_mark(sequence).ok_or(Status::NotProtected)?;
         place.put(SnapshotHandle::begin_snapshot(mark));
@@ -285,21 +285,21 @@ pub unsafe extern "C" fn ucstore_db_take_mark(
 /// Flushes the memtables.
 #[no_mangle]
 pub unsafe extern "C" fn ucstore_db_flush(db: *const DbHandle) -> i32 {
-    // SAFETY: C owes the handle.
+    // SAFETY: The caller guarantees the handle.
     call(|| Ok(unsafe { Handle::get(db) }?.flush()?))
 }
 
 /// Compacts until no compaction is due.
 #[no_mangle]
 pub unsafe extern "C" fn ucstore_db_compact(db: *const DbHandle) -> i32 {
-    // SAFETY: C owes the handle.
+    // SAFETY: The caller guarantees the handle.
     call(|| Ok(unsafe { Handle::get(db) }?.compact()?))
 }
 
 /// Writes a checkpoint.
 #[no_mangle]
 pub unsafe extern "C" fn ucstore_db_checkpoint(db: *const DbHandle) -> i32 {
-    // SAFETY: C owes the handle.
+    // SAFETY: The caller guarantees the handle.
     call(|| Ok(unsafe { Handle::get(db) }?.checkpoint()?))
 }
 
@@ -310,7 +310,7 @@ pub unsafe extern "C" fn ucstore_db_checkpoint_to(
     snapshot: *const SnapshotHandle,
 ) -> i32 {
     call(|| {
-        // SAFETY: C owes both handles.
+        // SAFETY: The caller guarantees both handles.
         let (db, snapshot) = unsafe { (Handle::get(db)?, SnapshotHandle::lock(snapshot)?) };
         // A thread that reads it meanwhile doesn't wait.
         let again = snapshot.again()?;
@@ -322,7 +322,7 @@ pub unsafe extern "C" fn ucstore_db_checkpoint_to(
 /// Switches to a new log.
 #[no_mangle]
 pub unsafe extern "C" fn ucstore_db_next_log(db: *const DbHandle) -> i32 {
-    // SAFETY: C owes the handle.
+    // SAFETY: The caller guarantees the handle.
     call(|| Ok(unsafe { Handle::get(db) }?.next_log()?))
 }
 
@@ -330,7 +330,7 @@ pub unsafe extern "C" fn ucstore_db_next_log(db: *const DbHandle) -> i32 {
 #[no_mangle]
 pub unsafe extern "C" fn ucstore_db_failure(db: *const DbHandle) -> i32 {
     call(|| {
-        // SAFETY: C owes the handle.
+        // SAFETY: The caller guarantees the handle.
         match unsafe { Handle::get(db) }?.failure() {
             Some(error) => Err(error.into()),
             None => Ok(()),

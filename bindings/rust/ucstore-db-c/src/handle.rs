@@ -46,7 +46,7 @@ impl SnapshotHandle {
     pub(crate) unsafe fn lock<'a>(
         at: *const SnapshotHandle,
     ) -> Result<MutexGuard<'a, Snapshot>, Refusal> {
-        // SAFETY: The caller owes as much.
+        // SAFETY: The caller guarantees this.
         let snapshot = unsafe { Handle::get(at) }?;
         // One that a panic left is whole: reads change nothing.
         Ok(snapshot.lock().unwrap_or_else(PoisonError::into_inner))
@@ -66,7 +66,7 @@ impl<T> Handle<T> {
     ///
     /// The address is null, or [`begin`](Handle::begin) gave it and it hasn't ended. Nothing else changes it meanwhile.
     pub(crate) unsafe fn get<'a>(at: *const Handle<T>) -> Result<&'a T, Refusal> {
-        // SAFETY: The caller owes as much.
+        // SAFETY: The caller guarantees this.
         let handle = unsafe { at.as_ref() }.ok_or(Status::Null)?;
         handle.process.check()?;
         Ok(&handle.held)
@@ -78,7 +78,7 @@ impl<T> Handle<T> {
     ///
     /// As for [`get`](Handle::get). Nothing else reads it meanwhile.
     pub(crate) unsafe fn get_mut<'a>(at: *mut Handle<T>) -> Result<&'a mut T, Refusal> {
-        // SAFETY: The caller owes as much.
+        // SAFETY: The caller guarantees this.
         let handle = unsafe { at.as_mut() }.ok_or(Status::Null)?;
         handle.process.check()?;
         Ok(&mut handle.held)
@@ -93,7 +93,7 @@ impl<T> Handle<T> {
         if at.is_null() {
             return Ok(None);
         }
-        // SAFETY: The caller owes as much.
+        // SAFETY: The caller guarantees this.
         unsafe { Handle::get(at) }?;
         // SAFETY: It came from a box, and C doesn't use it any more.
         let handle = unsafe { Box::from_raw(at) };

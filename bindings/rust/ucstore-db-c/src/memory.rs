@@ -20,7 +20,7 @@ pub(crate) unsafe fn items<'a, T>(at: *const T, count: usize) -> Result<&'a [T],
         Some(0) => Ok(&[]),
         Some(size) if size <= isize::MAX as usize => {
             let at = NonNull::new(at.cast_mut()).ok_or(Status::Null)?;
-            // SAFETY: The caller owes as much, and the size is one that there may be.
+            // SAFETY: The caller guarantees this, and the size is one that there may be.
             Ok(unsafe { slice::from_raw_parts(at.as_ptr(), count) })
         }
         _ => Err(Status::TooLong.into()),
@@ -33,7 +33,7 @@ pub(crate) unsafe fn items<'a, T>(at: *const T, count: usize) -> Result<&'a [T],
 ///
 /// As for [`items`].
 pub(crate) unsafe fn text<'a>(at: *const c_void, length: usize) -> Result<&'a [u8], Refusal> {
-    // SAFETY: The caller owes as much.
+    // SAFETY: The caller guarantees this.
     unsafe { items(at.cast(), length) }
 }
 
@@ -49,12 +49,12 @@ pub(crate) unsafe fn read_sized<T: Copy>(
     default: T,
 ) -> Result<T, Refusal> {
     let at = NonNull::new(at.cast_mut()).ok_or(Status::Null)?;
-    // SAFETY: The caller owes the size.
+    // SAFETY: The caller guarantees the size.
     let size = unsafe { at.cast::<usize>().read() };
     if size < least || size > MOST_SIZE {
         return Err(Status::BadSize.into());
     }
-    // SAFETY: The caller owes as many bytes.
+    // SAFETY: The caller guarantees as many bytes.
     let given = unsafe { slice::from_raw_parts(at.cast::<MaybeUninit<u8>>().as_ptr(), size) };
     let known = size.min(size_of::<T>());
     let mut unknown = given[known..].iter();
@@ -86,7 +86,7 @@ pub(crate) unsafe fn write_sized<T: Copy>(
     }
     let at = NonNull::new(at).ok_or(Status::Null)?.cast::<u8>();
     let known = size.min(size_of::<T>());
-    // SAFETY: The caller owes the memory.
+    // SAFETY: The caller guarantees the memory.
     unsafe {
         NonNull::from(value)
             .cast()

@@ -82,9 +82,9 @@ impl COptions {
     ///
     /// # Safety
     ///
-    /// C owes a struct of that size.
+    /// The caller guarantees a struct of that size.
     pub(crate) unsafe fn at(options: *const COptions) -> Result<COptions, Refusal> {
-        // SAFETY: C owes as much.
+        // SAFETY: The caller guarantees this.
         unsafe { read_sized(options, LEAST_SIZE, COptions::default()) }
     }
 
@@ -92,9 +92,9 @@ impl COptions {
     ///
     /// # Safety
     ///
-    /// C owes the marks.
+    /// The caller guarantees the marks.
     pub(crate) unsafe fn read(&self) -> Result<Options, Refusal> {
-        // SAFETY: C owes as much.
+        // SAFETY: The caller guarantees this.
         let marks = unsafe { items(self.marks, self.marks_count) }?;
         Ok(Options {
             operator: operator_of(self.merge_operator)?,
@@ -194,7 +194,7 @@ pub unsafe extern "C" fn ucstore_db_options_init(options: *mut COptions, size: u
             size,
             ..COptions::default()
         };
-        // SAFETY: C owes as many bytes.
+        // SAFETY: The caller guarantees as many bytes.
         unsafe { write_sized(options, &whole, size) }
     })
 }

@@ -27,7 +27,7 @@ impl Value {
         room_length: usize,
         size: *mut usize,
     ) -> Result<Value, Refusal> {
-        // SAFETY: The caller owes as much.
+        // SAFETY: The caller guarantees this.
         let (room, size) = unsafe { (Room::of(room.cast(), room_length)?, Place::of(size)?) };
         Ok(Value { room, size })
     }
@@ -61,7 +61,7 @@ impl<'a> Keys<'a> {
         key_lengths: *const u64,
         count: usize,
     ) -> Result<Keys<'a>, Refusal> {
-        // SAFETY: The caller owes as much.
+        // SAFETY: The caller guarantees this.
         let (bytes, lengths) = unsafe { (text(keys, keys_length)?, items(key_lengths, count)?) };
         let whole = lengths
             .iter()
@@ -103,7 +103,7 @@ impl Values {
         room_length: usize,
         size: *mut usize,
     ) -> Result<Values, Refusal> {
-        // SAFETY: The caller owes as much.
+        // SAFETY: The caller guarantees this.
         unsafe {
             Ok(Values {
                 lengths: Room::of(value_lengths, count)?,
@@ -135,7 +135,7 @@ pub unsafe extern "C" fn ucstore_db_snapshot_again(
     again: *mut *mut SnapshotHandle,
 ) -> i32 {
     call(|| {
-        // SAFETY: C owes the handle and the memory.
+        // SAFETY: The caller guarantees the handle and the memory.
         let (snapshot, place) = unsafe { (SnapshotHandle::lock(snapshot)?, Place::of(again)?) };
         place.put(SnapshotHandle::begin_snapshot(snapshot.again()?));
         Ok(())
@@ -149,7 +149,7 @@ pub unsafe extern "C" fn ucstore_db_snapshot_sequence(
     sequence: *mut u64,
 ) -> i32 {
     call(|| {
-        // SAFETY: C owes the handle and the memory.
+        // SAFETY: The caller guarantees the handle and the memory.
         let (snapshot, place) = unsafe { (SnapshotHandle::lock(snapshot)?, Place::of(sequence)?) };
         place.put(snapshot.sequence());
         Ok(())
@@ -167,7 +167,7 @@ pub unsafe extern "C" fn ucstore_db_snapshot_get(
     size: *mut usize,
 ) -> i32 {
     call(|| {
-        // SAFETY: C owes the handle, the bytes and the memory.
+        // SAFETY: The caller guarantees the handle, the bytes and the memory.
         let (snapshot, key, value) = unsafe {
             let value = Value::of(room, room_length, size)?;
             (
@@ -194,7 +194,7 @@ pub unsafe extern "C" fn ucstore_db_snapshot_get_many(
     size: *mut usize,
 ) -> i32 {
     call(|| {
-        // SAFETY: C owes the handle, the byte strings and the memory.
+        // SAFETY: The caller guarantees the handle, the byte strings and the memory.
         let (snapshot, keys, values) = unsafe {
             let keys = Keys::of(keys, keys_length, key_lengths, count)?;
             let values = Values::of(value_lengths, count, room, room_length, size)?;
@@ -208,7 +208,7 @@ pub unsafe extern "C" fn ucstore_db_snapshot_get_many(
 #[no_mangle]
 pub unsafe extern "C" fn ucstore_db_snapshot_close(snapshot: *mut SnapshotHandle) -> i32 {
     call(|| {
-        // SAFETY: C owes the handle, which no other call uses.
+        // SAFETY: The caller guarantees the handle, which no other call uses.
         drop(unsafe { Handle::end(snapshot) }?);
         Ok(())
     })

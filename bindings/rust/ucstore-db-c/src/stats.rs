@@ -117,12 +117,12 @@ impl From<Stats> for CStats {
 #[no_mangle]
 pub unsafe extern "C" fn ucstore_db_stats(db: *const DbHandle, stats: *mut CStats) -> i32 {
     call(|| {
-        // SAFETY: C owes the handle.
+        // SAFETY: The caller guarantees the handle.
         let db = unsafe { Handle::get(db) }?;
         if stats.is_null() {
             return Err(Status::Null.into());
         }
-        // SAFETY: C owes a struct that begins with its size.
+        // SAFETY: The caller guarantees a struct that begins with its size.
         let size = unsafe { stats.cast::<usize>().read() };
         if size < LEAST_SIZE {
             return Err(Status::BadSize.into());
@@ -131,7 +131,7 @@ pub unsafe extern "C" fn ucstore_db_stats(db: *const DbHandle, stats: *mut CStat
             size,
             ..CStats::from(db.stats())
         };
-        // SAFETY: C owes as many bytes.
+        // SAFETY: The caller guarantees as many bytes.
         unsafe { write_sized(stats, &whole, size) }
     })
 }
@@ -145,7 +145,7 @@ pub unsafe extern "C" fn ucstore_db_stats_text(
     size: *mut usize,
 ) -> i32 {
     call(|| {
-        // SAFETY: C owes the handle and the memory.
+        // SAFETY: The caller guarantees the handle and the memory.
         let (db, mut room, size) = unsafe {
             let room = Room::<u8>::of(room.cast(), room_length)?;
             (Handle::get(db)?, room, Place::of(size)?)

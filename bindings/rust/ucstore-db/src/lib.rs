@@ -33,7 +33,7 @@
 //! the next view by then, if the last one was used; else the first reader makes it, which locks the store for the time of a share.
 //! While nothing is written, threads look keys up without a lock in common. A writer shows what there is before a flush: so no
 //! lookup waits for a flush, a compaction or a checkpoint. Only after 64 range deletions the store flushes by itself,
-//! and then the first read may wait. A scan flushes what is gathered, from 32 KiB on, and sorts less than that. Views are let go of when
+//! and then the first read may wait. A scan flushes what is gathered, from 32 KiB on, and sorts less than that. Views are released when
 //! the runs change, so threads that read no more keep nothing.
 //!
 //! # What it tells

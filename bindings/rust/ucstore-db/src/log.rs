@@ -130,7 +130,7 @@ impl Log {
         let Writer::Unready(unready) = &self.writer else {
             return Ok(None);
         };
-        // What failed before begins again.
+        // An attempt that failed before begins again.
         let mut machine = lock(&self.machine);
         *machine = unready.machine();
         let set_aside = unready.get_ready(&*self.folder, &mut machine)?;

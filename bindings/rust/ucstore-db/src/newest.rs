@@ -32,7 +32,7 @@ const MOST_ASKED: u32 = 4;
 /// also sorts that for them, so that no thread that scans has to.
 ///
 /// There are 26 views at most: those of 16 slots, one for scans, the shown one, and eight before it.
-/// A view holds the memtables and runs that the store had. Who changes the runs lets go of all views before that, whether anyone
+/// A view holds the memtables and runs that the store had. A thread that changes the runs releases all views before that, whether anyone
 /// reads or not. So for long these hold only the runs that the store has, and of what is gathered copies that it has put together
 /// since. What was replaced they hold for as long as a lookup or a sort takes that began before.
 ///
@@ -87,7 +87,7 @@ impl Newest {
         self.tell(store, || Patience::Short.look(|| try_lock(&self.shown.0)));
     }
 
-    /// Tells that the store's runs were changed, before it is unlocked. Then the caller lets go of older views.
+    /// Tells that the store's runs were changed, before it is unlocked. Then the caller releases older views.
     pub(crate) fn change(&self, store: &Store) {
         self.tell(store, || Some(lock(&self.shown.0)));
     }
@@ -114,7 +114,7 @@ impl Newest {
                 drop(held);
                 let value = read(Holder::Store(&store));
                 drop(store);
-                // The slot was locked here when others may have let go of old views.
+                // The slot was locked here when others may have released old views.
                 if let Some(taken) = old {
                     self.end_use(taken, || self.let_go_of(slot));
                 }
@@ -165,9 +165,9 @@ impl Newest {
         self.shown(self.taken(), store).map(drop)
     }
 
-    /// Lets go of views that miss a change of the runs, which the caller has made. It doesn't hold the store any more.
+    /// Releases the views that miss a change of the runs, which the caller has made. It doesn't hold the store any more.
     ///
-    /// It waits for no reader: one that uses a view lets go of it itself. The shown one goes first: who takes another from it meanwhile
+    /// It waits for no reader: one that uses a view releases it itself. The shown one goes first: a thread that takes another from it meanwhile
     /// uses that.
     pub(crate) fn let_go(&self) {
         let least = self.taken();
@@ -183,7 +183,7 @@ impl Newest {
         self.let_go_of_sorted();
     }
 
-    /// Lets go of a view at a number of groups, which was used and is unlocked, if the runs were changed since.
+    /// Releases a view at a number of groups, which was used and is unlocked, if the runs were changed since.
     fn end_use(&self, taken: u64, let_go: impl FnOnce()) {
         fence(Ordering::SeqCst);
         if taken < self.changed.0.load(Ordering::Relaxed) {
@@ -191,13 +191,13 @@ impl Newest {
         }
     }
 
-    /// Lets go of a slot's view that misses a change of the runs, unless it is used.
+    /// Releases a slot's view that misses a change of the runs, unless it is used.
     fn let_go_of(&self, slot: &Mutex<Slot>) {
         let old = try_lock(slot).and_then(|mut slot| self.take_old(&mut slot.shown));
         drop(old);
     }
 
-    /// Lets go of the view for scans if it misses a change of the runs, unless it is used.
+    /// Releases the view for scans if it misses a change of the runs, unless it is used.
     fn let_go_of_sorted(&self) {
         let old = try_lock(&self.sorted).and_then(|mut held| self.take_old(&mut held));
         drop(old);

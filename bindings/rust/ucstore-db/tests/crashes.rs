@@ -79,7 +79,7 @@ fn put(db: &Db, map: &mut Map, key: impl AsRef<[u8]>, value: &[u8], is_synced: b
     map.insert(key.as_ref().to_vec(), value.to_vec());
 }
 
-/// What a database answers after a fault: it holds what was acknowledged, and refuses writes if its log failed.
+/// The answers of a database after a fault: it holds what was acknowledged, and refuses writes if its log failed.
 fn check_live(history: &History, run: &Run) {
     let Some(db) = &run.db else { return };
     assert_eq!(map_of(db), history.maps[run.acknowledged]);

@@ -11,7 +11,7 @@ use ucstore_db::{Batch, Db, Error, Options};
 
 type Files = BTreeMap<String, Vec<u8>>;
 
-/// What a database holds after each batch, and how many bytes its last log has then.
+/// The contents of a database after each batch, and the size of its last log then.
 struct Story {
     device: Device,
     maps: Vec<Map>,
@@ -39,7 +39,7 @@ impl Story {
         db.checkpoint().unwrap_err();
         self.write_to(&db, keys);
         drop(db);
-        // What the checkpoint left is removed.
+        // Files that the checkpoint left are removed.
         open(&self.device).unwrap();
     }
 

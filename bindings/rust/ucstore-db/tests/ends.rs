@@ -187,7 +187,7 @@ fn a_length_without_contents_is_cut_off_and_nothing_is_set_aside() {
     assert!(map.is_empty() && lost.is_empty());
 }
 
-/// What a listener was told of bytes that were set aside.
+/// The events of bytes that were set aside.
 type Told = Arc<Mutex<Vec<(String, u64)>>>;
 
 /// Options with such a listener.

@@ -111,7 +111,7 @@ struct Rising {
 }
 
 impl Rising {
-    /// Those of a writer.
+    /// The keys of a writer.
     fn all(writer: usize) -> Vec<Rising> {
         let rising = |number| Rising {
             key: format!("{writer} {number}"),

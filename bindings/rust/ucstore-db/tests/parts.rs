@@ -45,7 +45,7 @@ fn bytes_at(history: &History, place: usize, first: u64) -> (Vec<u8>, u64) {
     (bytes, first + history.batch(place).len() as u64 - 1)
 }
 
-/// What is done to a part.
+/// A change of a part.
 #[derive(Clone, Copy, Debug)]
 enum Step {
     /// The next batch, so far after the last one.
@@ -82,7 +82,7 @@ impl Step {
 struct Part {
     /// The last sequence after each batch that was acknowledged; first after none.
     lasts: Vec<u64>,
-    /// Behind how many batches each snapshot is.
+    /// The number of batches before each snapshot.
     kept: Vec<usize>,
     snapshots: Vec<Snapshot>,
     db: Option<Db>,

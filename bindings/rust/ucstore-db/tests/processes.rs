@@ -61,7 +61,7 @@ fn count(db: &Db, thread: u64) {
     }
 }
 
-/// What the process does that is ended. On its own it does nothing.
+/// The work of the process that is ended. On its own it does nothing.
 #[test]
 #[ignore]
 fn child() {
@@ -148,7 +148,7 @@ fn a_second_process_is_refused() {
     Db::open(folder.path(), &options()).unwrap();
 }
 
-/// What a process of its own does in another directory. On its own it does nothing.
+/// The work of another process in another directory. On its own it does nothing.
 #[test]
 #[ignore]
 fn wanderer() {

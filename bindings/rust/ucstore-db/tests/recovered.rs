@@ -114,7 +114,7 @@ fn a_base_of_a_snapshot_lets_older_logs_go_and_no_newer_ones() {
         assert_eq!(rows_of(&snapshot), story.maps[place]);
         assert!(db.take_mark(mark).is_none());
     }
-    // What a base has isn't written again, nor what another one has that is newer.
+    // Rows of a base aren't written again, nor those of another one that is newer.
     let now = db.snapshot().unwrap();
     db.checkpoint_to(&now).unwrap();
     let names = ["000003-19.base", "000003.log", "OPERATOR"];

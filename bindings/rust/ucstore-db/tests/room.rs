@@ -193,7 +193,7 @@ fn a_log_that_cannot_be_cut_back_ends_writing() {
     for call in [Call::Cut, Call::Sync] {
         let device = device.restarted();
         let db = open(&device).unwrap();
-        // What fails first is the append, and then what would mend it.
+        // The append fails first, and then the truncation that would mend it.
         let failing = FailingBoth(device.clone(), call);
         drop(db);
         let db = Db::open_on(Arc::new(Over(failing)), &by_hand()).unwrap();

@@ -191,7 +191,7 @@ fn a_write_does_not_wait_for_the_sync_by_time() {
     assert!(db.stats().syncs > 1);
 }
 
-/// What is acknowledged as synced is, while another thread syncs.
+/// A batch that is acknowledged as synced is so, while another thread syncs.
 #[test]
 fn a_sync_beside_others_keeps_what_it_is_for() {
     let device = Device::default();

@@ -9,7 +9,7 @@ use std::thread;
 use std::time::{Duration, Instant};
 use ucstore_db::{Db, Error, Event, Listener, Operator, Options, Progress};
 
-/// What a listener was told.
+/// The events that a listener was told.
 struct Told<T>(Arc<Mutex<Vec<T>>>);
 
 impl<T: Clone + Send + 'static> Told<T> {

@@ -78,7 +78,7 @@ pub enum BatchFault {
 }
 
 impl Ended {
-    /// What the library told.
+    /// The library's answer.
     pub(crate) fn of(ended: ucstore_ended) -> Ended {
         match ended.kind {
             0 => Ended::Clean,

@@ -52,7 +52,7 @@ impl fmt::Display for Error {
 
 impl std::error::Error for Error {}
 
-/// What a status says.
+/// The message of a status.
 pub(crate) fn check(status: i32) -> Result<(), Error> {
     match status {
         sys::UCSTORE_OK => Ok(()),

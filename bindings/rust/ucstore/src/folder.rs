@@ -50,7 +50,7 @@ pub enum FolderAction {
     CreateLog(u64),
     /// Appends the batch to the log of a number, with a mark of the number of its batches that are durable.
     Append(u64, u64),
-    /// Syncs the log of a number. So many batches were there when this was asked for.
+    /// Syncs the log of a number, which had a number of batches when this was asked for.
     SyncLog(u64, u64),
     /// Truncates the log of a number after its first `batches`, and syncs it.
     CutLog(u64, u64),

@@ -14,7 +14,7 @@ const USUAL_VALUE: usize = 512;
 /// The bytes for each of many values for which their lookup doesn't ask twice.
 const USUAL_SHARE: usize = 256;
 
-/// What the library says of a key without a value.
+/// The library's answer for a key without a value.
 const NO_VALUE: u64 = u64::MAX;
 
 type Get<H> = unsafe extern "C" fn(*mut H, *const u8, usize, *mut u8, usize, *mut usize) -> i32;
@@ -99,7 +99,7 @@ impl<H> Reads<H> {
         value.clear();
         while let Some(size) = self.get_to_room(key, value.spare_capacity_mut())? {
             if size <= value.capacity() {
-                // SAFETY: So many bytes were copied there.
+                // SAFETY: The library has copied that number of bytes there.
                 unsafe { value.set_len(size) };
                 return Ok(true);
             }
@@ -267,7 +267,7 @@ fn value_by(
         return Ok(None);
     };
     if size <= USUAL_VALUE {
-        // SAFETY: So many bytes were copied there.
+        // SAFETY: The library has copied that number of bytes there.
         let value = unsafe { slice::from_raw_parts(room.as_ptr().cast::<u8>(), size) };
         return copy(value).map(Some);
     }
@@ -275,7 +275,7 @@ fn value_by(
     value.try_reserve_exact(size)?;
     let again = lookup(value.spare_capacity_mut())?;
     assert_eq!(again, Some(size), "nothing is written meanwhile");
-    // SAFETY: So many bytes were copied there.
+    // SAFETY: The library has copied that number of bytes there.
     unsafe { value.set_len(size) };
     Ok(Some(value))
 }

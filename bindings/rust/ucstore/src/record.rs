@@ -21,7 +21,7 @@ pub(crate) fn record_by(
         let status = prepare(record.spare_capacity_mut(), &mut size);
         if status != sys::UCSTORE_ROOM {
             check(status)?;
-            // SAFETY: So many bytes were copied there.
+            // SAFETY: The library has copied that number of bytes there.
             unsafe { record.set_len(size) };
             return Ok(record);
         }

@@ -22,7 +22,7 @@ pub struct Report {
 }
 
 impl Report {
-    /// What a call tells, which is refused for no handle that is open.
+    /// The answer of a call that fails for no open handle.
     pub(crate) fn by(tell: impl FnOnce(*mut sys::ucstore_report) -> i32) -> Report {
         let mut report = sys::ucstore_report {
             size: std::mem::size_of::<sys::ucstore_report>(),

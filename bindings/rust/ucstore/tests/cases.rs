@@ -256,7 +256,7 @@ struct Player {
     options: Options,
     is_durable: bool,
     log: Vec<u8>,
-    /// What a batch that is prepared adds to the log.
+    /// The bytes that a prepared batch adds to the log.
     record: Option<Vec<u8>>,
     /// The sequences of snapshots by their names.
     sequences: HashMap<String, u64>,
@@ -278,7 +278,7 @@ impl Player {
         }
     }
 
-    /// What a case prints.
+    /// The output of a case.
     fn play(&mut self, case: &Case<'_>) -> String {
         self.said.clear();
         let lines: Vec<String> = case.input.iter().flat_map(|line| expanded(line)).collect();
@@ -522,7 +522,7 @@ impl Player {
     }
 }
 
-/// What was wanted and what came, from the first line on that differs.
+/// The expected and the actual output, from the first line on that differs.
 fn difference(wanted: &[&str], came: &[&str]) -> String {
     let same = wanted
         .iter()

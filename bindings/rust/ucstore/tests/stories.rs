@@ -14,7 +14,7 @@ fn folder() -> PathBuf {
     Path::new(env!("CARGO_MANIFEST_DIR")).join("../../cases/stories")
 }
 
-/// What a case prints: under each operator, if it names none, the same.
+/// The output of a case: under each operator, if it names none, the same.
 fn printed(case: &Case<'_>) -> String {
     let kinds = case.operators();
     let first = told(case, kinds[0]);

@@ -49,7 +49,7 @@ fn get(shared: &Shared) -> u64 {
     value.map_or(0, |text| u64::from_le_bytes(text.try_into().unwrap()))
 }
 
-/// Gets so often that the thread has a view then.
+/// Gets until the thread has a view.
 fn get_by_view(shared: &Shared) -> u64 {
     for _ in 0..MOST_ASKED {
         get(shared);
@@ -172,7 +172,7 @@ fn a_few_views_stay_while_one_thread_writes() {
     assert_eq!(shown(), 1);
 }
 
-/// Scans so often that the next writer sorts.
+/// Scans until the next writer sorts.
 fn scan_often(shared: &Shared) {
     for _ in 0..MANY_SCANS {
         shared.newest.sorted_view(&shared.store).unwrap();

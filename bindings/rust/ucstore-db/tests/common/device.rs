@@ -15,7 +15,7 @@ use ucstore_db::{File, Folder};
 const SECTOR: usize = 512;
 const PAGE: usize = 4096;
 
-/// What a device is called for.
+/// A call of a device.
 #[derive(Clone, Copy, Debug, PartialEq, Eq)]
 pub enum Call {
     Names,
@@ -50,9 +50,9 @@ impl Call {
 /// A file.
 #[derive(Clone, Default, PartialEq, Eq)]
 struct Content {
-    /// What a process reads.
+    /// The bytes that a process reads.
     bytes: Vec<u8>,
-    /// What the device has for certain.
+    /// The bytes that the device has for certain.
     disk: Vec<u8>,
     /// The sectors that the next sync writes.
     dirty: BTreeSet<usize>,
@@ -68,7 +68,7 @@ enum Change {
     Remove(String),
 }
 
-/// What a call that fails has done.
+/// The part of a failing call that is done.
 #[derive(Clone, Copy, Debug, PartialEq, Eq)]
 pub enum Extent {
     /// Nothing; of an append and of a sync, some of it.
@@ -91,7 +91,7 @@ struct Fault {
 
 /// The outcome of a call.
 struct Outcome {
-    /// What is done of it; all if it doesn't fail.
+    /// The part of it that is done; all if it doesn't fail.
     done: Extent,
     told: io::Result<()>,
 }
@@ -339,7 +339,7 @@ impl Content {
         }
     }
 
-    /// What is left after a crash: the first bytes of what wasn't synced, or any pages of it.
+    /// The contents after a crash: the first bytes of what wasn't synced, or any pages of it.
     fn survivor(&self, numbers: &mut Numbers) -> Vec<u8> {
         let length = self.length_left(numbers);
         let mut left = self.disk.clone();

@@ -36,7 +36,7 @@ pub struct History {
     pub maps: Vec<Map>,
 }
 
-/// What histories are drawn from.
+/// The settings that histories are drawn from.
 pub struct Histories {
     pub batches: usize,
     pub numbers: Numbers,
@@ -53,7 +53,7 @@ pub struct Run {
     pub kept: usize,
     /// The database, unless it couldn't be opened.
     pub db: Option<Db>,
-    /// What was refused first.
+    /// The first refusal.
     pub error: Option<Error>,
 }
 

@@ -88,7 +88,7 @@ impl Case<'_> {
     }
 }
 
-/// What a story prints under an operator: a line for each line of steps.
+/// The output of a story under an operator: a line for each line of steps.
 pub fn told(case: &Case<'_>, operator: Operator) -> String {
     let mut story = Story::new(operator, case.options());
     let mut text = String::new();
