@@ -250,7 +250,7 @@ NAMES = {1000: "1,000", 10000: "10,000"}
 
 
 def feed_rows(results, baseline):
-    """The rows of feeds of so many writes beside a baseline, with their numbers of writes."""
+    """The rows of feeds of a number of writes beside a baseline, with their numbers of writes."""
     return [(size, found(results, "live", "feeds", f"batches of {NAMES.get(size, size)}", "ns", baseline)) for size in FEEDS]
 
 

@@ -172,7 +172,7 @@ def scans(numbers: Numbers, count: int, keys: int, at: int) -> List[Query]:
 
 
 class Op(NamedTuple):
-    """A change: its kind, as the player spells it, and its texts."""
+    """A change: its kind, as the player spells it, and its byte strings."""
 
     kind: int
     first: bytes
@@ -183,7 +183,7 @@ KINDS_BY_BYTE = {ord("p"): 0, ord("d"): 1, ord("m"): 2, ord("r"): 3}
 
 
 def ops_in(data: bytes) -> Iterator[Op]:
-    """Changes as the baselines write them: a byte for the kind and two texts, each after its length of 4 bytes, low byte first."""
+    """Changes as the baselines write them: a byte for the kind and two byte strings, each after its length of 4 bytes, low byte first."""
     place = 0
     while place < len(data):
         kind, length = struct.unpack_from("<BI", data, place)

@@ -5,12 +5,12 @@ from html import escape
 
 DARK, GREY, PALE = "#222222", "#555555", "#dddddd"
 
-# What a dash or a shape says has to be readable without its colour.
+# The meaning of a dash or a shape has to be readable without its colour.
 DASHES = {"solid": "", "dashed": "6 4", "dotted": "2 3"}
 
 
 def place(number):
-    """A coordinate, with one digit behind the point."""
+    """A coordinate, with one decimal."""
     return f"{number:.1f}".rstrip("0").rstrip(".")
 
 
@@ -70,13 +70,13 @@ class Drawing:
         self.path([(x + size * a, y + size * b) for a, b in corners], colour, 1.8, "solid", "#ffffff")
 
     def across(self, scale, values, top, bottom, texts):
-        """Vertical lines at some values, with texts below them."""
+        """Vertical lines at some values, with labels below them."""
         for value, text in zip(values, texts):
             self.line(scale(value), top, scale(value), bottom, stroke=PALE)
             self.text(scale(value), bottom + 16, text, "middle", fill=GREY)
 
     def along(self, scale, values, left, right, texts):
-        """Horizontal lines at some values, with texts to the left of them."""
+        """Horizontal lines at some values, with labels to the left of them."""
         for value, text in zip(values, texts):
             self.line(left, scale(value), right, scale(value), stroke=PALE)
             self.text(left - 6, scale(value) + 4, text, "end", fill=GREY)

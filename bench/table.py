@@ -12,13 +12,13 @@ LETTERS = {"Intel(R) Xeon(R) Processor @ 2.50GHz": "A", "Intel(R) Xeon(R) Proces
 # The month whose dates are written by the day alone, as the page says.
 MONTH = "2026-11"
 
-# What the page calls a baseline, if it isn't the name in the results.
+# The page's name of a baseline, if it isn't the name in the results.
 NAMES = {
     "AtomicU64": "`AtomicU64`", "BTreeMap": "`BTreeMap`", "RwLock": "`RwLock`",
     "RocksDB+filter": "RocksDB, Bloom filter", "RocksDB+flush": "RocksDB, flushed", "one worker": "one",
 }
 
-# How many of a unit are one of another.
+# The number of a unit in another one.
 PARTS = {("ns", "µs"): 1000, ("ns", "ms"): 1000000}
 
 
@@ -27,7 +27,7 @@ class Line(NamedTuple):
 
     How several rows make a cell: `each` writes all, `range` the least and the most, `first` the first, `mean` the mean,
     and `none` nothing. `worst` takes the row with the highest ratio alone. `ratio_style` is that of ratios, if it
-    differs. `digits` are those behind the point. `ratio_cases` have the ratio, if other cases than those of the values
+    differs. `digits` are the decimals. `ratio_cases` have the ratio, if other cases than those of the values
     do. docs/figures/ratios.svg shows the lines that have a `name`.
     """
 
@@ -176,12 +176,12 @@ def rows_of(line, results, cases=None):
 
 
 def rounded(number, digits):
-    """A number with so many digits behind the point, halves away from zero as in decimal notation."""
+    """A number with this many decimals, halves away from zero as in decimal notation."""
     return f"{Decimal(str(number)).quantize(Decimal(1).scaleb(-digits), ROUND_HALF_UP):,}"
 
 
 def value_text(number, digits=None):
-    """A figure. Whole numbers stay whole; others have fewer digits behind the point the larger they are."""
+    """A figure. Whole numbers stay whole; others have fewer decimals the larger they are."""
     if isinstance(number, int):
         return f"{number:,}"
     if digits is None:

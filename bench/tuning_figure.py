@@ -10,7 +10,7 @@ OPTIONS = (
     ("max_size_amplification_percent", lambda value: f"{value} %"),
 )
 
-# The columns of panels: a title, a work behind the option, and by how much its values are divided.
+# The columns of panels: a title, a work after the option, and by how much its values are divided.
 COLUMNS = (
     ("a put, µs of processors", "put, of processors", 1000),
     ("a lookup, µs", "lookup", 1000),

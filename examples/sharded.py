@@ -19,7 +19,7 @@ from ucstore.sharded import ShardedStore
 
 
 def batches(lines: Iterator[str], size: int = 1000) -> Iterator[List[Merge]]:
-    """Ones to be added to the counts of the words, so many lines at once."""
+    """Ones to be added to the counts of the words, a number of lines at once."""
     one = (1).to_bytes(8, "little")
     while True:
         some = list(islice(lines, size))

@@ -10,7 +10,7 @@
 #include <string.h>
 #include <unistd.h>
 
-/* Writes all of a text, and says whether that went well. */
+/* Writes all bytes of a string, and says whether that went well. */
 static int tell(const char *text) {
     size_t left = strlen(text);
     while (left > 0) {
@@ -26,7 +26,7 @@ static void say(const char *text) {
     if (!tell(text)) abort();
 }
 
-/* Says that memory ran out behind some text, as it should be said. */
+/* Says that memory ran out after some output, as it should be said. */
 static int ends(const char *first) {
     say(first);
     say("out of memory\n");
@@ -51,7 +51,7 @@ static int asks(const char *way) {
     return 0;
 }
 
-/* Goes on behind a hole, or behind the second line, which is written again, or says that it stops. */
+/* Goes on after a hole, or after the second line, which is written again, or says that it stops. */
 static int writes_on(const char *way) {
     if (strcmp(way, "behind-a-hole") == 0) return tell("third\n"), 5;
     if (strcmp(way, "written-again") == 0) return tell("second\n"), 5;

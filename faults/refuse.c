@@ -4,7 +4,7 @@
  *
  * REFUSE_AT=N       the request that is refused, from 1 on; without it none is
  * REFUSE_ON=1       and all later ones too
- * REFUSE_SHORT=1    that write or read moves a half of its bytes, and the one behind it is refused
+ * REFUSE_SHORT=1    that write or read moves a half of its bytes, and the next one is refused
  * REFUSE_THREADS=1  threads are counted and refused, and memory isn't
  * REFUSE_WRITES=1   writes to standard output are counted and refused, and memory isn't
  * REFUSE_READS=1    reads of standard input are counted and refused, and memory isn't
@@ -13,7 +13,7 @@
  * REFUSE_TOLD=1     only what is asked for between two marks counts, each a request of a size that nothing else asks for; the
  *                   mark that begins says by its size which request is refused
  * REFUSE_COUNT=PATH a file of 8 bytes, which holds the number of requests so far, also where the program is killed; with
- *                   REFUSE_TOLD the number of pairs of marks so far, and behind it, as far as the file goes, the requests in each
+ *                   REFUSE_TOLD the number of pairs of marks so far, and after it, as far as the file goes, the requests in each
  */
 #define _GNU_SOURCE
 #include <dlfcn.h>
@@ -131,7 +131,7 @@ int pthread_create(pthread_t *thread, const pthread_attr_t *attributes, void *(*
     return create(thread, attributes, work, given);
 }
 
-/* How many of the bytes the next write or read of a device moves: all, a step, a half of them, or none, since it is refused. */
+/* The number of bytes that the next write or read of a device moves: all, a step, a half of them, or none, since it is refused. */
 static ssize_t moved(size_t size) {
     uint64_t number = atomic_fetch_add(count, 1) + 1;
     if (halved && number == first) return (size + 1) / 2;

@@ -24,7 +24,7 @@ class Scan(NamedTuple):
 
 Query = Union[Get, Scan]
 
-# What is answered: a value or none, rows, or that a sequence isn't protected.
+# An answer: a value or none, rows, or that a sequence isn't protected.
 Answer = Tuple[str, Union[None, bytes, int, List[Tuple[bytes, bytes]]]]
 
 
@@ -46,7 +46,7 @@ def answer_in(reply: Reply) -> Answer:
 
 
 def answer_of(operator: Operator, writes: Sequence[Write], keeps: Sequence[int], query: Query) -> Answer:
-    """What plain writes answer, of which the oldest is the first, where reads at these keeps are protected."""
+    """The answers of plain writes, of which the oldest is the first, where reads at these keeps are protected."""
     if query.at not in keeps:
         return "not protected", query.at
     if isinstance(query, Get):

@@ -91,7 +91,7 @@ class Base:
         self.desk.check(f"tests/base.py, {self.desk.operator}, {where}", checked)
 
     def operate(self, older: bytes, newer: bytes, first: bytes, both: bytes) -> None:
-        """What an operator makes of a newer operand alone, and of both in each of four ways."""
+        """The results of an operator for a newer operand alone, and of both in each of four ways."""
         reply = self.desk.call(OPERATE, older, newer, name="operate")
 
         def check(reply: Reply) -> None:
@@ -144,7 +144,7 @@ MERGES = [
 
 
 def add_effects(base: Base) -> None:
-    """Effects of texts that are joined with a comma, and the values that writes give."""
+    """Effects of strings that are joined with a comma, and the values that writes give."""
     fold_b, fold_c, fold_d = (effect_spelling(("fold", one)) for one in (b"b", b"c", b"d"))
     keep, clear = effect_spelling(KEEP), effect_spelling(CLEAR)
     base.row("merged", base.desk.call(MERGED, Raw(some(b"a")), b"b"), lambda reply: wants(reply.bytes(), b"a,b"))
@@ -172,7 +172,7 @@ def add_counts(base: Base) -> None:
 
 
 def add_folds(base: Base) -> None:
-    """Texts keep their order, and a set hides what is older."""
+    """Strings keep their order, and a set hides what is older."""
     letters = b"".join(effect_spelling(("fold", letter)) for letter in (b"a", b"b", b"c"))
     joined = b",".join(1000 * [b"a", b"b", b"c"])
     base.effect("3,000 letters", FOLD_ALL, number(3000) + 1000 * letters, wanted=("fold", joined))
@@ -303,7 +303,7 @@ ORDERS = [
     ([(b"a", b"v"), (b"c", b"v"), (b"b", b"v")], False),
 ]
 
-# How many rows of `TWO` fit so many bytes, and how many bytes these have.
+# The number of rows of `TWO` that fit a number of bytes, and their size.
 FITTING = [(0, 0, 0), (17, 0, 0), (18, 1, 18), (35, 1, 18), (36, 2, 36), (99, 2, 36)]
 
 
@@ -364,7 +364,7 @@ def drawn_bytes(draws: Random, bound: int) -> bytes:
 
 
 def add_tails(base: Base, count: int, pairs: int) -> None:
-    """Drawn texts of no bytes to about twice as many as stay: the last ones stay."""
+    """Drawn strings of no bytes to about twice as many as stay: the last ones stay."""
     draws = seeded(7)
     for _ in range(pairs):
         older, newer = (drawn_bytes(draws, 3 + 2 * count) for _ in range(2))
@@ -396,7 +396,7 @@ def add_groups(base: Base, count: int, rows: int) -> None:
 
 
 class Part(NamedTuple):
-    """What is added to a story under an operator."""
+    """The steps that a story has more under an operator."""
 
     operator: str
     add: Callable[[Base], None]

@@ -197,7 +197,7 @@ class Demand:
         return self.desk.call(WALK, self.number, len(steps), Raw(b"".join(steps)), name=f"a seek of {key!r}", marked=False)
 
     def compare(self, reply: Reply, key: bytes) -> None:
-        """What a cursor that is before a key says of it at each sequence, and where it is."""
+        """The answers of a cursor before a key at each sequence, and its place."""
         here = next((one.first for one in self.run.points if one.first >= key), None)
         for at in self.sequences:
             came = (reply.effect(), reply.some(), reply.some())

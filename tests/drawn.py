@@ -23,7 +23,7 @@ def change(draws: Random) -> Tuple[int, bytes, bytes]:
 
 
 def mostly_range(draws: Random) -> Tuple[int, bytes, bytes]:
-    """In eighths, a put, a merge, and six range deletions, few of which have no keys: so many overlap."""
+    """In eighths, a put, a merge, and six range deletions, few of which have no keys: many overlap."""
     kind = draws.choice([PUT, MERGE] + 6 * [RANGE])
     first, second = draws.choice(ENDS), draws.choice(ENDS)
     if kind == RANGE and second < first and draws.randrange(4):
@@ -40,7 +40,7 @@ def drawn_writes(draws: Random, draw, most: int, above: int) -> List[Write]:
 
 
 def drawn_keeps(draws: Random, bound: int, sides: int) -> List[int]:
-    """Sequences below a bound that rise: one in so many."""
+    """Sequences below a bound that rise: one in `sides` on average."""
     return [seq for seq in range(bound) if draws.randrange(sides) == 0]
 
 
@@ -158,7 +158,7 @@ def draw_parts(rounds: int, seed: int) -> List[Drawn]:
 
 
 def draw_large(seed: int) -> Drawn:
-    """Three runs of 6,000 writes, which have so many points that threads cut the key space."""
+    """Three runs of 6,000 writes, which have enough points for threads to cut the key space."""
     draws, story, runs, above = seeded(seed), Drawn("counter", "large runs"), [], 0
     for name in range(3):
         writes = drawn_counters(draws, 5000, 6000, above)

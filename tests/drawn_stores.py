@@ -33,7 +33,7 @@ def drawn_writes(draws: Random, count: int) -> List[Write]:
 
 
 def drawn_setup(draws: Random, most: int) -> Setup:
-    """Up to so many writes, of which the store keeps some sequences, or all."""
+    """Up to a number of writes, of which the store keeps some sequences, or all."""
     writes = drawn_writes(draws, draws.randrange(most + 1))
     last = writes[-1].seq if writes else 0
     some = [draws.randrange(last + 1) for _ in range(draws.randrange(4))]
@@ -158,12 +158,12 @@ def may_be_collected(options: Options, runs: Sequence[Tuple[int, bool]]) -> bool
 
 
 def stretches(count: int) -> List[Tuple[int, int]]:
-    """All stretches of so many runs: from the newest on, and of each the longest first."""
+    """All stretches of a number of runs: from the newest on, and of each the longest first."""
     return [(first, length) for first in range(count) for length in range(count - first, 0, -1)]
 
 
 def slow_pick(options: Options, runs: Sequence[Tuple[int, bool]]) -> Optional[Tuple[int, int]]:
-    """What is compacted next: all runs, if the newer ones are too large for the oldest; else the first that are alike in size, as many
+    """The runs to compact next: all runs, if the newer ones are too large for the oldest; else the first that are alike in size, as many
     as possible; else two or more unclaimed ones, cut to what is needed."""
     count = len(runs)
     if count < options.trigger or not runs:

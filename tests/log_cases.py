@@ -19,7 +19,7 @@ from play import TOP, Raw, Reply, Wrong, number, text, wants
 FOLDER = TOP / "tests" / "cases" / "formats"
 PROGRAM = os.environ.get("UCSTORE") or str(TOP / "crates" / "ucstore" / "out" / "ucstore")
 
-# Sizes of the pieces that logs are cut into, and those for logs above so many bytes.
+# Sizes of the pieces that logs are cut into, and those for larger logs.
 SIZES = [1, 7, 100, 10_000, 32_768, 65_537]
 LARGE, LARGE_SIZES = 5_000, [32_768, 70_001]
 
@@ -30,7 +30,7 @@ Payload = Tuple[bool, bytes]
 
 
 class Left(NamedTuple):
-    """What a log holds: payloads, and whether each is joined of several records; writes; how far both go."""
+    """The contents of a log: payloads, and whether each is joined of several records; writes; how far both go."""
 
     payloads: List[Payload]
     ending: str
@@ -154,7 +154,7 @@ def payloads_of(reading: Reading) -> Callable[[Left], str]:
     return said
 
 
-# What a case prints, once its calls are made.
+# The output of a case, once its calls are made.
 Printed = Callable[[], List[str]]
 
 
@@ -254,7 +254,7 @@ class Files:
         return lambda: [line(offset, reply) for offset, reply in walks]
 
     def judged(self, batch: bytes, last: int = 0) -> Callable[[], List[str]]:
-        """What a batch says: alone, and as the payload of a log if there was no sequence before."""
+        """The writes of a batch: alone, and as the payload of a log if there was no sequence before."""
         reply = self.desk.call(READ_BATCH, last, batch, name="read_batch")
         reading = Reading(self.desk, log_of_payloads([batch])) if last == 0 else None
 
@@ -372,13 +372,13 @@ def run_dump(log: bytes) -> Tuple[List[str], int]:
 
 
 def dump_of(left: Left) -> Tuple[List[str], int]:
-    """What the program dumps of a log that holds this."""
+    """The program's dump of a log with these contents."""
     lines = [write_line(write, lambda value: value.hex() or ".") for write in left.writes]
     return lines + [left.ended], 3 if "fault" in left.ended else 0
 
 
 def played(path: Path) -> Tuple[int, List[str], Dict[str, List[str]]]:
-    """How many cases a file has, what is wrong, and what each case printed."""
+    """The number of a file's cases, the faults, and the output of each case."""
     files, failures, lines = Files(), [], {}
     cases = read_cases(path)
     for case in cases:

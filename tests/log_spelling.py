@@ -116,7 +116,7 @@ def write_line(write: Write, spelling: Callable[[bytes], str] = spell) -> str:
 
 
 def ended_words(name: str) -> str:
-    """How far a log was read, in words: `Log(BadChecksum, 5)` is `log fault bad checksum 5`."""
+    """The end of a log's reading, in words: `Log(BadChecksum, 5)` is `log fault bad checksum 5`."""
     name = re.sub(r"^(?:Fault|Log)\(", "LogFault(", name)
     name = re.sub(r"^Batch\(", "BatchFault(", name)
     words = re.sub(r"(?<!^)([A-Z])", r" \1", re.sub(r"[(),]", " ", name))

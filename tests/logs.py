@@ -85,7 +85,7 @@ def batch_of(writes: Sequence[Write]) -> bytes:
 
 
 def batches_of(writes: Sequence[Write], most: int) -> List[List[Write]]:
-    """Writes in batches of at most so many. A gap between sequences ends a batch."""
+    """Writes in batches of at most a number. A gap between sequences ends a batch."""
     batches: List[List[Write]] = []
     for write in writes:
         if batches and len(batches[-1]) < most and batches[-1][-1].seq + 1 == write.seq:

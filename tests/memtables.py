@@ -169,7 +169,7 @@ def shares(refuse: bool) -> Desk:
 
 
 def set_apart(refuse: bool) -> Desk:
-    """What is set apart is read until it is dropped."""
+    """A part that is set apart is read until it is dropped."""
     desk, lists = story("what is set apart", refuse)
     take(lists, Write(1, MERGE, b"k", b"a"))
     apart = lists.shared(1, True)
@@ -186,7 +186,7 @@ def set_apart(refuse: bool) -> Desk:
 
 
 def waiting_apart(refuse: bool) -> Desk:
-    """What waits isn't set apart, and another share sets nothing apart."""
+    """A waiting part isn't set apart, and another share sets nothing apart."""
     desk, lists = story("what waits isn't set apart", refuse)
     take(lists, Write(1, MERGE, b"k", b"a"))
     lists.prepare(Write(2, MERGE, b"k", b"b"))

@@ -1,4 +1,4 @@
-"""What is right, by the definitions: operators, effects, writes, and the runs that these become.
+"""The right answers, by the definitions: operators, effects, writes, and the runs that these become.
 
 Everything here goes over plain lists and is slow. It shares nothing with the program that it judges.
 """
@@ -15,7 +15,7 @@ CLEAR: Effect = ("clear",)
 
 
 class Operator(NamedTuple):
-    """What a merge makes of a lone operand, of a value and an operand, and of an older operand and a newer one."""
+    """The results of a merge for a lone operand, of a value and an operand, and of an older operand and a newer one."""
 
     first: Callable[[bytes], bytes]
     join: Callable[[bytes, bytes], bytes]
@@ -86,7 +86,7 @@ def applied(operator: Operator, effect: Effect, value: Optional[bytes]) -> Optio
 
 
 class Write(NamedTuple):
-    """A change and its sequence. The second text of a delete is empty."""
+    """A change and its sequence. The second byte string of a delete is empty."""
 
     seq: int
     kind: int
@@ -104,14 +104,14 @@ class Write(NamedTuple):
         return ("fold", self.second) if self.kind == MERGE else CLEAR
 
     def size(self) -> int:
-        """The bytes of a memtable that it takes: its texts and 8, and nothing for a range without keys."""
+        """The bytes of a memtable that it takes: its byte strings and 8, and nothing for a range without keys."""
         if self.kind == RANGE and self.first >= self.second:
             return 0
         return len(self.first) + len(self.second) + 8
 
 
 def effect_at(operator: Operator, writes: Iterable[Write], key: bytes, at: int) -> Effect:
-    """What the writes at or below a sequence, of which the oldest is the first, do to a key."""
+    """The effect on a key of the writes at or below a sequence, the oldest first."""
     effect = KEEP
     for write in writes:
         if write.seq <= at and write.touches(key):
@@ -204,7 +204,7 @@ def stripe_of(keeps: Sequence[int], seq: int) -> int:
 
 
 def kept_point(operator: Operator, points: Sequence[Write], ranges: Sequence[int], is_bottom: bool) -> List[Write]:
-    """What is left of one key's points of one stripe, the newest first, under the range deletions over it."""
+    """The rest of one key's points of one stripe, the newest first, under the range deletions over it."""
     newest = max(ranges, default=0)
     points = [point for point in points if point.seq > newest]
     if not points:
@@ -221,7 +221,7 @@ def kept_point(operator: Operator, points: Sequence[Write], ranges: Sequence[int
 
 
 def kept_seqs(seqs: Iterable[int], keeps: Sequence[int], bottom: Optional[int]) -> Tuple[int, ...]:
-    """What is left of the sequences over a stretch of keys: the newest of each stripe, and none of the one at the bottom."""
+    """The rest of the sequences over a stretch of keys: the newest of each stripe, and none of the one at the bottom."""
     newest: Dict[int, int] = {}
     for seq in seqs:
         newest[stripe_of(keeps, seq)] = max(seq, newest.get(stripe_of(keeps, seq), 0))
@@ -250,7 +250,7 @@ def compacted(operator: Operator, runs: Sequence[Run], keeps: Sequence[int], old
 
 
 class Along:
-    """What writes do to a key at each sequence, found by one walk over them."""
+    """The effect of writes on a key at each sequence, found by one walk over them."""
 
     def __init__(self, operator: Operator, writes: Sequence[Write], key: bytes) -> None:
         self.seqs, self.effects = [0], [KEEP]

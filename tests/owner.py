@@ -48,20 +48,20 @@ WAYS = [
 # Numbers of workers, each of which answers pieces of each of these numbers of queries.
 WORKERS, PIECES = (2, 3, 7, 64), (1, 2, 7, 8, 2**64 - 1)
 
-# How many runs are shown after a case, the newest first.
+# The number of runs that are shown after a case, the newest first.
 MOST_SHOWN = 16
 
 # In stores of more writes no memory is refused.
 MOST_REFUSED = 20
 
-# How many queries are asked after a case with memory refused.
+# The number of queries that are asked after a case with memory refused.
 FEW_QUERIES = 8
 
 Printed = Callable[[], List[str]]
 
 
 class Setup(NamedTuple):
-    """What a store is opened from: the first writes stand in a log, which may be torn, and the others come behind it."""
+    """The source of a store: the first writes stand in a log, which may be torn, and the others follow it."""
 
     options: Options
     keeps: List[int]
@@ -100,7 +100,7 @@ def setup_in(case: Case) -> Setup:
 
 
 class Plain:
-    """What a store was given, and the sequences that it keeps."""
+    """The writes that a store was given, and the sequences that it keeps."""
 
     def __init__(self, writes: Sequence[Write], keeps: Iterable[int]) -> None:
         self.writes = list(writes)
@@ -110,7 +110,7 @@ class Plain:
         return self.writes[-1].seq if self.writes else 0
 
     def takes(self, call: Call, is_fed: bool) -> None:
-        """What a call changes: a feed that is taken, a snapshot, or its release."""
+        """A call that changes a store: a feed that is taken, a snapshot, or its release."""
         if call.kind == FEED and is_fed:
             self.writes += call.writes
         elif call.kind == KEEP:
@@ -119,7 +119,7 @@ class Plain:
             self.keeps.discard(int(call.spelling))
 
     def queries(self) -> List[Query]:
-        """What is asked of each key: its value, and the rows from it on, up to it, and two of them; where reads are protected, and not."""
+        """The queries of each key: its value, and the rows from it on, up to it, and two of them; where reads are protected, and not."""
         keys = sorted({write.first for write in self.writes})
         found: List[Query] = []
         for at in sorted(self.keeps | {self.last(), self.last() + 1}):
@@ -144,7 +144,7 @@ class Stories:
         self.operator = OPERATORS[operator]
         self.plain: Optional[Plain] = None
         self.printed: Dict[str, List[str]] = {}
-        # What the store is in the end of each case, in answers' bytes.
+        # The store at the end of each case, in answers' bytes.
         self.ends: Dict[str, List[Reply]] = {}
 
     def add(self, case: Case) -> None:
@@ -160,7 +160,7 @@ class Stories:
             self.end(case.where)
 
     def end(self, where: str) -> None:
-        """Behind a case the version is looked at, runs are shown, and in the first way each key is read."""
+        """After a case the version is looked at, runs are shown, and in the first way each key is read."""
         self.ends[where] = [self.shop.call(LOOK, name="look", marked=False)]
         self.ends[where] += [self.shop.call(SHOW, place, name="show", marked=False) for place in range(MOST_SHOWN)]
         if self.demands and self.way == WAYS[0]:
@@ -264,7 +264,7 @@ class Stories:
         return printed, is_stopped(call)
 
     def answers_to(self, call: Call) -> List[Answer]:
-        """What the plain writes answer to the queries of a call."""
+        """The answers of the plain writes to the queries of a call."""
         if is_stopped(call):
             return []
         return [answer_of(self.operator, self.plain.writes, self.plain.keeps, query) for query in call.queries]

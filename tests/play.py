@@ -80,7 +80,7 @@ class Reply:
     def __init__(self, name: str) -> None:
         self.name = name
         self.status: Optional[int] = None
-        # How long the call took, if it was clocked.
+        # The time of the call, if it was clocked.
         self.nanoseconds: Optional[int] = None
         self.data = b""
         self.place = 0
@@ -167,7 +167,7 @@ def answers_in(output: bytes) -> List[Answer]:
 
 
 def nanoseconds_in(answer: Optional[Answer], name: str) -> int:
-    """How long a call took, as the answer after its own tells it."""
+    """The time of a call, as the answer after its own tells it."""
     if answer is None or answer.status != MADE:
         raise Wrong(f"{name}: the clock has no answer")
     return int(answer.data)
@@ -217,7 +217,7 @@ def run_program(calls: bytes) -> bytes:
     return ran.stdout
 
 
-# How many marked calls one run can count the requests of.
+# The most marked calls whose requests one run can count.
 COUNTS = 1 << 20
 
 
@@ -245,7 +245,7 @@ class Story:
         self.marks = True
         self.frames: List[Frame] = []
         self.checks: List[Tuple[str, Callable[[], None]]] = []
-        # How many requests for memory were refused.
+        # The number of requests for memory that were refused.
         self.refused = 0
 
     def call(self, kind: int, *values: Union[Value, Raw], name: str = "", marked: bool = True) -> Reply:

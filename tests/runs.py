@@ -1,6 +1,6 @@
 """Plays the cases of memtables, runs and compactions in `cases/runs`, whose README has the commands.
 
-Each file is played with texts that the memtable owns and with borrowed ones, and under each operator that it names. Whatever run a case
+Each file is played with byte strings that the memtable owns and with borrowed ones, and under each operator that it names. Whatever run a case
 makes is read in each way, at each of its keys and beside them, and has to say what its plain writes do; what is compacted has to
 read at its keeps as its inputs.
 """
@@ -27,7 +27,7 @@ KNOWN = {
     "compact": ["keeps", "oldest", "counter"],
 }
 
-# What a case prints, once the program has answered.
+# The output of a case, once the program has answered.
 Printed = Callable[[], List[str]]
 
 # The run that cases ask, one that is compared with it, and one that others become.
@@ -261,7 +261,7 @@ REFUSES = {INSERT, FLUSH, BUILD, LOOK_UP, COMPACT}
 
 
 def ways(path: Path) -> List[Tuple[str, bool]]:
-    """The operators under which a file is played, and whether memtables own their texts."""
+    """The operators under which a file is played, and whether memtables own their byte strings."""
     with_counter = any(case.has("counter") for case in read_cases(path))
     return [("append", False), ("append", True)] + ([("counter", False)] if with_counter else [])
 

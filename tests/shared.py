@@ -29,7 +29,7 @@ MOST_REFUSED = 20
 
 MOST_SLOTS = 256
 
-# What prints a line, once the program has answered.
+# A function that prints a line, once the program has answered.
 Line = Callable[[], str]
 
 
@@ -149,7 +149,7 @@ class Hall:
         return lambda: f"{line}: {came()}"
 
     def came(self, line: str, place: int) -> str:
-        """What a case says that comes of a line, so that the plain writes are those that the store took."""
+        """The outcome of a line by its case, so that the plain writes are those that the store took."""
         expected = self.case.expected[2 + place : 3 + place]
         return expected[0][len(line) + 2 :] if expected else ""
 
@@ -221,7 +221,7 @@ class Hall:
         return lambda: done_or_refused(reply, lambda _: "released")
 
     def asked(self, queries: List[Query], pin: Reply, replies: List[Reply]) -> Line:
-        """What is asked of a pinned version, which has to be what is answered from all that had been written then."""
+        """The queries of a pinned version, which has to be what is answered from all that had been written then."""
         writes = self.writes
 
         def line() -> str:

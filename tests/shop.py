@@ -11,7 +11,7 @@ from play import SHOP, Raw, Reply, Story, Wrong, number, spelled, text
 (OPEN, LOOK, SHOW, CLAIM, MAKE, INSTALL, ABANDON, COMPACT, PICK, REPORT, ASK, ANSWER, FEED, KEEP, RELEASE) = range(15)
 (BUSY, NUMBER, APART, PLACE, REFUSE, PICK_AMONG, LIST, MERGE, ERRORS) = range(15, 24)
 
-# Who works for a store.
+# The workers of a store.
 ALONE, THREADS, PARTS = 0, 1, 2
 
 MOST_SLOTS = 256
@@ -97,7 +97,7 @@ def ask_call(queries: Sequence[Query], workers: int, piece: int) -> Call:
 
 
 def call_of(line: str, last: int) -> Call:
-    """The call that a text says, to a store with this last sequence."""
+    """The call that a line spells, to a store with this last sequence."""
     verb, _, rest = line.strip().partition(" ")
     words = rest.split()
     if verb in ("get", "scan"):
@@ -152,7 +152,7 @@ class Stopped(Exception):
 
 
 def reply_words(reply: Reply) -> Tuple[str, List[Answer]]:
-    """What a reply says, and the answers in it."""
+    """The line of a reply, and the answers in it."""
     kind = reply.number()
     if kind in NUMBERED:
         return NUMBERED[kind].format(reply.number()), []
@@ -180,7 +180,7 @@ class Placed(NamedTuple):
 
 
 class Version(NamedTuple):
-    """What a store tells of itself: runs, keeps, last sequence, next id and size of memtables, and which slots are claimed."""
+    """The state that a store reports: runs, keeps, last sequence, next id and size of memtables, and which slots are claimed."""
 
     runs: Tuple[Placed, ...]
     keeps: Tuple[int, ...]
@@ -222,7 +222,7 @@ class Shop(Story):
 
 
 def open_spelling(way: int, options: Options, keeps: Sequence[int], log: bytes, writes: Sequence[Write]) -> bytes:
-    """What a store is opened from, after who works for it."""
+    """The source of a store, after its workers."""
     return number(way) + b"".join(number(one) for one in options) + spelled(list(keeps)) + text(log) + writes_spelling(writes)
 
 

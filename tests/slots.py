@@ -6,7 +6,7 @@ from play import SLOTS, Answer, Reply, Story, seeded, wants
 
 TAKE, GIVE, HELD = 0, 1, 2
 
-# The most slots of a table. As it ends it tells of so many, whatever number it has.
+# The most slots of a table. At its end it reports that number, whatever number it has.
 MOST = 256
 
 
@@ -95,7 +95,7 @@ def worked(case: Worked, refuse: bool) -> Seats:
 
 
 def refused() -> Seats:
-    """What may not be asked of a table: a slot twice, one that it hasn't, and to give back what isn't held."""
+    """Requests that a table refuses: a slot twice, one that it hasn't, and to give back what isn't held."""
     seats = Seats("tests/slots.py, refused", 4)
     replies = [seats.call(kind, 0, slots) for kind, slots in ((TAKE, [1, 1]), (TAKE, [4]), (GIVE, [0]))]
     seats.check(seats.where, lambda: wants([reply.is_made for reply in replies], 3 * [False]))

@@ -61,7 +61,7 @@ def spell(value: bytes) -> str:
     return "+".join(words + pieces_of(value[length:]))
 
 
-# What a line says: sequences, a kind and two texts.
+# The fields of a line: sequences, a kind and two byte strings.
 Said = Tuple[List[int], int, bytes, bytes]
 
 

@@ -103,7 +103,7 @@ def opens_after_a_crash(world: World, draw: random.Random) -> World:
 
 
 def opens_after_a_drop(world: World, draw: random.Random) -> World:
-    """The process ends, and the system lets go of what it held of the log: the device is read."""
+    """The process ends, and the system drops its pages of the log: the device is read."""
     device = change_log(world.device, world.log, lambda file: crashed_file(file, draw))
     return opens(replace(world, device=device), draw.random() < 0.5)
 

@@ -1,4 +1,4 @@
-/* What a store does for workload.c: ucstore.c, rocksdb.c and leveldb.c have these functions. A program has one store, and ends
+/* The functions of a store for workload.c: ucstore.c, rocksdb.c and leveldb.c have these functions. A program has one store, and ends
  * itself where a call fails. */
 #ifndef BENCH_C_STORE_H
 #define BENCH_C_STORE_H
@@ -15,7 +15,7 @@ enum { KEY = 16, NUMBER = 8 };
 struct settings {
     /* Whether the writes have merges, which add numbers. */
     bool merges;
-    /* How many writes a batch has. */
+    /* The number of writes in a batch. */
     size_t size;
     /* A folder in memory, for a store that has no environment in memory. */
     const char *folder;
@@ -43,7 +43,7 @@ uint64_t get(const uint8_t *key, uint64_t sum);
 /* Reads the first rows from a key on, and adds them to a sum. */
 uint64_t scan(const uint8_t *low, size_t limit, uint64_t sum);
 
-/* How many files or runs there are. */
+/* The number of files or runs. */
 uint64_t count_runs(void);
 
 void close_store(void);

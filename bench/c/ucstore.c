@@ -95,7 +95,7 @@ uint64_t get(const uint8_t *key, uint64_t sum) {
     return with_bytes(sum, number, NUMBER);
 }
 
-/* Adds the rows of a page, each a key and a value behind their lengths, and copies the last key. */
+/* Adds the rows of a page, each a key and a value after their lengths, and copies the last key. */
 static uint64_t with_rows(uint64_t sum, const uint8_t *row, uint64_t count, uint8_t *last) {
     for (; count > 0; count--, row += 16 + KEY + NUMBER) {
         sum = with_bytes(with_bytes(sum, row + 8, KEY), row + 16 + KEY, NUMBER);
@@ -110,7 +110,7 @@ uint64_t scan(const uint8_t *key, size_t limit, uint64_t sum) {
     size_t low_length = KEY, size = 0;
     uint64_t rows = PAGE;
     memcpy(low, key, KEY);
-    /* Only the first scan, which isn't measured, has more than a page. The next page begins behind the last key. */
+    /* Only the first scan, which isn't measured, has more than a page. The next page begins after the last key. */
     while (limit > 0 && rows == PAGE) {
         expect_ok(ucstore_scan_at(&store, low, low_length, BEHIND_ALL, KEY, true, snapshot, limit < PAGE ? limit : PAGE, page,
                                   sizeof page, &size, &rows), "the keys aren't scanned");

@@ -1,4 +1,4 @@
-/* What is done with each store, and how long it takes:
+/* Works over each store, with their times:
  *
  *     PROGRAM puts|counters WRITES SIZE GETS SCANS [FOLDER]
  *

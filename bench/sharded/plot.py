@@ -12,7 +12,7 @@ from results import read
 from svg import Drawing, Scale
 
 SIZES = (1000, 10000, 100000)
-# What is drawn: how many workers, how they are called, and the marks. None is one store without Dask.
+# The curves: numbers of workers, their names, and the marks. None is one store without Dask.
 SERIES = (
     (None, "one store, no Dask", "square", OTHER_COLOUR, "dashed"),
     (1, "1 worker", "triangle", RUST_COLOUR, "dotted"),

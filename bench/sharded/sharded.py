@@ -3,7 +3,7 @@
     sharded.py FOLDER SIZE BATCHES [ADDRESS]
 
 BATCHES batches of SIZE writes go to a store in FOLDER that is empty at first: to as many shards as the scheduler at ADDRESS has
-workers, one being placed while another is written, or to one store that appends to a log too. Behind them a snapshot is taken, at which as many batches of SIZE keys are looked
+workers, one being placed while another is written, or to one store that appends to a log too. After them a snapshot is taken, at which as many batches of SIZE keys are looked
 up. It prints the nanoseconds of all writes and of all lookups, and a checksum of the answers.
 """
 
@@ -59,7 +59,7 @@ class Single:
         """Waits until all batches are written, as they are."""
 
     def reader(self) -> Callable[[List[bytes]], List[Optional[bytes]]]:
-        """What answers a batch of keys at a snapshot."""
+        """The function that answers a batch of keys at a snapshot."""
         at = self.store.take_snapshot()
         return lambda keys: [self.store.get_at(key, at) for key in keys]
 
@@ -83,7 +83,7 @@ class Sharded:
             written.result()
 
     def reader(self) -> Callable[[List[bytes]], List[Optional[bytes]]]:
-        """What answers a batch of keys at a snapshot."""
+        """The function that answers a batch of keys at a snapshot."""
         return self.store.snapshot().answers
 
 

@@ -16,7 +16,7 @@ struct check {
     bool has_gaps;
 };
 
-/* The value of a key after so many writes. It has any bytes, also those that end a line. */
+/* The value of a key after a number of writes. It has any bytes, also those that end a line. */
 static struct text checked_value(uint8_t *room, uint64_t number, uint64_t writes) {
     size_t length = 8 + (number * 37 + writes) % 1000;
     for (size_t place = 0; place < length; place++) {
@@ -116,7 +116,7 @@ static void check_rows(const struct check *check) {
     }
 }
 
-/* A sum: 8 bytes, or the digits that a database of texts keeps. */
+/* A sum: 8 bytes, or the digits that a database of strings keeps. */
 static uint64_t sum_in(struct text text) {
     uint64_t sum = 0;
     if (text.length == 8) {

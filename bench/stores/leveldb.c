@@ -1,4 +1,4 @@
-/* LevelDB by its C interface. It has no merges: a number is read and written back, behind a lock. */
+/* LevelDB by its C interface. It has no merges: a number is read and written back, under a lock. */
 #include "store.h"
 
 #include <leveldb/c.h>

@@ -16,7 +16,7 @@ enum { ROOM = 1 << 16, HEAD = 256 };
 
 struct session {
     int server;
-    /* What isn't sent yet, and what is received: that from `begin` on isn't read yet. */
+    /* Bytes that aren't sent yet, and bytes received: those from `begin` on aren't read yet. */
     size_t used, begin, end;
     uint8_t sent[ROOM], received[ROOM], value[ROOM];
 };

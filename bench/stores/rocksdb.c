@@ -127,7 +127,7 @@ void delete_key(struct session *session, struct text key) {
     expect_none(error);
 }
 
-/* Lets go of the value that is lent. */
+/* Releases the value that is lent. */
 static void take_back(struct session *session) {
     if (session->value != NULL) {
         rocksdb_pinnableslice_destroy(session->value);

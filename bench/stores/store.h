@@ -1,4 +1,4 @@
-/* What a database does for workload.c: ours.c, rocksdb.c, leveldb.c, lmdb.c, sqlite.c and redis.c have these functions. A
+/* The functions of a database for workload.c: ours.c, rocksdb.c, leveldb.c, lmdb.c, sqlite.c and redis.c have these functions. A
  * program has one database, which threads share, and ends itself where a call fails. */
 #ifndef BENCH_STORES_STORE_H
 #define BENCH_STORES_STORE_H
@@ -22,12 +22,12 @@ struct settings {
     bool is_synced;
 };
 
-/* What a database can't do. */
+/* The works that a database cannot do. */
 extern const bool has_memory, has_merges, has_scans;
 
 void open_store(const struct settings *settings);
 
-/* What a thread needs of its own. A session is used by one thread at a time. */
+/* The data of one thread. A session is used by one thread at a time. */
 struct session *open_session(void);
 
 void put(struct session *session, struct text key, struct text value);

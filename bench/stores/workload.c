@@ -1,4 +1,4 @@
-/* Runs works over a database, one behind the other, and prints a line for each:
+/* Runs works over a database, one after the other, and prints a line for each:
  *
  *     PROGRAM FOLDER|memory synced|unsynced THREADS KEYS VALUE WORK[:OPERATIONS][:THREADS]..
  *
@@ -59,7 +59,7 @@ struct worker {
 struct work {
     const char *name;
     void (*run)(struct worker *worker, uint64_t place);
-    /* What one thread more does meanwhile, if that is anything. */
+    /* The work of one thread more meanwhile, if there is one. */
     void (*beside)(struct worker *worker, uint64_t place);
 };
 
@@ -177,7 +177,7 @@ static void insert_next(struct worker *worker, uint64_t place) {
     set_key(worker, atomic_fetch_add(&records, 1), place);
 }
 
-/* Whether the operation at a place is one of so many of a hundred. */
+/* Whether the operation at a place is one of a number of a hundred. */
 static bool is_among(uint64_t place, uint64_t of_hundred) {
     return drawn(~place) % 100 < of_hundred;
 }
@@ -340,7 +340,7 @@ static uint64_t written(void) {
 
 static struct worker workers[MOST_THREADS + 1];
 
-/* Runs a work by so many threads, and prints its line. */
+/* Runs a work by a number of threads, and prints its line. */
 static void measure(const struct work *work, size_t threads, uint64_t operations) {
     static struct times times;
     static uint64_t written_before;

@@ -1,4 +1,4 @@
-/* What an option of a database costs and gains:
+/* The costs and gains of an option of a database:
  *
  *     PROGRAM KEYS WRITES LOOKUPS SCANS [OPTION VALUE]
  *
@@ -59,7 +59,7 @@ static int64_t nanoseconds_of(struct timeval time) {
     return (int64_t)time.tv_sec * 1000000000 + (int64_t)time.tv_usec * 1000;
 }
 
-/* What all threads took of processors. */
+/* The processor time of all threads. */
 static int64_t processor_time(void) {
     struct rusage usage = used();
     return nanoseconds_of(usage.ru_utime) + nanoseconds_of(usage.ru_stime);

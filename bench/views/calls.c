@@ -1,10 +1,10 @@
-/* What views and jobs take of the thread that owns a store:
+/* The time that views and jobs take of the thread that owns a store:
  *
  *     PROGRAM views RUNS TIMES
  *     PROGRAM jobs RUNS POINTS TIMES
  *
  * `views`: the store has RUNS runs of 1,000 points. It prints the median nanoseconds of a view and its close where
- * nothing was written since the last one, of one behind a write, and of a view that is there again and its close, each
+ * nothing was written since the last one, of one after a write, and of a view that is there again and its close, each
  * TIMES times.
  *
  * `jobs`: the store has RUNS runs of POINTS points, which one job compacts, TIMES times anew. Ending it frees the old
@@ -19,7 +19,7 @@
 #include <inttypes.h>
 #include <ucstore.h>
 
-/* What is measured at once where a call is about as long as a look at the clock. */
+/* The number of calls that are measured at once where a call is about as long as a look at the clock. */
 enum { AT_ONCE = 100 };
 
 static struct ucstore store;
@@ -28,7 +28,7 @@ static void expect_ok(int32_t status, const char *what) {
     expect(status == UCSTORE_OK, what);
 }
 
-/* A store that flushes and compacts nothing by itself, and from so many runs on gives out jobs. */
+/* A store that flushes and compacts nothing by itself, and from a number of runs on gives out jobs. */
 static void create(uint32_t trigger) {
     struct ucstore_options options;
     expect_ok(ucstore_options_init(&options), "there are no options");
@@ -84,7 +84,7 @@ static void drop(struct ucstore_view *view) {
     expect_ok(ucstore_view_close(view), "a view isn't closed");
 }
 
-/* The median of a view and its close, of many at once, or each behind a write. */
+/* The median of a view and its close, of many at once, or each after a write. */
 static int64_t time_views(uint64_t count) {
     struct times times = {{0}, 0, 0};
     struct ucstore_view view = {0};

@@ -1,4 +1,4 @@
-/* What a store does for threads.c, beside what ../c/store.h says: ucstore.c and rocksdb.c have these functions. One
+/* The functions of a store for threads.c, beside those of ../c/store.h: ucstore.c and rocksdb.c have these functions. One
  * thread writes, others read, and others compact. */
 #ifndef BENCH_VIEWS_STORE_H
 #define BENCH_VIEWS_STORE_H
@@ -14,13 +14,13 @@ void stop_compactors(void);
 
 void put(const uint8_t *key, const uint8_t *number);
 
-/* What the last `put` did, as far as that can be told. */
+/* The effects of the last `put`, as far as they are known. */
 const char *last_work(void);
 
 /* Lets others read what was put so far. */
 void show(void);
 
-/* What a thread reads by. */
+/* The handle by which a thread reads. */
 struct reader;
 
 struct reader *open_reader(void);

@@ -1,4 +1,4 @@
-/* What threads do with a store, and how long it takes:
+/* Works of threads over a store, with their times:
  *
  *     PROGRAM lookups READERS SECONDS
  *     PROGRAM writes WRITES

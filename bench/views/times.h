@@ -25,7 +25,7 @@ static inline int64_t now(void) {
     return at_clock(CLOCK_MONOTONIC);
 }
 
-/* What the calling thread has had of processors. */
+/* The processor time of the calling thread. */
 static inline int64_t processor_time(void) {
     return at_clock(CLOCK_THREAD_CPUTIME_ID);
 }
@@ -53,7 +53,7 @@ static inline void add_times(struct times *times, const struct times *others) {
     }
 }
 
-/* The time that `share` of a thousand don't exceed: the least one of its size. */
+/* The time that `share` of a thousand do not exceed: the least one of its size. */
 static inline int64_t time_at(const struct times *times, uint64_t share) {
     uint64_t below = times->counts[0];
     size_t size = 0, halvings;

@@ -22,7 +22,7 @@ static size_t compactor_count;
 static pthread_mutex_t view_lock = PTHREAD_MUTEX_INITIALIZER;
 static struct ucstore_view newest;
 
-/* What the last `put` did besides. */
+/* Other effects of the last `put`. */
 static size_t writes_put;
 static bool has_waited, has_waited_for_jobs;
 
@@ -45,7 +45,7 @@ void open_shared(void) {
     expect_ok(ucstore_create(&store, UCSTORE_COUNTER, &opening), "the store isn't created");
 }
 
-/* Takes, runs, ends and frees jobs: the runs that one had behind the lock. */
+/* Takes, runs, ends and frees jobs: the runs that one had under the lock. */
 static void *compact_all(void *unused) {
     struct ucstore_job job = {0};
     bool taken = false, installed = false;

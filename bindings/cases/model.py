@@ -116,7 +116,7 @@ def _number(text: Optional[bytes]) -> int:
 
 
 def merged(operator: Operator, value: Optional[bytes], operand: bytes) -> bytes:
-    """The value of a key that had this value, or none, behind an operand."""
+    """The value of a key that had this value, or none, after an operand."""
     if operator is Operator.APPEND:
         return operand if value is None else value + b"," + operand
     if operator is Operator.COUNTER:
@@ -237,7 +237,7 @@ class Store:
         return at
 
     def _behind(self, key: bytes, value: Optional[bytes], operation: Operation) -> Optional[bytes]:
-        """The value of a key that had this value, or none, behind an operation."""
+        """The value of a key that had this value, or none, after an operation."""
         if isinstance(operation, DeleteRange):
             return None if operation.begin <= key < operation.end else value
         if operation.key != key:

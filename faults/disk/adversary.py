@@ -34,7 +34,7 @@ MODES = ("always", "every", "never")
 
 
 class Plan(NamedTuple):
-    """What a job does."""
+    """The kind of a job."""
 
     store: str
     seed: int
@@ -44,7 +44,7 @@ class Plan(NamedTuple):
 
 
 class Told(NamedTuple):
-    """What came of a job."""
+    """The outcome of a job."""
 
     counts: Counter[str]
     wrong: List[str]
@@ -69,7 +69,7 @@ class Job:
         return Told(self.counts, self.wrong)
 
     def _histories(self) -> List[Dict[str, str]]:
-        """What happens to the processes of a history, one after the other."""
+        """The fates of the processes of a history, one after the other."""
         kind = self.drawn.random()
         fault = self.drawn.choice(("sync", "sync", "syncdir", "write", "any"))
         # An opening fails rather often.
@@ -113,7 +113,7 @@ class Job:
                     self._crash(device, promise, depth)
 
     def _share(self, calls: List[Call], depth: int) -> float:
-        """How many states are made after a call."""
+        """The number of states that are made after a call."""
         count = sum(call.kind != "mark" for call in calls) or 1
         return (2 if depth == 0 else 0.5) * self.plan.states / count
 

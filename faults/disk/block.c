@@ -3,7 +3,7 @@
  *     block IMAGE DIRECTORY TRACE
  *
  * Mounts a file system of its own (FUSE) at DIRECTORY, with the files `disk`, which is IMAGE, and `mark`. TRACE is appended to:
- * `write OFFSET LENGTH` with the bytes behind it for each write of the disk, `flush` for each sync of it, and `mark TEXT` for
+ * `write OFFSET LENGTH` with the bytes after it for each write of the disk, `flush` for each sync of it, and `mark TEXT` for
  * each write of the mark. It goes to the background once it is mounted, and ends with `umount DIRECTORY`. */
 #define _GNU_SOURCE
 #include <errno.h>

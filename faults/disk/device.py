@@ -211,7 +211,7 @@ class Device:
 
 
 def _left(content: Content, kind: str, drawn: random.Random) -> bytes:
-    """What a crash leaves of a file."""
+    """The contents of a file after a crash."""
     if kind == "synced" or content.is_settled:
         return bytes(content.disk)
     left = bytearray(content.disk)

@@ -41,7 +41,7 @@ def batches_of(seed: int, rows: Dict[bytes, bytes]) -> List[int]:
 
 
 def mark_function() -> Callable[[bytes], object]:
-    """What marks the trace: record.c, or the file of block.c that DISK_MARKS names."""
+    """The writer of the trace's marks: record.c, or the file of block.c that DISK_MARKS names."""
     if "DISK_MARKS" in os.environ:
         marks = os.open(os.environ["DISK_MARKS"], os.O_WRONLY)
         return lambda text: os.write(marks, text + b"\n")
@@ -89,7 +89,7 @@ class Drive:
             self._mark("synced")
 
     def run(self, steps: int, drawn: random.Random) -> None:
-        """Takes so many steps, and closes the store."""
+        """Takes a number of steps, and closes the store."""
         for _ in range(steps):
             step = drawn.random()
             if step < 0.03:

@@ -50,7 +50,7 @@ SYSTEMS = (
 
 
 def run(*words: str) -> str:
-    """What a command says."""
+    """The output of a command."""
     return subprocess.run(words, check=True, stdout=subprocess.PIPE, stderr=subprocess.PIPE, text=True).stdout.strip()
 
 
@@ -79,7 +79,7 @@ def recorded(image: Path, place: Path, trace: Path) -> Iterator[None]:
 
 
 def lacks(system: System) -> str:
-    """What the machine lacks for a file system, if it lacks something."""
+    """The tool that the machine lacks for a file system, if it lacks one."""
     if os.geteuid() != 0:
         return "it isn't root"
     for tool in (system.make[0], "losetup", "mount"):
@@ -122,7 +122,7 @@ class Machine:
             (work / name).mkdir()
 
     def run(self, states: int) -> None:
-        """Records a history, and tries so many states of it."""
+        """Records a history, and tries a number of its states."""
         made, image, trace = self._work / "made", self._work / "image", self._work / "trace"
         with made.open("wb") as file:
             file.truncate(self._system.size)
@@ -216,7 +216,7 @@ def main() -> int:
     parser.add_argument("--store", choices=sorted(STORES), default="database")
     parser.add_argument("--seed", type=int, default=1)
     arguments = parser.parse_args()
-    # What is mounted doesn't stay so.
+    # No file system stays mounted.
     signal.signal(signal.SIGTERM, lambda *_: sys.exit(1))
     count, wrong = 0, []
     for system in SYSTEMS:

@@ -1,4 +1,4 @@
-"""What a store has promised, by the marks of its trace, and whether an opening keeps that."""
+"""The promises of a store, by the marks of its trace, and whether an opening keeps that."""
 
 from __future__ import annotations
 
@@ -9,7 +9,7 @@ from typing import List, Optional, Tuple
 from drive import batches_of
 from stores import STORES
 
-# How long an opening may take, in seconds.
+# The longest time of an opening, in seconds.
 PATIENCE = 20
 
 
@@ -18,7 +18,7 @@ class Wrong(Exception):
 
 
 class Promise:
-    """What was acknowledged so far."""
+    """The writes that were acknowledged so far."""
 
     def __init__(self, acknowledged: List[int]) -> None:
         self.acknowledged, self.kept = list(acknowledged), len(acknowledged)
@@ -54,7 +54,7 @@ class Promise:
             raise Wrong(f"it has {len(found)} batches up to {found[-1:]}, and lacks {lacks[:5]} of {least}")
 
     def key(self) -> Tuple[int, int, Optional[int]]:
-        """What two promises have in common that ask for the same."""
+        """The key of promises that ask for the same."""
         return (self.kept, len(self.acknowledged), self.pending)
 
 

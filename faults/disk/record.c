@@ -7,7 +7,7 @@
  *     mkdir PATH   syncdir PATH   rename FROM TO   unlink PATH   mark TEXT
  *
  * `lost` is a sync that failed. DISK_FAIL=KIND:N lets the Nth call of a kind fail by EIO: sync, syncdir, write, or any. A write
- * that fails has written its first half. DISK_STOP=N ends the process behind its Nth call, as signal 9 does. One call goes at
+ * that fails has written its first half. DISK_STOP=N ends the process after its Nth call, as signal 9 does. One call goes at
  * a time, so that the order of the lines is the order of the calls. */
 #define _GNU_SOURCE
 #include <dlfcn.h>
@@ -32,7 +32,7 @@ static int trace = -1;
 static char fail_kind[16];
 static long fail_left = -1, stop_left = -1;
 
-/* What is done without a record. */
+/* Work that is done without a record. */
 static int real_open(const char *path, int flags, mode_t mode) {
     return (int)syscall(SYS_openat, AT_FDCWD, path, flags, mode);
 }
@@ -346,7 +346,7 @@ int mkdir(const char *name, mode_t mode) {
     return told;
 }
 
-/* What the program says between its calls. */
+/* The program's messages between its calls. */
 void disk_mark(const char *text) {
     if (trace >= 0) {
         pthread_mutex_lock(&one_at_a_time);

@@ -1,4 +1,4 @@
-"""What is tried: the database, and a log of the test's own that is known to be right."""
+"""The stores that are tried: the database, and a log of the test's own that is known to be right."""
 
 from __future__ import annotations
 
