@@ -220,8 +220,8 @@ unsafe fn last_of_rows(page: *const u8, rows: u64) -> (usize, usize) {
 /// store.put("a", "1")?;
 /// store.put("b", "2")?;
 /// let view = store.view()?;
-/// let keys: Result<Vec<_>, _> = view.scan("", None).rev().map(|row| Ok(row?.0)).collect();
-/// assert_eq!(keys, Ok(vec![b"b".to_vec(), b"a".to_vec()]));
+/// let rows = view.scan("", None).rev().collect::<Result<Vec<_>, _>>()?;
+/// assert_eq!(rows[0], (b"b".to_vec(), b"2".to_vec()));
 /// # Ok(())
 /// # }
 /// ```
