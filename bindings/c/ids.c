@@ -1,4 +1,4 @@
-/* Gives each store of a process a unique number, by which it recognizes its jobs. `./install` compiles this into the library. It is
+/* Gives each store of a process a unique number, by which it recognizes its jobs. `tools/install` compiles this into the library. It is
  * not proved: the prover's language has no static variables. */
 #include "ucstore.h"
 

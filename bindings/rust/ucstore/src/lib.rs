@@ -42,7 +42,7 @@
 //!
 //! # Building
 //!
-//! The build links `libucstore.a` from the directory `UCSTORE_LIB_DIR`, or finds it with pkg-config. `./install` at the top of the
+//! The build links `libucstore.a` from the directory `UCSTORE_LIB_DIR`, or finds it with pkg-config. `tools/install` in the
 //! repository installs it. With the feature `no-link` the library is not needed, and the crate can only be checked and
 //! documented.
 //!
