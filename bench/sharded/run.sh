@@ -52,7 +52,7 @@ find_python() {
 
 find_library() {
     if [ -z "${OURS:-}" ]; then
-        PREFIX="$folder/usr" "$here/../.tools/install" > "$folder/installed" || exit 1
+        PREFIX="$folder/usr" "$here/../../tools/install" > "$folder/installed" || exit 1
         OURS=$folder/usr/lib/libucstore.so.2
     fi
     UCSTORE_LIBRARY=$(realpath -e "$OURS") || exit 2
