@@ -23,7 +23,7 @@ struct Files {
     bases: Vec<ListedBase>,
     /// In the order of their numbers.
     logs: Vec<ListedLog>,
-    /// Those that are read, by the logs of which it is known that they are used.
+    /// The files that an opening reads, given the logs that are known to be used.
     found: FolderFiles,
     /// The newest one.
     base: Option<Name>,

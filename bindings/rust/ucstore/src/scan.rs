@@ -311,7 +311,7 @@ impl<S: BackSource> Scan<S> {
     ///
     /// # Errors
     ///
-    /// Those of the scan, and [`Error::NotProtected`] for a scan at a snapshot's sequence number, which only goes forward. After an
+    /// The errors of the scan, and [`Error::NotProtected`] for a scan at a snapshot's sequence number, which only goes forward. After an
     /// error there are no more rows.
     pub fn next_row_back(&mut self) -> Result<Option<Row<'_>>, Error> {
         if self.back.left == 0 && !self.is_fetched {

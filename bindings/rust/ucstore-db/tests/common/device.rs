@@ -56,7 +56,7 @@ struct Content {
     disk: Vec<u8>,
     /// The sectors that the next sync writes.
     dirty: BTreeSet<usize>,
-    /// The number of syncs that failed. Each handle is told once.
+    /// The number of syncs that failed. Each handle reports it once.
     errors: u64,
 }
 
