@@ -16,3 +16,4 @@ pub mod BackKeys
 pub mod BackStanding
 pub mod HidingBack
 pub mod SkippingBack
+pub mod Alone

@@ -1,6 +1,7 @@
 //! [`Walkers`]: a cursor in each of several runs; and [`Least`], their least key.
 ghost use Rattle.std.specs.Prelude.{◌≡◌, ◌≢◌, ◌↔◌, ◌<◌, ℕ, Bool, List, Some, true, false, length, map, option_map, IfOk, IfSome, IsTrue};
 ghost use Rattle.std.specs.List.{AllByRecursion, slice_get};
+ghost use Rattle.uc_oper.specs.declared.effect.Effect.TheVariants.{Set};
 ghost use Rattle.uc_model.specs.Meaning.{effect_on, value_of};
 ghost use Rattle.uc_run.specs.Cursors.{has_ranges};
 ghost use Rattle.uc_run.specs.Heads.{next_key, number_of, lesser_of};
@@ -204,6 +205,50 @@ fn effect_of_all<'a, O: Operator>(
     compose::<O>(alloc, older, newer.into_effect(alloc)?)
 }
 
+/// Whether none of some runs has range deletions.
+#[inline]
+fn are_without_ranges(with_ranges: &[bool]) -> bool
+    ensures { IsTrue result → AllByRecursion (λ b. b ≡ false) with_ranges.now }
+{
+    for has_ranges in with_ranges {
+        if *has_ranges {
+            return false;
+        }
+    }
+    true
+}
+
+/// The value that the oldest run puts for the least key, if no other run does anything to that key. It looks at no other point, and
+/// composes no effects: so most rows of a large run are found.
+#[inline]
+fn value_alone<'a, O: Operator>(
+    cursors: &[Cursor<'a>],
+    heads: &Heads<'_>,
+    with_ranges: &[bool],
+    least: Least<'_>,
+    at: u64,
+) -> Option<&'a [u8]>
+    requires found { IsFoundAmong heads.now least.key.now least.number }
+    requires stand { AllByRecursion (StandsAt least.key.now false) cursors.now }
+    requires of_runs { AllByRecursion IsOfRun cursors.now }
+    requires heads { heads.now.keys ≡ map next_key (newer_of cursors.now) }
+    requires ranges { with_ranges.now ≡ map has_ranges cursors.now }
+    ensures { IfSome result (λ value.
+        effect_on O.meaning (writes_of (runs_of cursors.now)) least.entry.key.now at ≡ Set (Some value.now)) }
+{
+    effects_of_parts_compose::<O>();
+    other_keys_are_kept::<O>();
+    keys_at_places_are_next();
+    if least.number.is_some() {
+        return None;
+    }
+    let oldest = cursors.last()?;
+    if !are_without_ranges(&with_ranges[..newer_of(cursors).len()]) {
+        return None;
+    }
+    oldest.value_put::<O>(least.key, at)
+}
+
 /// Moves the cursors that are at a key past it. The others are after it already.
 fn pass_there<'a>(cursors: &mut [Cursor<'a>], heads: &mut Heads<'a>, head: Head<'_>)
     requires number { head.number ≡ number_of heads.old.front head.key.now }
@@ -323,6 +368,10 @@ impl<'a> Walkers<'a> {
             value ≡ value_of O.meaning (writes_of (runs_of self.now.cursors)) least.entry.key.now at) }
     {
         effect_gives_value::<O>();
+        let (cursors, heads) = (&self.cursors, &self.heads);
+        if let Some(value) = value_alone::<O>(cursors, heads, &self.with_ranges, least, at) {
+            return Ok(Some(ValueRef::lent(value)));
+        }
         let effect = effect_of_all::<O>(
             alloc,
             &self.cursors,

@@ -98,7 +98,7 @@ module _ (key : List ℕ) (at : ℕ) (p : Entry) (newer : is_newer key at p ≡ 
   pub on_there : (bound : ℕ) → is_newer key bound p ≡ true → is_on key (Some bound) p ≡ true
   on_there bound above = on_by bound (bytes_cmp p.key key) refl newer above
 
-passed_on : (key : List ℕ) (p : Entry) → is_on key None p ≡ true → is_passed key true p.key ≡ true
+pub passed_on : (key : List ℕ) (p : Entry) → is_on key None p ≡ true → is_passed key true p.key ≡ true
 passed_on key p on = ap is_le (passed_same p.key key on)
 
 newer_on : (key : List ℕ) (bound : ℕ) (p : Entry) → is_on key (Some bound) p ≡ true → is_newer key bound p ≡ true

@@ -1,16 +1,17 @@
 //! [`Cursor`]: a walk over a run's points in order of key.
-ghost use Rattle.std.specs.Prelude.{◌≡◌, ◌↔◌, ℕ, Bool, List, true, false, max, option_map, IfOk, IsTrue};
+ghost use Rattle.std.specs.Prelude.{◌≡◌, ◌↔◌, ℕ, Bool, List, Some, true, false, max, option_map, IfOk, IfSome, IsTrue};
 ghost use Rattle.std.specs.List.{slice_get};
 ghost use Rattle.uc_run_entry.specs.Run.{IsRun};
 ghost use Rattle.uc_run_entry.specs.PlainList.{plain_list};
 ghost use Rattle.uc_run_entry.specs.Seek.{seek_place};
+ghost use Rattle.uc_oper.specs.declared.effect.Effect.TheVariants.{Set};
 ghost use Rattle.uc_model.specs.Meaning.{effect_on};
 ghost use Rattle.uc_run.specs.Cursors.{has_ranges};
 ghost use Rattle.uc_run.specs.Hiding.{hidden_to};
 ghost use Rattle.uc_run.specs.NextKey.{IsNextKey};
 
-use crate::fences::pass_before;
-use crate::lookup::effect_found;
+use crate::fences::{pass_before, pass_key};
+use crate::lookup::{effect_found, value_found};
 use crate::near::{end_of_hiding, fragments_ended, fragments_near};
 use crate::run::Run;
 use std::alloc::{AllocError, Global};
@@ -122,6 +123,20 @@ impl<'a> Cursor<'a> {
         effect_found::<O>(alloc, &self.ahead, over, key, at)
     }
 
+    /// The value that the next point puts for the key, if that is the effect of the run's writes at or below a sequence, and the cursor is
+    /// just before the key's points. It looks at no other point.
+    #[inline]
+    pub fn value_put<O: Operator>(&self, key: &[u8], at: u64) -> Option<&'a [u8]>
+        requires { self.now.place ≡ seek_place self.now.run.points key.now false }
+        ensures { IfSome result (λ value.
+            effect_on O.meaning (plain_list self.now.run) key.now at ≡ Set (Some value.now)) }
+    {
+        self.run.recall();
+        plain_list_does_what_is_found::<O>();
+        let over = fragments_near(self.run.fragments(), self.fragment, key);
+        value_found(&self.ahead, over, key, at)
+    }
+
     /// The end of the fragment over the key, if that has a range deletion at or below the sequence. From the key to
     /// below that end the sequence sees nothing of older runs. It costs a search among the fragments unless it is the
     /// one at which the cursor is.
@@ -133,23 +148,8 @@ impl<'a> Cursor<'a> {
         end_of_hiding(over, key, at)
     }
 
-    /// Moves to the first key at or above `low` (above it if `strict`), never back: a few points one by one, more by a
-    /// search by the fences.
-    fn pass_to(&mut self, low: &[u8], strict: bool)
-        ensures { self.new ≡
-            record {
-              run = self.old.run;
-              place = max self.old.place
-                  (seek_place self.old.run.points low.now strict);
-            } }
-    {
-        self.run.recall();
-        let (points, fences) = (self.run.entries(), self.run.fences());
-        pass_before(points, fences, &mut self.ahead, low, strict);
-        self.fragment = fragments_ended(self.run.fragments(), self.fragment, low);
-    }
-
-    /// Moves to the first key above `key`, never back: a few points one by one, more by a search by the fences.
+    /// Moves to the first key above `key`, never back: a few points one by one, more by a search by the fences. If the next point is the
+    /// only one of the key, that costs a look at the one after it.
     #[inline]
     pub fn pass(&mut self, key: &[u8])
         ensures { self.new ≡
@@ -159,7 +159,10 @@ impl<'a> Cursor<'a> {
                   (seek_place self.old.run.points key.now true);
             } }
     {
-        self.pass_to(key, true);
+        self.run.recall();
+        let (points, fences) = (self.run.entries(), self.run.fences());
+        pass_key(points, fences, &mut self.ahead, key);
+        self.fragment = fragments_ended(self.run.fragments(), self.fragment, key);
     }
 
     /// Moves to the first key at or above `low`, never back: a few points one by one, more by a search by the fences.
@@ -173,7 +176,10 @@ impl<'a> Cursor<'a> {
                   (seek_place self.old.run.points low.now false);
             } }
     {
-        self.pass_to(low, false);
+        self.run.recall();
+        let (points, fences) = (self.run.entries(), self.run.fences());
+        pass_before(points, fences, &mut self.ahead, low, false);
+        self.fragment = fragments_ended(self.run.fragments(), self.fragment, low);
     }
 
     /// The run that it walks through.

@@ -1,7 +1,8 @@
 //! [`Fences`]: the first keys of blocks of points, and searches by them.
 ghost use Rattle.std.specs.Prelude.{◌≡◌, ◌<◌, ◌≤◌, true, false, max, length, drop, IfOk};
-ghost use Rattle.std.specs.List.{AllWithin};
+ghost use Rattle.std.specs.List.{AllWithin, HoldsAt};
 ghost use Rattle.std.specs.List.Sorted.{IsStrictlySortedBy, IsPartitionPoint, IsPartitionedBy};
+ghost use Rattle.uc_bytes.specs.Bytes.{same_bytes};
 ghost use Rattle.uc_run_entry.specs.Order.{entry_cmp};
 ghost use Rattle.uc_run_entry.specs.Seek as seek;
 ghost use Rattle.uc_run.specs.Fences.{IsFenced};
@@ -9,6 +10,7 @@ ghost use Rattle.uc_run.specs.Places.{IsRest, place_of};
 
 use crate::places::is_passed;
 use crate::prefixes::{prefixes_of, shared_front, undecided};
+use crate::texts::same_text;
 use std::alloc::{AllocError, Global};
 use std::marker::Model;
 use uc_bytes::Bytes;
@@ -124,6 +126,21 @@ impl PointTest for IsPassed<'_> {
     }
 }
 
+/// Passes the points of a key.
+#[derive(Drop)]
+struct IsOf<'a> {
+    key: &'a [u8],
+}
+
+impl PointTest for IsOf<'_> {
+    ghost passing = { λ test p. same_bytes p.key test.key.now };
+
+    #[inline]
+    fn passes(&self, point: &PointRef<'_>) -> bool {
+        same_text(point.key(), self.key)
+    }
+}
+
 /// The number of fences before the search.
 fn fences_passed(points: &Points, fences: &Fences, low: &[u8], strict: bool) -> usize
     requires sorted { IsStrictlySortedBy entry_cmp points.now }
@@ -206,5 +223,34 @@ pub(crate) fn pass_before<'a>(
 {
     if ahead.pass_while(FEW_POINTS, &IsPassed { low, strict }) == FEW_POINTS {
         *ahead = found_by_fences(points, fences, low, strict);
+    }
+}
+
+/// Whether the first of some points, if there is one, lies at or below a key.
+#[inline]
+fn is_first_passed(points: &PointSlice<'_>, key: &[u8]) -> bool
+    ensures { 0 < length points.now → HoldsAt (λ p. result ≡ seek.is_passed key.now true p.key) points.now 0 }
+{
+    match points.first() {
+        Some(point) => is_passed(key, true, point.key()),
+        None => false,
+    }
+}
+
+/// As [`pass_before`], just above a key. If the next point is the only one of that key, which is so for most, this reads one more.
+pub(crate) fn pass_key<'a>(
+    points: &'a Points,
+    fences: &Fences,
+    ahead: &mut PointSlice<'a>,
+    key: &[u8],
+)
+    requires sorted { IsStrictlySortedBy entry_cmp points.now }
+    requires fenced { IsFenced points.now fences.now }
+    requires rest { IsRest points.now ahead.old }
+    ensures { ahead.new ≡ drop (max (place_of points.now ahead.old) (seek.seek_place points.now key.now true)) points.now }
+{
+    let passed = ahead.pass_while(1, &IsOf { key });
+    if passed == 0 || is_first_passed(ahead, key) {
+        pass_before(points, fences, ahead, key, true);
     }
 }

@@ -1,9 +1,10 @@
 //! Lookups of a key among points and fragments.
-ghost use Rattle.std.specs.Prelude.{◌≡◌, Bool, not, ◌&&◌, filter, IfOk, IfSome, nat_le};
+ghost use Rattle.std.specs.Prelude.{◌≡◌, Bool, not, ◌&&◌, Some, filter, IfOk, IfSome, nat_le};
 ghost use Rattle.std.specs.List.{AllByRecursion, flat_map, slice_get};
 ghost use Rattle.std.specs.List.Sorted.{IsStrictlySortedBy, IsPartitionedBy};
 ghost use Rattle.uc_oper.specs.Operation.{Operation};
 ghost use Rattle.uc_oper.specs.declared.effect.Effect.{Effect as EffectOf};
+ghost use Rattle.uc_oper.specs.declared.effect.Effect.TheVariants.{Set};
 ghost use Rattle.uc_run_entry.specs.Order.{entry_cmp, IsFalling, AreInOrder};
 ghost use Rattle.uc_run_entry.specs.Run.{covers};
 ghost use Rattle.uc_run_entry.specs.Lookup as lookup;
@@ -192,6 +193,25 @@ fn effect_before(newest: Option<u64>) -> Effect
         None => Effect::Keep,
         Some(_) => Effect::Set(None),
     }
+}
+
+/// The value of the first point, if that says what a lookup of the key at the sequence finds: then it puts the value.
+#[inline]
+pub(crate) fn value_found<'a>(
+    points: &PointSlice<'a>,
+    fragments: &[Fragment],
+    key: &[u8],
+    at: u64,
+) -> Option<&'a [u8]>
+    requires order { AreInOrder fragments.now }
+    requires falling { AllByRecursion (λ f. IsFalling f.seqs) fragments.now }
+    ensures { (m : Operation) → IfSome result (λ value.
+        lookup.above_newest m (filter (lookup.is_visible key.now at) points.now)
+        (filter (λ seq. nat_le seq at) (flat_map (λ f. f.seqs) (filter (λ f. covers f key.now) fragments.now)))
+        ≡ Set (Some value.now)) }
+{
+    let newest = newest_over(fragments, key, at);
+    value_put(points, key, at, newest)
 }
 
 /// As [`effect_found`], whatever the first point is.

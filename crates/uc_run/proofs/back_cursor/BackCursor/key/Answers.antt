@@ -1,4 +1,4 @@
-use Rattle.std.proofs.Common.{option_map, sym, ap, ◌∙◌, subst}
+use Rattle.std.proofs.Common.{option_map, ap, ◌∙◌, subst}
 use Rattle.std.specs.List.Sorted.{IsStrictlySortedBy}
 use Rattle.uc_run_entry.specs.Order.{entry_cmp}
 use Rattle.uc_run.specs.BackCursors.{last_key}
