@@ -16,11 +16,11 @@ use uc_rows::{RowBuffer, Rows};
 use uc_run::plain_list_is_in_order;
 use uc_version_state::Placed;
 
-/// The bytes of memory that a scan has at first for each of its rows: as many as a small row takes.
-pub(crate) const ROW_ROOM: usize = 64;
+/// The bytes of memory that a scan allocates at first for each of its rows: as many as a small row takes.
+pub(crate) const ROW_ROOM: usize = 128;
 
-/// For how many rows at most it has memory at first.
-pub(crate) const FEW_ROWS: u64 = 16;
+/// The most rows for which it allocates memory at first.
+pub(crate) const FEW_ROWS: u64 = 512;
 
 /// The first of the keys of the runs' points in the range that have a value at the sequence, with it. A key without one
 /// doesn't count.

@@ -1,5 +1,5 @@
 //! [`Walkers`]: a cursor in each of several runs; and [`Least`], their least key.
-ghost use Rattle.std.specs.Prelude.{◌≡◌, ◌≢◌, ◌↔◌, ◌<◌, ℕ, Bool, List, Some, true, false, length, map, option_map, IfOk, IfSome, IsTrue};
+ghost use Rattle.std.specs.Prelude.{◌≡◌, ◌≢◌, ◌↔◌, ◌<◌, ℕ, Bool, List, Some, true, false, length, map, option_map, All, IfOk, IfSome, IsTrue};
 ghost use Rattle.std.specs.List.{AllByRecursion, slice_get};
 ghost use Rattle.uc_oper.specs.declared.effect.Effect.TheVariants.{Set};
 ghost use Rattle.uc_model.specs.Meaning.{effect_on, value_of};
@@ -208,7 +208,7 @@ fn effect_of_all<'a, O: Operator>(
 /// Whether none of some runs has range deletions.
 #[inline]
 fn are_without_ranges(with_ranges: &[bool]) -> bool
-    ensures { IsTrue result → AllByRecursion (λ b. b ≡ false) with_ranges.now }
+    ensures { IsTrue result → All (λ b. b ≡ false) with_ranges.now }
 {
     for has_ranges in with_ranges {
         if *has_ranges {

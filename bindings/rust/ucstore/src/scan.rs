@@ -12,11 +12,12 @@ use std::ops::{self, Bound, RangeBounds};
 const FIRST_ROWS: u64 = 16;
 
 /// The most rows of a page.
-const PAGE_ROWS: u64 = 512;
+const PAGE_ROWS: u64 = 1024;
 
-/// The bytes of the first page, and of later ones at first.
+/// The bytes of the first page, and the most of a later one unless a row is larger. Each page is found by a search in each run, so a long
+/// scan reads large pages.
 const FIRST_BYTES: usize = 4 * 1024;
-const PAGE_BYTES: usize = 16 * 1024;
+const PAGE_BYTES: usize = 64 * 1024;
 
 /// The bytes of a length.
 const LENGTH: usize = 8;
@@ -74,6 +75,8 @@ struct Page {
     starts: Vec<usize>,
     /// The most rows that the next page has.
     limit: u64,
+    /// The size of the last page's rows.
+    size: usize,
 }
 
 impl Page {
@@ -85,22 +88,21 @@ impl Page {
             farthest: 0,
             starts: Vec::new(),
             limit: FIRST_ROWS,
+            size: 0,
         }
     }
 
     /// Fetches a page, and tells whether no row is left to be fetched. After a page whose rows don't all fit, the next one asks for no
-    /// more rows than did; after one that is less than half full it asks for twice as many. The page grows only if its first row
-    /// doesn't fit.
+    /// more rows than did; after one that is less than half full it asks for twice as many. The buffer grows with them, and beyond
+    /// [`PAGE_BYTES`] only if the first row doesn't fit.
     fn fetch(
         &mut self,
         rows: impl Fn(u64, Buffer<'_>) -> Result<(u64, usize), Error>,
     ) -> Result<bool, Error> {
         self.bytes.clear();
         self.starts.clear();
-        let least = match self.bytes.capacity() {
-            0 => FIRST_BYTES,
-            _ => PAGE_BYTES,
-        };
+        // Twice what twice as many rows took on average.
+        let least = self.size.saturating_mul(4).clamp(FIRST_BYTES, PAGE_BYTES);
         self.bytes.try_reserve_exact(least)?;
         loop {
             let (count, size) = rows(self.limit, self.bytes.spare_capacity_mut())?;
@@ -111,6 +113,7 @@ impl Page {
                 let (farthest, end) = unsafe { last_of_rows(self.bytes.as_ptr(), count) };
                 unsafe { self.bytes.set_len(end) };
                 self.farthest = farthest;
+                self.size = size;
                 let is_last = all_fit && count < self.limit;
                 if !all_fit {
                     self.limit = count;
@@ -435,9 +438,9 @@ mod tests {
 
     #[test]
     fn a_scan_asks_for_more_rows_each_time() {
-        // 16, 32, 64, 128, 256 and 512 rows of 25 bytes: the last ones are more than half a page.
+        // 16, 32, 64, .. and 1,024 rows of 25 bytes: the last ones take less than half a page.
         let small = asked(vec![1; 10_000]);
-        assert!(small < 40, "{small}");
+        assert!(small < 20, "{small}");
         assert_eq!(asked(vec![]), 1);
     }
 
