@@ -185,7 +185,7 @@ impl Shared {
         self.check()?;
         let (folder, machine) = match &mut *guard {
             Some(log) if is_needed(log) => {
-                log.get_ready()?;
+                log.finish_cleanup()?;
                 (Arc::clone(&log.folder), Arc::clone(&log.machine))
             }
             _ => return Ok(guard),

@@ -1,8 +1,8 @@
 //! [`Front`]: the view that is shown to readers, and the last ones before it.
 
 use crate::error::Error;
-use crate::lanes::own_place;
 use crate::shown::Shown;
+use crate::striped::own_place;
 use std::collections::VecDeque;
 use std::mem;
 

@@ -3,7 +3,7 @@
 use crate::error::Error;
 use crate::header::{count_of, HEADER_SIZE};
 use crate::lock;
-use crate::patience::Patience;
+use crate::spin_wait::SpinWait;
 use std::sync::{Arc, Mutex, OnceLock};
 
 /// The most bytes of a group that isn't a single batch.
@@ -104,8 +104,8 @@ impl Group {
 
 impl Outcome {
     /// Waits until it is told.
-    pub(crate) fn wait(&self, patience: Patience) -> Result<(), Error> {
-        let told = patience.look(|| self.told.get());
+    pub(crate) fn wait(&self, wait: SpinWait) -> Result<(), Error> {
+        let told = wait.spin_until(|| self.told.get());
         told.unwrap_or_else(|| self.told.wait()).clone()
     }
 

@@ -8,7 +8,7 @@ use crate::kept::SetAside;
 use crate::lock;
 use crate::mark;
 use crate::name::Name;
-use crate::unready::Unready;
+use crate::pending_cleanup::PendingCleanup;
 use std::io;
 use std::panic::{catch_unwind, AssertUnwindSafe};
 use std::sync::{Arc, Mutex};
@@ -63,7 +63,7 @@ pub(crate) struct Older {
 /// The writer of a log.
 enum Writer {
     /// Nothing was written yet: this is done before.
-    Unready(Unready),
+    Pending(PendingCleanup),
     Ready(Box<dyn File>),
 }
 
@@ -90,16 +90,16 @@ impl Log {
         last: Older,
         older: Vec<Older>,
         based: u64,
-        unready: Unready,
+        cleanup: PendingCleanup,
         is_part: bool,
         counts: &Arc<Counts>,
     ) -> Log {
         let log = Log {
             folder,
-            machine: Arc::new(Mutex::new(unready.machine())),
-            is_closed: unready.ending == Ending::Closed,
+            machine: Arc::new(Mutex::new(cleanup.machine())),
+            is_closed: cleanup.ending == Ending::Closed,
             is_part,
-            writer: Writer::Unready(unready),
+            writer: Writer::Pending(cleanup),
             sync_handle: None,
             before: last.before,
             length: last.length,
@@ -126,14 +126,14 @@ impl Log {
     }
 
     /// Makes the folder ready for what is written next. Returns what is set aside.
-    pub(crate) fn get_ready(&mut self) -> Result<Option<SetAside>, Error> {
-        let Writer::Unready(unready) = &self.writer else {
+    pub(crate) fn finish_cleanup(&mut self) -> Result<Option<SetAside>, Error> {
+        let Writer::Pending(cleanup) = &self.writer else {
             return Ok(None);
         };
         // An attempt that failed before begins again.
         let mut machine = lock(&self.machine);
-        *machine = unready.machine();
-        let set_aside = unready.get_ready(&*self.folder, &mut machine)?;
+        *machine = cleanup.machine();
+        let set_aside = cleanup.finish(&*self.folder, &mut machine)?;
         drop(machine);
         let name = Name::Log(self.number()).text();
         let file = self.folder.open(&name).map_err(Error::of_file(&name))?;
@@ -148,7 +148,7 @@ impl Log {
 
     /// Appends a record, and waits until it is on the device if that is asked.
     pub(crate) fn append(&mut self, record: &[u8], is_synced: bool) -> Result<(), Refusal> {
-        self.get_ready().map_err(Refusal::Passes)?;
+        self.finish_cleanup().map_err(Refusal::Passes)?;
         self.reopen()?;
         self.append_whole(record)?;
         self.counts.logged_bytes.add(record.len() as u64);
@@ -175,7 +175,7 @@ impl Log {
     /// Whether all of its batches may be acknowledged as synced. What an opening has read is answered as it was.
     fn is_synced(&self) -> bool {
         let machine = lock(&self.machine);
-        matches!(self.writer, Writer::Unready(_)) || machine.synced() == machine.count()
+        matches!(self.writer, Writer::Pending(_)) || machine.synced() == machine.count()
     }
 
     /// Whether a sync is under way.
@@ -393,7 +393,7 @@ impl Log {
         let number = self.number();
         match &mut self.writer {
             Writer::Ready(file) => ask_device(|| work(&mut **file)).map_err(refusal(number)),
-            Writer::Unready(_) => Ok(()),
+            Writer::Pending(_) => Ok(()),
         }
     }
 }

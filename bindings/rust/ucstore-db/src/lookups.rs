@@ -1,7 +1,7 @@
 //! [`Lookups`]: how many keys were looked up, and where they were answered.
 
 use crate::counts::Count;
-use crate::lanes::Lanes;
+use crate::striped::Striped;
 use ucstore::{Error, LookupSource};
 
 /// Of how many lookups one is asked where it is answered.
@@ -10,7 +10,7 @@ const SHARE: u64 = 64;
 /// The number of keys looked up, and where some of them were answered.
 #[derive(Default)]
 pub(crate) struct Lookups {
-    all: Lanes<Count>,
+    all: Striped<Count>,
     by_memtable: Count,
     by_filters: Count,
     by_runs: Count,

@@ -1,12 +1,12 @@
 //! [`Newest`]: the views that readers share.
 
+use crate::cache_padded::CachePadded;
 use crate::error::Error;
 use crate::front::Front;
 use crate::holder::Holder;
-use crate::lanes::Lanes;
-use crate::padded::Padded;
-use crate::patience::Patience;
 use crate::shown::Shown;
+use crate::spin_wait::SpinWait;
+use crate::striped::Striped;
 use crate::touched::Touched;
 use crate::{lock, try_lock};
 use std::sync::atomic::{fence, AtomicBool, AtomicU32, AtomicU64, Ordering};
@@ -40,18 +40,18 @@ const MOST_ASKED: u32 = 4;
 #[derive(Default)]
 pub(crate) struct Newest {
     /// The number of groups taken, or changes of the runs. It is raised while the store is locked.
-    taken: Padded<AtomicU64>,
+    taken: CachePadded<AtomicU64>,
     /// Their number at the last change of the runs.
-    changed: Padded<AtomicU64>,
-    slots: Lanes<Mutex<Slot>>,
+    changed: CachePadded<AtomicU64>,
+    slots: Striped<Mutex<Slot>>,
     /// A view for scans, in which what no run has yet is sorted.
     sorted: Mutex<Option<Shown>>,
     /// It is locked for no longer than a share takes.
-    shown: Padded<Mutex<Front>>,
+    shown: CachePadded<Mutex<Front>>,
     /// Whether the shown view was used.
-    is_used: Padded<AtomicBool>,
+    is_used: CachePadded<AtomicBool>,
     /// The number of scans since then, up to [`MANY_SCANS`].
-    scans: Padded<AtomicU32>,
+    scans: CachePadded<AtomicU32>,
     touched: Touched,
 }
 
@@ -84,7 +84,9 @@ impl Newest {
     /// Tells that the store has taken a group, before it is unlocked. It waits for no reader: one of these shows the view if it can't.
     pub(crate) fn raise(&self, store: &Store) {
         self.touched.count();
-        self.tell(store, || Patience::Short.look(|| try_lock(&self.shown.0)));
+        self.tell(store, || {
+            SpinWait::Short.spin_until(|| try_lock(&self.shown.0))
+        });
     }
 
     /// Tells that the store's runs were changed, before it is unlocked. Then the caller releases older views.
@@ -108,7 +110,7 @@ impl Newest {
         let has_key =
             |shown: &Shown| shown.taken >= least || self.touched.is_as_of(key, shown.groups);
         if !held.shown.as_ref().is_some_and(has_key) {
-            let ask = || Patience::Short.look(|| try_lock(store));
+            let ask = || SpinWait::Short.spin_until(|| try_lock(store));
             if let Some(store) = held.may_ask(least).then(ask).flatten() {
                 let old = held.shown.as_ref().map(|shown| shown.taken);
                 drop(held);

@@ -6,13 +6,13 @@ use crate::error::Error;
 use crate::folder::Folder;
 use crate::kept::SetAside;
 use crate::log::{Log, Older};
-use crate::moments::Moments;
 use crate::name::Name;
 use crate::operator_file;
 use crate::options::Options;
+use crate::pending_cleanup::PendingCleanup;
 use crate::reading::Reading;
+use crate::recovery_target::RecoveryTarget;
 use crate::replay::{Begin, Replay};
-use crate::unready::Unready;
 use crate::windows::Windows;
 use std::mem;
 use std::sync::Arc;
@@ -28,7 +28,7 @@ struct Files {
     /// The newest one.
     base: Option<Name>,
     /// Files that hold nothing that isn't elsewhere.
-    spent: Vec<Name>,
+    obsolete: Vec<Name>,
     /// Whether one names the operator.
     has_operator: bool,
 }
@@ -40,7 +40,7 @@ pub(crate) struct Recovery {
     pub(crate) fault: Option<Error>,
     operator: Operator,
     files: Files,
-    moments: Moments,
+    target: RecoveryTarget,
     /// Whether what wasn't read is given up.
     is_enough: bool,
     /// The last log that has batches.
@@ -92,13 +92,13 @@ impl Files {
         };
         let is_newest = |name: &Name| listed_base(name) == Some(newest);
         let base = names.iter().copied().find(is_newest);
-        let is_spent = |name: &Name| match *name {
+        let is_obsolete = |name: &Name| match *name {
             Name::Log(number) => number < found.base,
             Name::Base(..) => Some(*name) != base,
             Name::Lost(..) => false,
             _ => true,
         };
-        names.retain(is_spent);
+        names.retain(is_obsolete);
         if base.is_some() && !found.is_there {
             // A log is made before the base of its number.
             return Err(missing(found.log));
@@ -108,7 +108,7 @@ impl Files {
             logs,
             found,
             base,
-            spent: names,
+            obsolete: names,
             has_operator,
         })
     }
@@ -162,7 +162,7 @@ impl Recovery {
             store: Store::create(options.operator, &options.to_store())?,
             fault: None,
             operator: options.operator,
-            moments: Moments::of(options),
+            target: RecoveryTarget::of(options),
             is_enough: false,
             number: files.found.base,
             files,
@@ -209,11 +209,11 @@ impl Recovery {
             name = base;
             self.replay_base(name, &mut Windows::of(folder, name)?, sequence, reading)?;
         }
-        self.moments.begin(Name::Log(self.number));
+        self.target.begin(Name::Log(self.number));
         for (number, wanted) in self.files.logs().into_iter().zip(self.number..) {
             let mut windows = Windows::of(folder, Name::Log(number))?;
             if self.is_enough {
-                self.moments
+                self.target
                     .check_given_up(Name::Log(number), &mut windows)?;
             } else if number != wanted {
                 // One is missing. That matters if one after it has a batch.
@@ -229,12 +229,12 @@ impl Recovery {
                     self.files.use_log(number);
                 }
                 if self.is_enough {
-                    self.moments.check_given_up(name, &mut windows)?;
+                    self.target.check_given_up(name, &mut windows)?;
                 }
             }
         }
         self.files.found = find(&self.files.bases, &self.files.logs)?;
-        self.moments.finish(&self.store, self.length)?;
+        self.target.finish(&self.store, self.length)?;
         self.go_back();
         Ok(())
     }
@@ -262,9 +262,9 @@ impl Recovery {
         sequence: Option<u64>,
         reading: &mut Reading,
     ) -> Result<(), Error> {
-        let moments = mem::replace(&mut self.moments, Moments::none());
+        let target = mem::replace(&mut self.target, RecoveryTarget::none());
         self.replay(name, base, reading)?;
-        self.moments = moments;
+        self.target = target;
         self.check_whole(name)?;
         self.based = self.store.last();
         if let Some(sequence) = sequence.filter(|sequence| *sequence != self.based) {
@@ -274,9 +274,9 @@ impl Recovery {
                 fault: format!("it ends at sequence {}, and not at {sequence}", self.based),
             });
         }
-        self.moments.begin(name);
+        self.target.begin(name);
         // Where the log goes on is found there, also if nothing of it is read.
-        self.moments.reach(&self.store, self.length)?;
+        self.target.reach(&self.store, self.length)?;
         self.before = self.based;
         (self.batches, self.length) = (0, 0);
         self.begin = match sequence {
@@ -308,9 +308,9 @@ impl Recovery {
         reading: &mut Reading,
     ) -> Result<(), Error> {
         let begin = mem::replace(&mut self.begin, Begin::Behind);
-        self.moments.begin(name);
+        self.target.begin(name);
         let tell = |offset| reading.tell(name, offset);
-        let replay = Replay::of(&self.store, windows, begin, &mut self.moments, tell)?;
+        let replay = Replay::of(&self.store, windows, begin, &mut self.target, tell)?;
         reading.end(name, windows.length());
         (self.batches, self.length) = (replay.batches, replay.end);
         self.is_enough = replay.is_enough();
@@ -331,7 +331,7 @@ impl Recovery {
 
     /// The store, and its snapshots at the marks.
     pub(crate) fn into_store(self) -> (Store, Vec<View>) {
-        (self.store, self.moments.marks)
+        (self.store, self.target.marks)
     }
 
     /// The store, its snapshots at the marks, the log that goes on, and what was set aside. The folder is made ready for writes: what a
@@ -349,7 +349,7 @@ impl Recovery {
         if self.is_enough {
             found.top = found.log;
         }
-        let unready = Unready {
+        let cleanup = PendingCleanup {
             operator: (!self.files.has_operator).then_some(self.operator),
             found,
             batches: self.batches,
@@ -358,7 +358,7 @@ impl Recovery {
             torn: self.torn,
             gives_up: self.is_enough,
             logs,
-            spent: self.files.spent,
+            obsolete: self.files.obsolete,
         };
         let last = Older {
             number: self.number,
@@ -367,14 +367,14 @@ impl Recovery {
             length: self.length,
         };
         let (older, based) = (self.older, self.based);
-        let mut log = Log::of(folder, last, older, based, unready, is_part, counts);
+        let mut log = Log::of(folder, last, older, based, cleanup, is_part, counts);
         let mut set_aside = None;
         if is_new || !is_part {
-            set_aside = log.get_ready()?;
+            set_aside = log.finish_cleanup()?;
         }
         let opened = Opened {
             store: self.store,
-            marks: self.moments.marks,
+            marks: self.target.marks,
             set_aside,
         };
         Ok((opened, log))

@@ -4,8 +4,8 @@ use crate::error::Error;
 use crate::gap;
 use crate::header::{numbers_of, HEADER_SIZE};
 use crate::mark;
-use crate::moments::Moments;
 use crate::record::head_of;
+use crate::recovery_target::RecoveryTarget;
 use crate::windows::Windows;
 use std::ops::ControlFlow;
 use ucstore::{log_writes_at, BatchFault, Ended, LogPlace, Replayed, Store};
@@ -50,7 +50,7 @@ pub(crate) enum Stop {
 struct Walk<'a, 'b> {
     store: &'a Store,
     windows: &'a mut Windows<'b>,
-    moments: &'a mut Moments,
+    target: &'a mut RecoveryTarget,
     /// Where the next batch begins.
     offset: u64,
     /// The number of batches that were written.
@@ -70,7 +70,7 @@ impl Replay {
         store: &Store,
         windows: &mut Windows,
         begin: Begin,
-        moments: &mut Moments,
+        target: &mut RecoveryTarget,
         mut tell: impl FnMut(u64),
     ) -> Result<Replay, Error> {
         let passed = match begin {
@@ -88,7 +88,7 @@ impl Replay {
         let mut walk = Walk {
             store,
             windows,
-            moments,
+            target,
             offset,
             batches: 0,
             may_skip_first: begin == Begin::Anywhere,
@@ -119,7 +119,7 @@ impl Walk<'_, '_> {
             let (end, last) = (begin + replay.offset(), replay.last());
             self.offset = end;
             tell(end);
-            if self.moments.are_due(last + 1) && self.moments.reach(self.store, end)? {
+            if self.target.are_due(last + 1) && self.target.reach(self.store, end)? {
                 return Ok(Some(Stop::Enough));
             }
             if let Some(sequence) = closing_sequence(self.windows, end)? {

@@ -1,5 +1,6 @@
 //! [`Shared`]: what the threads of a database share.
 
+use crate::cache_padded::CachePadded;
 use crate::compactor::JobsOut;
 use crate::counts::Counts;
 use crate::error::Error;
@@ -12,9 +13,8 @@ use crate::lock;
 use crate::log::{Log, Refusal};
 use crate::newest::Newest;
 use crate::options::{Options, Sync};
-use crate::padded::Padded;
-use crate::patience::Patience;
 use crate::recovery::Recovery;
+use crate::spin_wait::SpinWait;
 use std::sync::atomic::{AtomicBool, AtomicU64, Ordering};
 use std::sync::{Arc, Condvar, Mutex, OnceLock};
 use std::thread::Thread;
@@ -34,15 +34,15 @@ pub(crate) struct Shared {
     /// Held while the next log is made.
     pub(crate) switching: Mutex<()>,
     /// The log; none in memory, and once the database is closed.
-    pub(crate) log: Padded<Mutex<Option<Log>>>,
+    pub(crate) log: CachePadded<Mutex<Option<Log>>>,
     pub(crate) newest: Newest,
-    pub(crate) store: Padded<Mutex<Store>>,
+    pub(crate) store: CachePadded<Mutex<Store>>,
     /// Notified when there may be a job, or one has ended.
     pub(crate) work: Condvar,
     /// Whether a group is written now, as far as who waits for the log has to know.
-    is_writing: Padded<AtomicBool>,
+    is_writing: CachePadded<AtomicBool>,
     /// The writers that come together.
-    groups: Padded<Groups>,
+    groups: CachePadded<Groups>,
     /// Why nothing can be written any more.
     failure: OnceLock<Error>,
     /// Whether a damaged directory was opened to be read alone.
@@ -117,14 +117,14 @@ impl Shared {
             options: options.clone(),
             checkpointing: Mutex::default(),
             switching: Mutex::default(),
-            log: Padded(Mutex::new(log)),
+            log: CachePadded(Mutex::new(log)),
             newest: Newest::default(),
             gathered: AtomicU64::new(gathered),
             runs: AtomicU64::new(report.runs),
-            store: Padded(Mutex::new(store)),
+            store: CachePadded(Mutex::new(store)),
             work: Condvar::new(),
-            is_writing: Padded::default(),
-            groups: Padded::default(),
+            is_writing: CachePadded::default(),
+            groups: CachePadded::default(),
             is_salvaged: fault.is_some(),
             failure: fault.map_or_else(OnceLock::new, |fault| fault.into_cause().into()),
             noted: Mutex::new(None),
@@ -145,14 +145,14 @@ impl Shared {
 
     /// Writes a batch, with those of the writers that come meanwhile.
     pub(crate) fn write(&self, mut batch: Vec<u8>, is_synced: bool) -> Result<(), Error> {
-        let patience = Patience::of(self.options.sync);
+        let wait = SpinWait::of(self.options.sync);
         loop {
             batch = match self.groups.join(batch, is_synced) {
-                Role::Leads => return self.lead(patience),
-                Role::Follows(outcome) => return outcome.wait(patience),
+                Role::Leads => return self.lead(wait),
+                Role::Follows(outcome) => return outcome.wait(wait),
                 Role::Waits(outcome, batch) => {
                     // Errors of others are theirs.
-                    let _ = outcome.wait(patience);
+                    let _ = outcome.wait(wait);
                     batch
                 }
             }
@@ -160,10 +160,10 @@ impl Shared {
     }
 
     /// Writes the open group after those before it.
-    fn lead(&self, patience: Patience) -> Result<(), Error> {
+    fn lead(&self, wait: SpinWait) -> Result<(), Error> {
         // A thread that looks at the lock takes its cache line from the thread that has it.
-        patience.look(|| (!self.is_writing.load(Ordering::Relaxed)).then_some(()));
-        let mut log = patience.lock(&self.log);
+        wait.spin_until(|| (!self.is_writing.load(Ordering::Relaxed)).then_some(()));
+        let mut log = wait.lock(&self.log);
         self.is_writing.store(true, Ordering::Relaxed);
         let group = self.groups.close();
         let told = self.take(&mut log, &group);

@@ -1,7 +1,7 @@
 //! [`Touched`]: which group wrote a key last.
 
+use crate::cache_padded::CachePadded;
 use crate::header::HEADER_SIZE;
-use crate::padded::Padded;
 use std::sync::atomic::{AtomicU64, Ordering};
 
 /// The number of cells: a power of two.
@@ -27,7 +27,7 @@ const LOG_DATA: u8 = 3;
 /// after that.
 pub(crate) struct Touched {
     /// The number of groups taken.
-    groups: Padded<AtomicU64>,
+    groups: CachePadded<AtomicU64>,
     /// The last group that has more operations, or other ones, than are noted one by one.
     all: AtomicU64,
     cells: Box<[AtomicU64]>,
@@ -37,7 +37,7 @@ impl Default for Touched {
     fn default() -> Touched {
         let cells = std::iter::repeat_with(AtomicU64::default).take(CELLS);
         Touched {
-            groups: Padded::default(),
+            groups: CachePadded::default(),
             all: AtomicU64::default(),
             cells: cells.collect(),
         }

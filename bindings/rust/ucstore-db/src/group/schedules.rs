@@ -144,9 +144,9 @@ impl<'a> State<'a> {
                 group.tell(&told);
                 Place::Told(told)
             }
-            Place::Follows(outcome) => Place::Told(outcome.wait(Patience::None)),
+            Place::Follows(outcome) => Place::Told(outcome.wait(SpinWait::None)),
             Place::Waits(outcome, batch) => {
-                let _ = outcome.wait(Patience::None);
+                let _ = outcome.wait(SpinWait::None);
                 Place::Comes(batch)
             }
             Place::Told(_) => unreachable!("it isn't able to"),

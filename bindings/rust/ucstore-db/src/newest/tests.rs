@@ -2,9 +2,9 @@
 
 use super::*;
 use crate::flushes;
-use crate::lanes::own_place;
 use crate::options::Options;
 use crate::shared::Shared;
+use crate::striped::own_place;
 use std::thread;
 use ucstore::Batch;
 

@@ -1,4 +1,4 @@
-//! [`Patience`]: how often a thread looks for what it waits for, before it sleeps.
+//! [`SpinWait`]: spins of a thread that waits, before it sleeps.
 
 use crate::options::Sync;
 use crate::{lock, try_lock};
@@ -16,29 +16,29 @@ const MOST_PAUSES: u32 = 32;
 /// For how long it lets others use that before it looks again. Where one of them keeps it, that is once.
 const YIELDS: Duration = Duration::from_micros(50);
 
-/// The patience of a thread that waits: how often it looks before it sleeps. To sleep and be woken takes longer than most groups do.
+/// The way in which a thread waits: it spins for a while, and sleeps then. To sleep and be woken takes longer than most groups do.
 #[derive(Clone, Copy, PartialEq, Eq)]
-pub(crate) enum Patience {
+pub(crate) enum SpinWait {
     /// It sleeps at once: a device is waited for.
     None,
     /// It looks for some microseconds, and keeps its processor: others wait for it.
     Short,
-    /// It looks as often as it pays.
+    /// It looks for as long as that pays.
     Long,
 }
 
-impl Patience {
-    /// The patience of a writer, for the group before its own or for its leader.
-    pub(crate) fn of(sync: Sync) -> Patience {
+impl SpinWait {
+    /// The wait of a writer for the group before its own or for its leader.
+    pub(crate) fn of(sync: Sync) -> SpinWait {
         match sync {
-            Sync::Always => Patience::None,
-            Sync::EveryMs(_) | Sync::Never => Patience::Long,
+            Sync::Always => SpinWait::None,
+            Sync::EveryMs(_) | Sync::Never => SpinWait::Long,
         }
     }
 
     /// Looks for something, and returns it if it is there before the thread would sleep.
-    pub(crate) fn look<T>(self, mut find: impl FnMut() -> Option<T>) -> Option<T> {
-        let spins = if self == Patience::None { 0 } else { SPINS };
+    pub(crate) fn spin_until<T>(self, mut find: impl FnMut() -> Option<T>) -> Option<T> {
+        let spins = if self == SpinWait::None { 0 } else { SPINS };
         let mut pauses = 1;
         for _ in 0..spins {
             let found = find();
@@ -50,7 +50,7 @@ impl Patience {
             }
             pauses = MOST_PAUSES.min(2 * pauses);
         }
-        let begun = (self == Patience::Long).then(Instant::now);
+        let begun = (self == SpinWait::Long).then(Instant::now);
         while begun.is_some_and(|begun| begun.elapsed() < YIELDS) {
             thread::yield_now();
             let found = find();
@@ -63,7 +63,8 @@ impl Patience {
 
     /// Locks.
     pub(crate) fn lock<T>(self, mutex: &Mutex<T>) -> MutexGuard<'_, T> {
-        self.look(|| try_lock(mutex)).unwrap_or_else(|| lock(mutex))
+        self.spin_until(|| try_lock(mutex))
+            .unwrap_or_else(|| lock(mutex))
     }
 }
 
@@ -72,9 +73,9 @@ mod tests {
     use super::*;
 
     /// The number of looks for what is there at some look, and whether it is found.
-    fn looks(patience: Patience, found_at: u32) -> (u32, bool) {
+    fn looks(wait: SpinWait, found_at: u32) -> (u32, bool) {
         let mut looks = 0;
-        let found = patience.look(|| {
+        let found = wait.spin_until(|| {
             looks += 1;
             (looks == found_at).then_some(())
         });
@@ -82,23 +83,23 @@ mod tests {
     }
 
     #[test]
-    fn patience_ends() {
-        assert_eq!(looks(Patience::None, 1), (0, false));
-        assert_eq!(looks(Patience::Short, 1), (1, true));
-        assert_eq!(looks(Patience::Short, 0), (SPINS, false));
+    fn a_wait_ends() {
+        assert_eq!(looks(SpinWait::None, 1), (0, false));
+        assert_eq!(looks(SpinWait::Short, 1), (1, true));
+        assert_eq!(looks(SpinWait::Short, 0), (SPINS, false));
         let begun = Instant::now();
-        let (least, is_found) = looks(Patience::Long, 0);
+        let (least, is_found) = looks(SpinWait::Long, 0);
         assert!(least >= SPINS && !is_found && begun.elapsed() >= YIELDS);
-        assert_eq!(looks(Patience::Long, SPINS), (SPINS, true));
+        assert_eq!(looks(SpinWait::Long, SPINS), (SPINS, true));
     }
 
     #[test]
     fn a_lock_is_waited_for_behind_all_looks() {
-        for patience in [Patience::None, Patience::Long] {
+        for wait in [SpinWait::None, SpinWait::Long] {
             let mutex = Mutex::new(1);
             thread::scope(|scope| {
                 let guard = lock(&mutex);
-                let waiting = scope.spawn(|| *patience.lock(&mutex));
+                let waiting = scope.spawn(|| *wait.lock(&mutex));
                 thread::sleep(Duration::from_millis(20));
                 assert!(!waiting.is_finished());
                 drop(guard);

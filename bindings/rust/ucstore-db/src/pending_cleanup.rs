@@ -1,4 +1,4 @@
-//! [`Unready`]: the work that an opening leaves on a directory, before it is written to.
+//! [`PendingCleanup`]: the work that an opening leaves on a directory, before it is written to.
 
 use crate::ending::Ending;
 use crate::error::Error;
@@ -11,7 +11,7 @@ use std::io;
 use ucstore::{FolderAction, FolderFiles, FolderMachine, Operator};
 
 /// The work that is done on a directory before it is written to: what the machine asks for of the files that were found.
-pub(crate) struct Unready {
+pub(crate) struct PendingCleanup {
     /// The one to be named in a file.
     pub(crate) operator: Option<Operator>,
     /// The log that goes on, and the logs around it.
@@ -27,11 +27,11 @@ pub(crate) struct Unready {
     pub(crate) gives_up: bool,
     /// The logs from the base's number on, in their order.
     pub(crate) logs: Vec<u64>,
-    /// Files that hold nothing that isn't elsewhere.
-    pub(crate) spent: Vec<Name>,
+    /// Obsolete files: all that they hold is elsewhere too.
+    pub(crate) obsolete: Vec<Name>,
 }
 
-impl Unready {
+impl PendingCleanup {
     /// The machine of the files that were found.
     pub(crate) fn machine(&self) -> FolderMachine {
         // Nothing is in an empty log that could be lost.
@@ -43,7 +43,7 @@ impl Unready {
     /// Does what the machine asks for until batches may be appended. Returns what was set aside. If it fails it may be done again, with a
     /// new machine: after each of its steps the directory has the same batches, but for those that are given up, of which the first
     /// ones may be there.
-    pub(crate) fn get_ready(
+    pub(crate) fn finish(
         &self,
         folder: &dyn Folder,
         machine: &mut FolderMachine,
@@ -66,11 +66,11 @@ impl Unready {
         }
         loop {
             let outcome = match machine.next_checkpoint() {
-                FolderAction::RemoveLog(number) => self.remove_spent(
+                FolderAction::RemoveLog(number) => self.remove_obsolete(
                     folder,
                     |name| matches!(name, Name::Log(it) if *it == number),
                 ),
-                FolderAction::RemoveBase(number) => self.remove_spent(
+                FolderAction::RemoveBase(number) => self.remove_obsolete(
                     folder,
                     |name| matches!(name, Name::Base(it, _) if *it == number),
                 ),
@@ -80,7 +80,7 @@ impl Unready {
             outcome?;
         }
         // Files with temporary names, and bases of the newest one's number that have less.
-        self.remove_spent(folder, |name| match name {
+        self.remove_obsolete(folder, |name| match name {
             Name::Log(_) => false,
             Name::Base(number, _) => *number >= self.found.base,
             _ => true,
@@ -144,13 +144,13 @@ impl Unready {
         }
     }
 
-    /// Removes those of the spent files that are asked for.
-    fn remove_spent(
+    /// Removes those of the obsolete files that are asked for.
+    fn remove_obsolete(
         &self,
         folder: &dyn Folder,
         is_asked: impl Fn(&Name) -> bool,
     ) -> Result<(), Error> {
-        let mut asked = self.spent.iter().filter(|name| is_asked(name));
+        let mut asked = self.obsolete.iter().filter(|name| is_asked(name));
         asked.try_for_each(|name| remove(folder, *name))
     }
 }

@@ -1,4 +1,4 @@
-//! [`Moments`]: the sequences that the options name, at which a replay makes snapshots and ends.
+//! [`RecoveryTarget`]: the sequences that the options name, at which a replay makes snapshots and ends.
 
 use crate::error::Error;
 use crate::name::Name;
@@ -8,7 +8,7 @@ use std::ops::ControlFlow;
 use ucstore::{log_writes_at, LogPlace, Store, View};
 
 /// The sequences at which a replay makes snapshots, and the one at which it ends. Each has to be the end of a batch.
-pub(crate) struct Moments {
+pub(crate) struct RecoveryTarget {
     /// The marks that aren't reached yet: the least one is last.
     left: Vec<u64>,
     end: Option<u64>,
@@ -20,13 +20,13 @@ pub(crate) struct Moments {
     name: Name,
 }
 
-impl Moments {
-    /// The moments of the options.
-    pub(crate) fn of(options: &Options) -> Moments {
+impl RecoveryTarget {
+    /// The target of the options.
+    pub(crate) fn of(options: &Options) -> RecoveryTarget {
         let mut left = options.marks.clone();
         left.sort_unstable_by(|one, other| other.cmp(one));
         left.dedup();
-        Moments {
+        RecoveryTarget {
             left,
             end: options.recover_to,
             give_up_until: options.give_up_until,
@@ -36,8 +36,8 @@ impl Moments {
     }
 
     /// None.
-    pub(crate) fn none() -> Moments {
-        Moments::of(&Options::default())
+    pub(crate) fn none() -> RecoveryTarget {
+        RecoveryTarget::of(&Options::default())
     }
 
     /// Tells which file is read from now on.

@@ -1,4 +1,4 @@
-//! [`Padded`]: a thing on cache lines of its own.
+//! [`CachePadded`]: a thing on cache lines of its own.
 
 use std::ops::Deref;
 
@@ -6,9 +6,9 @@ use std::ops::Deref;
 /// together.
 #[derive(Default)]
 #[repr(align(128))]
-pub(crate) struct Padded<T>(pub(crate) T);
+pub(crate) struct CachePadded<T>(pub(crate) T);
 
-impl<T> Deref for Padded<T> {
+impl<T> Deref for CachePadded<T> {
     type Target = T;
 
     fn deref(&self) -> &T {
