@@ -17,7 +17,7 @@ pub record FitTogether (ops : List Op) : Type 0 where
   pub few : length ops < 2 ^ 32
   pub strings : All FitsOp ops
 
--- These bytes are the batch of so many operations, with the sequence 0.
+-- The bytes encode a batch of `count` operations, with the sequence number 0.
 pub record AreGathered (count : ℕ) (bytes : List ℕ) (ops : List Op) : Type 0 where
   pub text : bytes ≡ batch_text 0 ops
   pub counted : count ≡ length ops

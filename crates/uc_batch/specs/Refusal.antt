@@ -25,7 +25,7 @@ NumberIsLong (suc more) (b ∷ bs) = (128 ≤ b) × NumberIsLong more bs
 
 -- ---- the fields after a tag
 
--- the number of a column family, and a text with its length before it
+-- the number of a column family, or a byte string with its length before it
 pub data Field : Type 0 where
   Family : Field
   Text : Field
@@ -45,7 +45,7 @@ with_family fields = Family ∷ fields
 abbrev pub fields_of : Layout → List Field
 fields_of layout = elim layout.has_family [ true ↦ with_family (texts_of layout.form) | false ↦ texts_of layout.form ]
 
--- the bytes are a field: the default family's number, or a text, with numbers in any spelling
+-- the bytes are a field: the default family's number, or a byte string, with numbers in any encoding
 abbrev pub IsField : Field → List ℕ → Type 0
 IsField Family bytes = Spells 4 bytes 0
 IsField Text bytes = (text : List ℕ) × IsString bytes text
@@ -55,7 +55,7 @@ abbrev pub AreFields : List Field → List ℕ → Type 0
 AreFields [] bytes = bytes ≡ []
 AreFields (field ∷ fields) bytes = (front others : List ℕ) × IsField field front × AreFields fields others × (bytes ≡ front ++ others)
 
--- What is wrong with a field at `place`, if the batch has these bytes left. The tag of its record is at `start`.
+-- The fault of a field at `place`, if the batch has these bytes left. The tag of its record is at `start`.
 pub data FieldFault : ℕ → ℕ → List ℕ → Field → BatchError → Type 0 where
   -- the batch ends within its number
   number_cut : (start place : ℕ) (bytes : List ℕ) (field : Field) → NumberIsCut 4 bytes → FieldFault start place bytes field (faults.Cut start)
@@ -78,7 +78,7 @@ pub record FaultAmong (start place : ℕ) (fields : List Field) (bytes : List �
   pub whole : bytes ≡ front ++ left
   pub there : FieldFault start (place + length front) left field fault
 
--- What is wrong with a record whose tag is at `start`, if the batch has these bytes left.
+-- The fault of a record whose tag is at `start`, if the batch has these bytes left.
 pub data RecordFault : ℕ → List ℕ → BatchError → Type 0 where
   -- no record begins with the tag
   bad_tag : (start tag : ℕ) (rest : List ℕ) → layout_at tag ≡ None → RecordFault start (tag ∷ rest) (faults.BadTag tag start)

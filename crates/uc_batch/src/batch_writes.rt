@@ -13,9 +13,9 @@ use crate::records::read_record;
 use std::marker::Model;
 use uc_bytes::{OpRef, WriteRef};
 
-/// The remaining writes of a batch that was judged whole before, the first one first.
+/// The remaining writes, in order, of a batch that was validated before.
 ///
-/// A contract sees them as a list. It doesn't allocate: each write borrows its texts from the batch.
+/// A contract sees them as a list. Iteration doesn't allocate: each write borrows its key and value from the batch.
 #[derive(Drop)]
 pub struct BatchWrites<'a> {
     // The sequence of the next one, and how many there are.

@@ -68,9 +68,10 @@ impl PieceReader {
         }
     }
 
-    /// Goes to the next batch. After the last one it returns how far the log was read, again at each further call.
+    /// Advances to the next batch. After the last one it returns how far the log was read, and returns the same at each further
+    /// call.
     ///
-    /// After an `Err` nothing is passed over. A piece is let go of when the reader leaves it.
+    /// An `Err` skips nothing. A piece is freed when the reader leaves it.
     pub fn advance(&mut self) -> Result<Advance, AllocError>
         ensures ok { IfOk result (λ advance. Advances advance self.old self.new) }
         ensures err { OnErr result (StaysAt self.old self.new) }

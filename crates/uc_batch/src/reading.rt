@@ -10,7 +10,7 @@ use crate::error::BatchError;
 use std::alloc::{AllocError, Global};
 use uc_bytes::Write;
 
-/// Adds copies of writes, with their texts.
+/// Adds copies of writes, with their keys and values.
 pub(crate) fn push_copies(
     alloc: Global,
     list: &mut Vec<Write>,

@@ -52,7 +52,7 @@ impl Unread {
         Ok(Some(border))
     }
 
-    /// Passes over bytes, and lets go of the pieces that end with them or before.
+    /// Skips `size` bytes, and frees the pieces that end within them.
     pub(crate) fn skip(&mut self, size: usize)
         requires within { self.old.at ≤ length self.old.piece.items }
         requires ahead { size ≤ length (bytes_ahead self.old) }

@@ -1,4 +1,4 @@
--- What flushes, compactions and snapshots do to the store behind a handle.
+-- Effects of flushes, compactions and snapshots on the handle's store.
 use Rattle.std.specs.Prelude.{◌≡◌, [], ℕ, ℤ, Bool, Option}
 use Rattle.uc_live.specs.Compacting.{next_stretch, HasNoRoom, IsCompacted}
 use Rattle.uc_live.specs.Going.{GoesOn}

@@ -22,7 +22,7 @@ ahead_of log place = log_ahead place.last (place.batches + 1) (ahead_in log plac
 abbrev pub start : CLogPlace
 start = record { offset = 0; batches = 0; last = 0 }
 
--- The next payload is a batch of these writes, and the others are ahead of the place behind it.
+-- The next payload is a batch of these writes, and the others are ahead of the place after it.
 pub record ComesNext (writes : List Write) (log : List ℕ) (place behind : CLogPlace) : Type 0 where
   pub payload : List ℕ
   pub lies : LiesIn payload log place.offset behind.offset
@@ -36,7 +36,7 @@ abbrev pub EndsAt : Ended → List ℕ → CLogPlace → Type 0
 EndsAt ended log place = ahead_of log place ≡ nothing_ahead ended
 
 module _ (status : ℤ) (log : List ℕ) (old new : CLogPlace) (room room' : List ℕ) (size count : ℕ) (ended : CEnded) where
-  -- The next batch is in the room, and the place is behind it.
+  -- The next batch is in the buffer, and the place is after it.
   pub record Goes : Type 0 where
     pub writes : List Write
     pub next : ComesNext writes log old new

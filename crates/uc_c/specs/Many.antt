@@ -1,4 +1,4 @@
--- The values of many keys that stand one behind the other.
+-- The values of many keys, whose bytes are concatenated.
 use Rattle.std.specs.Prelude.{◌≡◌, ◌⊎◌, ◌-◌, ◌^◌, ℕ, ℤ, List, [], ◌∷◌, length, take, drop, sum, map, Option, Some, None}
 use Rattle.std.specs.List.{flat_map}
 use Rattle.uc_c.specs.declared.status.TheConstants.{OK, OUT_OF_MEMORY, BAD_KEYS}
@@ -27,7 +27,7 @@ abbrev pub value_bytes : Option (List ℕ) → List ℕ
 value_bytes None = []
 value_bytes (Some value) = value
 
--- those of the values that are there, one behind the other
+-- the concatenated bytes of the values that exist
 abbrev pub values_bytes : List (Option (List ℕ)) → List ℕ
 values_bytes values = flat_map value_bytes values
 

@@ -1,4 +1,4 @@
--- What an opening puts behind a handle.
+-- The engine that an opening puts into a handle.
 use Rattle.std.specs.Prelude.{◌≡◌, ◌≢◌, [], ℕ, ℤ, Bool, List, true, false, Option, ◌⊎◌, MatchOption, IsSomeAnd}
 use Rattle.uc_batch.specs.Log.{log_writes}
 use Rattle.uc_live.specs.Going.{GoesOn}

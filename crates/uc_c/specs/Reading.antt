@@ -1,4 +1,4 @@
--- What a look-up writes into the room that C gives.
+-- The bytes that a lookup writes into the caller's buffer.
 use Rattle.std.specs.Prelude.{◌≡◌, ℕ, ℤ, List, length, Option, Some, None}
 use Rattle.uc_query_read.specs.declared.answer.Answer.{Answer}
 use Rattle.uc_query_read.specs.declared.answer.Answer.TheVariants.{Value, Rows, NotProtected}

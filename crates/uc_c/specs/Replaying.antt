@@ -28,8 +28,8 @@ abbrev pub TookNone : Engined → Engined → Type 0
 TookNone e e' = (e' ≡ e) ⊎ Took [] e e'
 
 module _ (log : List ℕ) (place : CLogPlace) (may_skip : Bool) (e e' : Engined) where
-  -- The next batch was taken, behind fewer writes than fill the memtables, and leads to the place behind it. It has the sequence behind the last one, unless it may skip
-  -- some.
+  -- The next batch was taken, while fewer writes than fill the memtables were prepared, and leads to the place after it. It has the
+  -- sequence number after the last one, unless it may skip some.
   pub record IsReplayed (behind : CLogPlace) : Type 0 where
     pub writes : List Write
     pub next : ComesNext writes log place behind
@@ -71,7 +71,7 @@ module _ (status : ℤ) (log : List ℕ) (old new : CLogPlace) (may_skip : Bool)
   WhyNot = ((status ≡ SEQUENCE_GAP) × LeavesGap log old may_skip e e')
       ⊎ (StopsThere ⊎ (IsElsewhere ⊎ Names RoomSays status (λ error. HasNoRoom error e'.live)))
 
-  -- The next batch is written, and the place is behind it; or the place stays, no write is taken, and the status says why.
+  -- The next batch is written, and the place is after it; or the place stays, no write is taken, and the status says why.
   abbrev pub ReplaysNext : Type 0
   ReplaysNext = ((status ≡ OK) × IsReplayed log old may_skip e e' new)
       ⊎ ((new ≡ old) × TookNone e e' × WhyNot)

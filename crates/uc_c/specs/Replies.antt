@@ -1,5 +1,4 @@
--- What the functions answer, and what is behind the handle before and after. E is what an engine is to a contract, or a
--- view.
+-- Results of the functions, and the handle's contents before and after. E is the engine or the view as a contract sees it.
 use Rattle.std.specs.Prelude.{◌≡◌, ℤ, Option, None, ◌⊎◌, MatchOption, IsSomeAnd}
 use Rattle.uc_c.specs.declared.status.TheConstants.{OK, NO_STORE}
 

@@ -1,4 +1,4 @@
--- What is written into the room that C gives.
+-- The bytes that are written into the caller's buffer.
 use Rattle.std.specs.Prelude.{ℕ, List, ◌++◌, length, take, drop}
 
 -- the first of the values, as many as there is room for, and the rest of the room as it was

@@ -1,4 +1,4 @@
--- What is put behind the handle of a view.
+-- The contents of a view's handle.
 use Rattle.std.specs.Prelude.{◌≡◌, ◌⊎◌, ℤ, Option, Some, MatchOption}
 use Rattle.uc_engine.specs.EngineViews.{Viewed}
 use Rattle.uc_c.specs.declared.status.TheConstants.{OK, OUT_OF_MEMORY, HAS_VIEW}

@@ -1,4 +1,4 @@
--- What writes do to the store behind a handle.
+-- Effects of writes on the handle's store.
 use Rattle.std.specs.Prelude.{◌≡◌, ◌⊎◌, ◌≤◌, ◌<◌, [], ℕ, ℤ, List, Option, length}
 use Rattle.uc_bytes.specs.declared.op.Op.{Op}
 use Rattle.uc_live.specs.Lives.{last}

@@ -48,8 +48,8 @@ fn new_batch(alloc: Global) -> Result<Box<WriteBatch>, AllocError>
     }
 }
 
-/// Adds an operation after the others. It is refused if a text has 2^32 bytes or more, if the batch has 2^32 - 1
-/// operations, and for want of memory.
+/// Appends an operation. Fails if a key or value has 2^32 bytes or more, if the batch has 2^32 - 1 operations, or if allocation
+/// fails.
 fn push(alloc: Global, batch: &mut BatchHandle, op: OpRef<'_>) -> i32
     ensures { Gathers result batch.old.held batch.new.held op.entry }
 {
@@ -68,8 +68,8 @@ fn push(alloc: Global, batch: &mut BatchHandle, op: OpRef<'_>) -> i32
     }
 }
 
-/// Adds that a key is set to a value. It is refused if a text has 2^32 bytes or more, if the batch has 2^32 - 1
-/// operations, and for want of memory.
+/// Appends the operation that sets a key to a value. Fails if either has 2^32 bytes or more, if the batch has 2^32 - 1 operations,
+/// or if allocation fails.
 #[unsafe(no_mangle)]
 pub extern "C" fn ucstore_batch_put(
     alloc: Global,

@@ -1,5 +1,5 @@
-//! Folders of databases, whose files C keeps: which of them an opening reads, and the machine that says which file operation comes
-//! next. C holds that as a [`State`] of numbers, does what a [`Step`] says, and tells how it went.
+//! Directories of databases, whose files C keeps: the files that opening reads, and the state machine that determines the next file
+//! operation. C holds the machine as a [`State`] of numbers, executes each [`Step`], and reports whether it succeeded.
 ghost use Rattle.std.specs.Prelude.{◌≡◌, ◌⊎◌};
 ghost use Rattle.uc_folder.specs.States.{state_of, step_of};
 ghost use Rattle.uc_folder.specs.Steps.{
@@ -50,8 +50,8 @@ pub extern "C" fn ucstore_folder_find(
     }
 }
 
-/// Opens the machine of a folder in which an opening found some files, and so many batches in the log that goes on. That is sealed if all
-/// that was read of it is on the device: then it isn't copied.
+/// Opens the machine of a directory in which opening found these files and `count` batches in the current log. The log is sealed if
+/// all that was read of it is durable. A sealed log isn't copied.
 #[unsafe(no_mangle)]
 pub extern "C" fn ucstore_folder_open(
     found: &Found,

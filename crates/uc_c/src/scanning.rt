@@ -63,8 +63,7 @@ pub extern "C" fn ucstore_scan(
     status
 }
 
-/// Scans as `ucstore_scan` does, at a sequence. It is refused if no snapshot is at the sequence, and for want of
-/// memory.
+/// Scans as `ucstore_scan` does, at a sequence number. Fails if no snapshot is at that number, or if allocation fails.
 #[unsafe(no_mangle)]
 pub extern "C" fn ucstore_scan_at(
     alloc: Global,

@@ -13,8 +13,8 @@ use crate::status::{NO_STORE, NOT_PROTECTED, OK, room_status};
 use std::alloc::Global;
 use uc_handle::Handle;
 
-/// Takes a snapshot at the last sequence, and tells that. Snapshots are counted: one that is taken twice is released
-/// twice. It is refused if no id is left for a run, and for want of memory.
+/// Takes a snapshot at the last sequence number, and stores that number. Snapshots are counted: one that is taken twice must be
+/// released twice. Fails if run IDs are exhausted, or if allocation fails.
 #[unsafe(no_mangle)]
 pub extern "C" fn ucstore_snapshot(alloc: Global, handle: &mut Handle, seq: &mut u64) -> i32
     ensures takes { TakesOne result handle.old.held handle.new.held seq.new }

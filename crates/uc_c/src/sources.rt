@@ -27,7 +27,7 @@ pub fn sources_are_numbered()
     ensures { numbers.MEMTABLE ∷ numbers.FILTERS ∷ numbers.RUNS ∷ [] ≡ 0 ∷ 1 ∷ 2 ∷ [] }
 {}
 
-/// Tells where a look-up of a key at the last sequence is answered. It is refused for want of memory.
+/// Stores which part of the store answers a lookup of a key at the last sequence number. Fails if allocation fails.
 #[unsafe(no_mangle)]
 pub extern "C" fn ucstore_source(
     alloc: Global,

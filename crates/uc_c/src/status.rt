@@ -39,7 +39,7 @@ pub const IDS_SPENT: i32 = 9;
 /// Too few sequences are left.
 pub const SEQUENCES_SPENT: i32 = 10;
 
-/// A text has 2^32 bytes or more.
+/// A key or value has 2^32 bytes or more.
 pub const TOO_LONG: i32 = 11;
 
 /// The bytes aren't a write batch.

@@ -16,10 +16,10 @@ use uc_batch::{WriteBatch, gathered_batch_is_read};
 use uc_engine::{Engine, OpRef, WriteError};
 use uc_handle::{BatchHandle, Handle};
 
-/// Writes a batch, given as the bytes that RocksDB writes: 8 bytes for a sequence, 4 for a count, and as many records.
-/// The operations get the batch's sequence and those after it; if it is 0, those after the last one. It is refused if
-/// the bytes aren't a batch, if its sequence is neither 0 nor above the last one, if too few sequences are left, if no
-/// id is left for a run, and for want of memory.
+/// Writes a batch, given as the bytes that RocksDB writes: 8 bytes for a sequence number, 4 for a count, and as many records. The
+/// operations get the batch's sequence number and those after it, or if it is 0, those after the last one. Fails if the bytes
+/// aren't a batch, if its sequence number is neither 0 nor above the last one, if too few sequence numbers are left, if run IDs are
+/// exhausted, or if allocation fails.
 #[unsafe(no_mangle)]
 pub extern "C" fn ucstore_write_bytes(alloc: Global, handle: &mut Handle, batch: &[u8]) -> i32
     ensures { WritesBatch result handle.old.held handle.new.held batch.now }
@@ -35,8 +35,8 @@ pub extern "C" fn ucstore_write_bytes(alloc: Global, handle: &mut Handle, batch:
     }
 }
 
-/// Writes the operations of a batch: they get the sequences after the last one. It is refused if too few sequences are
-/// left, if no id is left for a run, and for want of memory. The batch stays as it was.
+/// Writes the operations of a batch. They get the sequence numbers after the last one, and the batch is unchanged. Fails if too few
+/// sequence numbers are left, if run IDs are exhausted, or if allocation fails.
 #[unsafe(no_mangle)]
 pub extern "C" fn ucstore_write(alloc: Global, handle: &mut Handle, batch: &mut BatchHandle) -> i32
     ensures writes { WritesOps result handle.old.held handle.new.held (ops_held batch.old.held) }
@@ -78,8 +78,8 @@ fn write(alloc: Global, handle: &mut Handle, op: OpRef<'_>) -> i32
     }
 }
 
-/// Sets a key to a value. It is refused if no sequence is left, if a text has 2^32 bytes or more, if no id is left for
-/// a run, and for want of memory.
+/// Sets a key to a value. Fails if no sequence number is left, if either has 2^32 bytes or more, if run IDs are exhausted, or if
+/// allocation fails.
 #[unsafe(no_mangle)]
 pub extern "C" fn ucstore_put(alloc: Global, handle: &mut Handle, key: &[u8], value: &[u8]) -> i32
     ensures { Writes result handle.old.held handle.new.held (ops.Put key.now value.now) }

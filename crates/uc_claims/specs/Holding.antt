@@ -1,4 +1,4 @@
--- What a contract sees of a table and of its tokens.
+-- A table and its tokens, as a contract sees them.
 use Rattle.std.specs.Prelude.{◌≡◌, ℕ, ◌<◌, ◌≤◌, ◌==◌, Bool, false, not, ⊤, List, [], ◌∷◌, ◌++◌, All, Contains}
 use Rattle.std.specs.List.{filter, list_any}
 use Rattle.atomic_table.specs.Seated.{TableId}

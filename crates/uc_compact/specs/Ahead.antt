@@ -1,4 +1,4 @@
--- What is ahead of a merge.
+-- The groups ahead of a merge.
 use Rattle.std.specs.Prelude.{◌≡◌, List, map}
 use Rattle.std.specs.List.{AllByRecursion, flat_map}
 use Rattle.std.specs.List.Sorted.{IsStrictlySortedBy}

@@ -14,7 +14,7 @@ use uc_oper::{Counter, Maximum};
 /// A store of each operator.
 #[derive(Drop)]
 pub(crate) enum AnyStore {
-    /// A store that joins texts.
+    /// A store that joins byte strings.
     Append(LiveStore<Texts>),
     /// A store that adds numbers.
     Counter(LiveStore<Counter>),

@@ -15,7 +15,7 @@ use uc_oper::{Counter, Maximum};
 /// A checkpoint of a store of each operator.
 #[derive(Drop)]
 pub(crate) enum AnyCheckpoint {
-    /// A checkpoint of a store that joins texts.
+    /// A checkpoint of a store that joins byte strings.
     Append(Checkpoint<Texts>),
     /// A checkpoint of a store that adds numbers.
     Counter(Checkpoint<Counter>),

@@ -21,7 +21,7 @@ use uc_version::Alone;
 /// A job of a store of each operator.
 #[derive(Drop)]
 pub(crate) enum AnyJob {
-    /// A job of a store that joins texts.
+    /// A job of a store that joins byte strings.
     Append(Job<Texts>),
     /// A job of a store that adds numbers.
     Counter(Job<Counter>),

@@ -18,7 +18,7 @@ use uc_query_read::{Answer, Query, RowBuffer, Rows};
 /// A view of a store of each operator.
 #[derive(Drop)]
 pub(crate) enum AnyView {
-    /// A view of a store that joins texts.
+    /// A view of a store that joins byte strings.
     Append(View<Texts>),
     /// A view of a store that adds numbers.
     Counter(View<Counter>),
@@ -51,8 +51,8 @@ impl Drop for EngineView {
 }
 
 impl Engine {
-    /// A view of its contents now, as `LiveStore::view` gives it. A prepared batch isn't in it. It is refused for want of memory.
-    /// It changes nothing.
+    /// A view of the present contents, as `LiveStore::view` returns it. It doesn't show a prepared batch. Fails only if allocation
+    /// fails, and changes nothing.
     pub fn view(&mut self, alloc: Global) -> Result<EngineView, AllocError>
         ensures view { IfOk result (λ view. view ≡ viewed_in self.old) }
         ensures same { self.new ≡ self.old }

@@ -15,8 +15,8 @@ use Rattle.uc_live.specs.declared.room_error.RoomError.TheVariants.{IdsSpent, Ru
 abbrev pub next_stretch : Live → Option Stretch
 next_stretch l = jobs.next_stretch (owner_in l)
 
--- The picked stretch was compacted and installed, which is an event that may happen, and claims behind it moved up; or
--- nothing was picked, and nothing changed.
+-- The picked stretch was compacted and installed, which is an event that may happen, and claims after it moved up; or nothing was
+-- picked, and nothing changed.
 abbrev pub IsCompacted : Operation → Option Stretch → Bool → Live → Live → Type 0
 IsCompacted m None compacted old new = (compacted ≡ false) × (new ≡ old)
 IsCompacted m (Some s) compacted old new =

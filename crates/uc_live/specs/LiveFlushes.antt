@@ -25,7 +25,7 @@ FillFewer l ws =
     (memtable_size ws < l.options.store.memtable * l.options.max_write_buffer_number)
     × (count_by deletes_range ws < MOST_RANGES * l.options.max_write_buffer_number)
 
--- What is gathered does.
+-- The writes in memtables fill fewer memtables than the store may have.
 abbrev pub HasRoom : Live → Type 0
 HasRoom l = FillFewer l l.gathered
 
@@ -46,7 +46,7 @@ run task = record task { stage = run_stage task.stage }
 abbrev pub ended : FlushTask → FlushTask
 ended task = record task { stage = stages.Ended }
 
--- What was made of the writes is their run, if it was run.
+-- The run that was made is that of the writes, if the job was run.
 abbrev pub IsMadeOf : FlushTask → Option Run → Type 0
 IsMadeOf task None = task.stage ≢ stages.Run
 IsMadeOf task (Some made) = (task.stage ≡ stages.Run) × (made ≡ flushed task.writes)
@@ -70,7 +70,7 @@ flush_of l = record { number = l.flushes + 1; writes = l.gathered; stage = stage
 abbrev pub with_flush : Live → Live
 with_flush l = record l { flushes = l.flushes + 1; leaving = Some (length l.gathered) }
 
--- What is gathered is taken out as a job, if that is wanted. If not, nothing changes.
+-- The memtables are taken out as a job, if that is requested. If not, nothing changes.
 abbrev pub StartsFlush : Bool → Option FlushTask → Live → Live → Type 0
 StartsFlush false task old new = (task ≡ None) × (new ≡ old)
 StartsFlush true task old new = (task ≡ Some (flush_of old)) × (new ≡ with_flush old)
@@ -105,8 +105,8 @@ with_flushed task l =
     let owner = after_feed task.writes (owner_in l) in
     record l { version = owner.version; claims = owner.claims; gathered = drop (length task.writes) l.gathered; leaving = None }
 
--- What comes of it: its run is installed, and gets the next id; or it wasn't run; or its writes were flushed before; or
--- its run is refused. If it was out, it is out no more.
+-- The result of the job: its run is installed, and gets the next id; or it wasn't run; or its writes were flushed before; or its
+-- run can't be installed. In each case no flush job is pending any more.
 abbrev pub EndsFlush : FlushTask → Live → Live → FlushEnd → Type 0
 EndsFlush task old new (Installed id) =
     (task.stage ≡ stages.Run) × (has_flush_out old task ≡ true) × (feed_refusal old.version task.writes ≡ None)

@@ -1,4 +1,4 @@
--- What a live store holds at a moment.
+-- The contents of a live store at one point in time.
 use Rattle.std.specs.Prelude.{ℕ, List, ◌++◌}
 use Rattle.uc_bytes.specs.declared.write.Write.{Write}
 use Rattle.uc_batch.specs.Rising.{last_of}

@@ -83,11 +83,11 @@ impl<O: Operator> LiveStore<O> {
             || self.active.ranges() as u64 >= MOST_RANGES as u64 * most
     }
 
-    /// Makes a run of what is gathered. From `stop_trigger` runs on it compacts first, and if the options say so, it
-    /// compacts after that while something is picked. A batch that is prepared is given up.
+    /// Flushes the memtables. Compacts first if there are `stop_trigger` runs or more. Then, if the options say so, compacts while
+    /// anything is picked. A prepared batch is discarded.
     ///
-    /// It is refused if no id is left for a run, if no slot is free for one and jobs have the runs that would be
-    /// compacted, and for want of memory. What is gathered stays so then, and no read changes.
+    /// Fails if run IDs are exhausted, if no slot is free for a run and jobs have the runs that would be compacted, or if
+    /// allocation fails. The memtables then stay, and no read changes.
     pub fn flush(&mut self, alloc: Global) -> Result<(), RoomError>
         ensures prepares { Prepares O.meaning self.old self.new [] }
         ensures all { OnOk result (self.new.gathered ≡ []) }

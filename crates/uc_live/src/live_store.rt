@@ -70,8 +70,7 @@ fn empty_version(alloc: Global, options: &LiveOptions) -> Version
 }
 
 impl<O: Operator> LiveStore<O> {
-    /// A store without writes and without snapshots. It is refused if an option is out of its range, and for want of
-    /// memory.
+    /// A store without writes and snapshots. Fails if an option is out of range, or if allocation fails.
     pub fn create(alloc: Global, options: LiveOptions) -> Result<LiveStore<O>, LiveOpenError>
         ensures store { IfOk result (λ store. store ≡ created options) }
         ensures good { IfOk result (λ _. live_options.are_good options ≡ true) }

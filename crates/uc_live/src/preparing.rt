@@ -22,13 +22,13 @@ use uc_batch::{BatchError, BatchWrites};
 use uc_bytes::{MAX_SEQUENCE, OpKind, OpRef, WriteRef};
 use uc_oper::Operator;
 
-/// A text of a batch is shorter.
+/// Each key and value of a batch is shorter than this.
 const LENGTHS: usize = 1 << 32;
 
 /// The bytes of a batch's sequence.
 const SEQUENCE_SIZE: usize = 8;
 
-/// Whether a batch holds the operation: each of its texts is shorter than 2^32 bytes.
+/// Whether a batch can hold the operation: its key and its value are each shorter than 2^32 bytes.
 fn fits_op(op: &OpRef<'_>) -> bool
     ensures { IsTrue result ↔ FitsOp op.now }
 {
@@ -62,7 +62,7 @@ pub(crate) fn with_sequence(
     Ok(bytes)
 }
 
-/// The error of a batch that isn't read. None is told for want of memory, since nothing is allocated.
+/// The error of a batch that isn't valid. Reading it allocates nothing, so none stands for a failed allocation.
 fn unread(fault: BatchError) -> WriteError
     ensures { (read : Result (List Write) BatchError) (l : Live) → read ≡ Err fault → RefusesBatch read l result }
 {
@@ -88,12 +88,12 @@ impl<O: Operator> LiveStore<O> {
         Ok(())
     }
 
-    /// Prepares an operation as a batch of its own: it gets the sequence after the last one, and all memory that it
-    /// needs. No read sees it before [`commit`](LiveStore::commit). A batch that was prepared before is given up. If
-    /// as many memtables are full as it gathers, they are flushed first.
+    /// Prepares an operation as its own batch: it gets the sequence number after the last one, and all memory that it needs. No
+    /// read sees it before [`commit`](LiveStore::commit). A batch that was prepared before is discarded. If the store has as many
+    /// full memtables as it may have, they are flushed first.
     ///
-    /// It is refused if no sequence is left, if a text has 2^32 bytes or more, so that no batch holds it, and if there
-    /// is no room for it, as [`RoomError`] says. Nothing is prepared then, and no read changes.
+    /// Fails if no sequence number is left, if a key or value has 2^32 bytes or more, so that no batch holds it, and as
+    /// [`RoomError`] says. Nothing is prepared then, and no read changes.
     pub fn prepare(&mut self, alloc: Global, op: OpRef<'_>) -> Result<(), WriteError>
         ensures ok { OnOk result (IsPrepared O.meaning op.entry self.old self.new) }
         ensures err { IfErr result (λ error. Refuses op.entry self.old self.new error × Prepares O.meaning self.old self.new []) }

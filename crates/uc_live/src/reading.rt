@@ -37,8 +37,8 @@ impl<O: Operator> LiveStore<O> {
         last_value::<O>(alloc, self.owned.version(), &self.active, key)
     }
 
-    /// Where [`get`](LiveStore::get) finds what it answers of a key. It is refused for want of memory, and costs no more than
-    /// the lookup.
+    /// Which part of the store answers [`get`](LiveStore::get) of a key. Fails only if allocation fails, and costs no more than the
+    /// lookup.
     pub fn source(&self, alloc: Global, key: &[u8]) -> Result<LookupSource, AllocError>
         ensures { IfOk result (λ source. source ≡ source_of (seen_in self.now) key.now) }
     {

@@ -65,10 +65,10 @@ impl<O: Operator> Drop for View<O> {
 }
 
 impl<O: Operator> LiveStore<O> {
-    /// A view of its contents now. A batch that is prepared isn't in it, and stays prepared. Nothing is flushed. No run is
-    /// copied, and of what is gathered only what [`FlushableMemtables::share`] says.
+    /// A view of the present contents. It doesn't show a prepared batch, which stays prepared. Flushes nothing. Copies no run, and
+    /// of the memtables only what [`FlushableMemtables::share`] says.
     ///
-    /// It is refused for want of memory. It changes nothing.
+    /// Fails only if allocation fails, and changes nothing then.
     pub fn view(&mut self, alloc: Global) -> Result<View<O>, AllocError>
         ensures view { IfOk result (λ view. view ≡ seen_in self.old) }
         ensures same { self.new ≡ self.old }

@@ -10,7 +10,7 @@ number_in (b ∷ rest) =
     if length rest == 0 then (if nat_lt b 128 then Some b else None)
     else (if nat_lt b 128 then None else option_map (λ high. (b - 128) + 128 * high) (number_in rest))
 
--- the bound below which a number of so many bytes lies
+-- the least number that needs more than `count` bytes
 abbrev pub bound_of : ℕ → ℕ
 bound_of zero = 1
 bound_of (suc count) = 128 * bound_of count
@@ -28,7 +28,7 @@ mark_in (tag ∷ size ∷ kind ∷ rest) =
 abbrev pub mark_of : List ℕ → Option ℕ
 mark_of payload = mark_in (drop 12 payload)
 
--- the bytes of a number, at most so many after the first
+-- the bytes of a number, at most `more` after the first
 unfoldable pub number_text : ℕ → ℕ → List ℕ
 number_text zero n = n ∷ []
 number_text (suc more) n = if nat_lt n 128 then n ∷ [] else ((128 + n % 128) ∷ number_text more (n / 128))

@@ -17,7 +17,7 @@ abbrev pub chained : (ℕ → List ℕ) → Option ℕ → List ℕ
 chained go None = []
 chained go (Some next) = go next
 
--- the places in the block of one, from it on, at most so many
+-- the places in the block of one, from it on, at most as many as the number says
 unfoldable pub in_block : ℕ → List ℕ → ℕ → List ℕ
 in_block zero log place = []
 in_block (suc more) log place = place ∷ chained (in_block more log) (next_place log place)

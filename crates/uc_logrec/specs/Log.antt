@@ -1,4 +1,4 @@
--- What a log means, and the log of payloads.
+-- The meaning of a log, and the log of payloads.
 use Rattle.std.specs.Prelude.{ℕ, zero, suc, ◌+◌, ◌-◌, false, List, [], ◌∷◌, ◌++◌, length, take, drop, Option, Some, None, Result, Ok, Err, replicate, nat_le, ◌≡◌, ◌==◌, if◌then◌else◌}
 use Rattle.uc_logrec.specs.declared.fault.LogFault.TheVariants.{MiddleAlone, LastAlone, FullInside, FirstInside}
 use Rattle.uc_logrec.specs.declared.ending.Ending.{Ending}

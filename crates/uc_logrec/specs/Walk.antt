@@ -4,7 +4,7 @@ use Rattle.uc_logrec.specs.declared.ending.Ending.TheVariants.{Clean}
 use Rattle.uc_logrec.specs.Log.{payloads_of, ending_of, text_from}
 use Rattle.uc_logrec.specs.Position.{ahead_in, LiesIn}
 
--- The walk gave these payloads and led to this offset: to the start, or behind a payload more.
+-- The walk returned these payloads and led to this offset: to the start, or past one more payload.
 pub data Walks (log : List ℕ) : List (List ℕ) → ℕ → Type 0 where
   at_start : Walks log [] 0
   one_more : (payloads : List (List ℕ)) (offset : ℕ) (payload : List ℕ) (behind : ℕ) → Walks log payloads offset → LiesIn payload log offset behind → Walks log (payloads ++ payload ∷ []) behind

@@ -157,8 +157,8 @@ impl ActiveMemtable {
         let _ = &self.shown;
     }
 
-    /// Takes a write, which then waits after the others. Its sequence is above all of theirs and at most
-    /// [`MAX_SEQUENCE`](uc_bytes::MAX_SEQUENCE). It costs a copy of the texts, amortized. An `Err` changes nothing.
+    /// Appends a write, which isn't shown yet. Its sequence number is above all others and at most
+    /// [`MAX_SEQUENCE`](uc_bytes::MAX_SEQUENCE). It costs a copy of the key and value, amortized. An `Err` changes nothing.
     pub fn prepare(&mut self, write: &WriteRef<'_>) -> Result<(), AllocError>
         requires above { last_of 0 (self.old.shown ++ self.old.waiting) < write.now.seq }
         requires below { write.now.seq < 2 ^ 56 }
@@ -214,8 +214,8 @@ impl ActiveMemtable {
         }
     }
 
-    /// Takes and shows copies of the writes that another memtable shows, which lie after all of these. It costs a copy
-    /// of the texts. An `Err` changes nothing.
+    /// Appends and shows copies of the writes that another memtable shows. Their sequence numbers are above all of these. It costs
+    /// a copy of the keys and values. An `Err` changes nothing.
     pub(crate) fn take_shown(&mut self, other: &ActiveMemtable) -> Result<(), AllocError>
         requires none { self.old.waiting ≡ [] }
         requires rising { IsRising (last_of 0 self.old.shown) other.now.shown }

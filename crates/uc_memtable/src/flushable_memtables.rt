@@ -183,8 +183,8 @@ impl FlushableMemtables {
         })
     }
 
-    /// Sets all that is shown apart, and gives a share of it, which shows the same from now on. No text is copied, but of
-    /// the writes that wait. It is refused for want of memory, and changes nothing then.
+    /// Sets all shown writes apart for a flush, and returns another handle to them, which shows the same from now on. It copies no
+    /// key or value except those of prepared writes. Fails only if allocation fails, and changes nothing then.
     pub fn set_apart(&mut self, alloc: Global) -> Result<FlushableMemtables, AllocError>
         ensures shared { IfOk result (λ shared. (shared.shown ≡ self.old.shown) × (shared.waiting ≡ [])) }
         ensures ok { OnOk result (self.new ≡ record self.old { apart = length self.old.shown }) }

@@ -188,11 +188,11 @@ impl GatheredMemtables {
         self.active.clear(alloc, most);
     }
 
-    /// A share of what is shown, for other threads: it shows the same from now on, whatever is written here. Nothing
-    /// waits in it.
+    /// Another handle to what is shown, for other threads: it shows the same from now on, whatever is written here. It has no
+    /// prepared write.
     ///
-    /// Freezes the shown writes. It copies the bytes of small frozen memtables, which are joined, and of
-    /// the writes that wait. It is refused for want of memory. No write changes here.
+    /// Freezes the shown writes. It copies the bytes of small frozen memtables, which are joined, and of prepared writes. Fails
+    /// only if allocation fails. No write changes here.
     pub fn share(&mut self, alloc: Global) -> Result<GatheredMemtables, AllocError>
         ensures shared { IfOk result (λ shared. shared ≡ record { shown = self.old.shown; waiting = [] }) }
         ensures same { self.new ≡ self.old }

@@ -1,11 +1,11 @@
-//! [`Append`]: texts with a delimiter between them.
+//! [`Append`]: byte strings with a delimiter between them.
 ghost use Rattle.uc_oper.specs.Appending as appending;
 ghost use Rattle.std.specs.Prelude.{◌≡◌, IfOk, OnOk};
 
 use crate::operator::Operator;
 use std::alloc::{AllocError, Global};
 
-/// Joins texts with the byte `D` between them, as RocksDB's `StringAppendOperator` does.
+/// Joins byte strings with the byte `D` between them, as RocksDB's `StringAppendOperator` does.
 pub enum Append<const D: u8> {}
 
 /// The older text, the delimiter, then the newer text.

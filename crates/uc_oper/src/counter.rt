@@ -5,10 +5,9 @@ ghost use Rattle.std.specs.Prelude.{◌≡◌, ◌+◌, ◌%◌, ◌^◌, IfOk};
 use crate::operator::Operator;
 use std::alloc::{AllocError, Global};
 
-/// Adds numbers of 64 bits, as RocksDB's `UInt64AddOperator` does.
+/// Adds 64-bit integers, as RocksDB's `UInt64AddOperator` does.
 ///
-/// A text of 8 bytes is a number, low byte first; any other counts as 0. Sums wrap at 2^64, and
-/// every result has 8 bytes.
+/// A value of 8 bytes is an integer, low byte first; any other value counts as 0. Sums wrap at 2^64, and every result has 8 bytes.
 pub enum Counter {}
 
 /// The number that the bytes encode.

@@ -9,7 +9,7 @@ use std::cmp::Ordering;
 /// Keeps the greater text in byte order, as RocksDB's `MaxOperator` does.
 pub enum Maximum {}
 
-/// The greater of two texts.
+/// The greater of two byte strings.
 fn greater_of<'a>(older: &'a [u8], newer: &'a [u8]) -> &'a [u8]
     ensures { result.now ≡ greatest.greater_of older.now newer.now }
 {

@@ -1,17 +1,17 @@
-//! [`Tail`]: the last bytes of texts put together.
+//! [`Tail`]: the last bytes of concatenated operands.
 ghost use Rattle.uc_oper.specs.Tails as tails;
 ghost use Rattle.std.specs.Prelude.{◌≡◌, ◌≤◌, length, drop, IfOk};
 
 use crate::operator::Operator;
 use std::alloc::{AllocError, Global};
 
-/// Puts texts after one another and keeps the last `N` bytes, as a log of bounded length does. A value that was put
-/// stays whole until an operand meets it.
+/// Concatenates byte strings and keeps the last `N` bytes, as a log of bounded length does. A value that was put stays whole until
+/// it is merged with an operand.
 ///
-/// A join or a pair copies at most `N` bytes.
+/// Joining two byte strings copies at most `N` bytes.
 pub enum Tail<const N: usize> {}
 
-/// The last bytes of a text, or all if it has fewer.
+/// The last `count` bytes, or all if there are fewer.
 fn last_bytes(text: &[u8], count: usize) -> &[u8]
     ensures { result.now ≡ tails.last_bytes count text.now }
 {

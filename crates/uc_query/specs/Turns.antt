@@ -1,4 +1,4 @@
--- What a call does: its reply, and what the store and the names are then.
+-- The result of a call: its reply, and the store and the names after it.
 use Rattle.std.specs.Prelude.{◌≡◌, ◌⊎◌, IsOk, ℕ, ◌-◌, ◌^◌, ◌<◌, Bool, true, false, ⊤, List, length, Option, Some, None, Result, Ok, Err, nat_lt, if◌then◌else◌}
 use Rattle.uc_oper.specs.Operation.{Operation}
 use Rattle.uc_bytes.specs.declared.write.Write.{Write}
@@ -145,6 +145,6 @@ turn_of m s (call.Feed writes) = Ok (feed_turn s writes.list (feed_refusal s.own
 turn_of m s call.Keep = Ok (keep_turn s)
 turn_of m s (call.Release seq) = Ok (release_turn s seq (is_protected s.owner.version.keeps seq))
 
--- Why a call fails: as its turn says, or for want of memory where it has one.
+-- The error of a failed call: the one of its turn, or a failed allocation if it has a turn.
 abbrev pub FailsWith : Result Turn AskError → AskError → Type 0
 FailsWith turn error = (turn ≡ Err error) ⊎ ((error ≡ Memory) × IsOk turn)

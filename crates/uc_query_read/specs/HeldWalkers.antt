@@ -1,4 +1,4 @@
--- What is known of the cursors of several runs.
+-- Invariant of the cursors of several runs.
 use Rattle.std.specs.Prelude.{◌≡◌, IfSome, map, option_map}
 use Rattle.std.specs.List.{AllByRecursion}
 use Rattle.uc_run.specs.Cursors.{has_ranges}

@@ -51,7 +51,7 @@ pub record Draws (shares : Shares) (words : List ℕ) (drawers : List Drawer) : 
 abbrev pub Sitting : Type 0
 Sitting = Me (Unit {0}) Drawer
 
--- what the word was goes behind the list, whose numbers are all below it
+-- the word's old value is appended to the list, whose numbers are all below it
 abbrev pub Drew : Step (Unit {0}) → Sitting → ℕ → Sitting → Type 0
 Drew at before found after = (after.1 ≡ before.1) × (after.0 ≡ record { all = before.0.all; parts = before.0.parts; numbers = before.0.numbers ++ found ∷ [] }) × AllByRecursion (λ number. number < found) before.0.numbers
 

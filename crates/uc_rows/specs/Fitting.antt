@@ -1,4 +1,4 @@
--- The rows that fit into so many bytes.
+-- The rows that fit into a buffer.
 use Rattle.std.specs.Prelude.{◌≡◌, ◌⊎◌, ℕ, ◌+◌, ◌<◌, ◌≤◌, List, length, take}
 use Rattle.uc_rows.specs.RowBytes.{Row, rows_bytes}
 

@@ -12,7 +12,7 @@ pub record NextKeys : Type 0 where
   pub front : List ℕ
   pub keys : List (Option (List ℕ))
 
--- A number that doesn't fall as keys rise. It tells keys apart that begin with the front and differ in the eight bytes behind it.
+-- A number that doesn't fall as keys rise. It distinguishes keys that begin with the front and differ in the eight bytes after it.
 abbrev pub number_of : List ℕ → List ℕ → ℕ
 number_of front key =
     if same_bytes (take (length front) key) front

@@ -1,4 +1,4 @@
--- What a point says of its key, as a tag with a text.
+-- The operation of a point on its key, as a tag with a byte string.
 use Rattle.std.specs.Prelude.{ℕ, suc, zero, List}
 use Rattle.uc_run_entry.specs.declared.entry.What.{What}
 use Rattle.uc_run_entry.specs.declared.entry.What.TheVariants as what

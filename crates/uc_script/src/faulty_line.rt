@@ -53,7 +53,7 @@ fn takes_writes(line: &[u8]) -> bool
     line == b"open".as_slice() || line == b"feed".as_slice()
 }
 
-/// Whether a text leaves writes that no later line takes.
+/// Whether a script has writes at its end that no later line feeds.
 fn leaves_writes(text: &[u8]) -> bool
     ensures { result ≡ leaves explanations.begins_write explanations.takes_writes (lines_of text.now) }
 {
@@ -67,7 +67,7 @@ fn leaves_writes(text: &[u8]) -> bool
     is_left
 }
 
-/// The explanation if the line of this number is missing in a text: nothing after an `open` if no write is left there.
+/// The explanation if `text` has no line of this number: nothing after an `open` if no write is left to feed.
 fn missing(part: Part, number: u64, text: &[u8]) -> Option<Explanation>
     ensures { option_map explanation_text result ≡ explanations.missing part number
         (leaves explanations.begins_write explanations.takes_writes (lines_of text.now)) }
@@ -89,7 +89,7 @@ fn lacks_its_end(part: Part, line: &[u8], others: &[u8], is_ended: bool) -> bool
     part == Part::Head && line == b"log".as_slice() && others.is_empty() && !is_ended
 }
 
-/// The fault of a line before these others, in a text that ends with LF or doesn't.
+/// The fault of a line before these others, whether `text` ends with LF or not.
 fn fault_before(
     alloc: Global,
     part: Part,
@@ -106,11 +106,11 @@ fn fault_before(
     line_fault(alloc, part, line)
 }
 
-/// The explanation of the line of this number, from 1, in a text of this kind: what is there, what is wrong with it and
-/// what may be there, or that it is missing. It is `None` if nothing is wrong with that line, which is never so for a
-/// number from [`read_script`](crate::read_script) or [`read_head`](crate::read_head).
+/// Explains the line of this number, counted from 1, in bytes of this kind: what it contains, what is wrong with it and what is
+/// allowed there, or that it is missing. It is `None` if nothing is wrong with that line, which never holds for a number from
+/// [`read_script`](crate::read_script) or [`read_head`](crate::read_head).
 ///
-/// It goes once through the lines up to that one, and once more through all if it is missing.
+/// It reads the lines up to that one once, and all lines once more if it is missing.
 #[tactic(auto, unfolding(crate::specs::Explanations::explanation_of))]
 pub fn explain(
     alloc: Global,

@@ -32,13 +32,13 @@ pub fn a_head_is_its_lines()
     ensures alone { (text : List ℕ) (outcome : Result Head ℕ) → heads.ComesTo text outcome → outcome ≡ head_of text }
 {}
 
-/// A head that is read in the front of a text is the head of the whole text.
+/// A head that is read at the front of some bytes is still the head if more bytes follow.
 pub fn what_follows_a_head_changes_nothing()
     ensures { (text more : List ℕ) (said : Head) → head_of text ≡ Ok said → head_of (text ++ more) ≡ Ok said }
 {}
 
-/// A script names at most as many changes as it has bytes, and each of their texts is no longer than it. So it is of those
-/// before its `open`, and of these and those that it feeds together.
+/// A script has at most as many changes as bytes, and none of their keys and values is longer than the script. So it is of the
+/// changes before its `open`, and of these and those that it feeds together.
 pub fn a_script_names_no_more_than_it_has()
     ensures opened { (text : List ℕ) (script : Script) → script_of text ≡ Ok script
         → AreNoLonger (length text) script.ops }

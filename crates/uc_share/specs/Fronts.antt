@@ -1,4 +1,4 @@
--- What is shown to readers, and the history that leads to it.
+-- The version that readers see, and the history that leads to it.
 use Rattle.std.specs.Prelude.{◌≡◌, ℕ, ◌<◌, ◌≤◌, Bool, true, List, [], ◌∷◌, ◌++◌, length, fold}
 use mathlib.Core.Option.{some}
 use lib.ListN.{get_elem?}

@@ -1,4 +1,4 @@
--- What a store that threads share is to a contract, and how it is opened.
+-- A store that threads share, as a contract sees it, and its opening.
 use Rattle.std.specs.Prelude.{◌≡◌, ℕ, Bool, ◌&&◌, [], Option, Some, nat_lt, nat_le, if◌then◌else◌}
 use Rattle.atomic_table.specs.Seated.{TableId}
 use Rattle.logbook.specs.Pages.{Book}

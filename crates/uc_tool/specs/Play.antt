@@ -1,4 +1,4 @@
--- What a script's run prints.
+-- The output of a script's run.
 use Rattle.std.specs.Prelude.{ℕ, ◌+◌, ⊤, List, [], ◌∷◌, length, codes, Option, Some, None, Result, Ok, Err}
 use Rattle.uc_oper.specs.Operation.{Operation}
 use Rattle.uc_batch.specs.Batch.{numbered}

@@ -1,4 +1,4 @@
--- What the report on a log prints.
+-- The output of the report on a log.
 use Rattle.std.specs.Prelude.{ℕ, zero, suc, List, [], ◌∷◌, ◌++◌, length, Option, Some, None, if◌then◌else◌}
 use Rattle.uc_oper.specs.Operation.{Operation}
 use Rattle.uc_bytes.specs.declared.write.Write.{Write}
@@ -55,8 +55,8 @@ after_pick m o (Some stretch) others =
 abbrev pub pick_of : Owner → Option Stretch
 pick_of o = picked o.options (candidates_of o.version (is_busy o))
 
--- As long as something is picked it is compacted, at most so many times. Each compaction leaves fewer runs, so that their
--- number is enough.
+-- Compacts as long as something is picked, at most as often as the number says. Each compaction leaves fewer runs, so their number
+-- is enough.
 abbrev pub compactions : Operation → ℕ → Owner → Compactions
 compactions m zero o = no_more o
 compactions m (suc n) o = after_pick m o (pick_of o) (λ next. compactions m n next)

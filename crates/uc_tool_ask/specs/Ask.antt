@@ -1,4 +1,4 @@
--- What is printed for the queries in front of a log.
+-- The output for the queries in front of a log.
 use Rattle.std.specs.Prelude.{ℕ, ◌-◌, List, map, drop, take, length, codes, Option, Some, None, Result, Ok, Err}
 use Rattle.uc_oper.specs.Operation.{Operation}
 use Rattle.uc_bytes.specs.declared.write.Write.{Write}
@@ -61,12 +61,12 @@ without_last later writes = take (length writes - later) writes
 abbrev pub of_log : Operation → Options → List ℕ → List Asked → ℕ → WriteLog → Output
 of_log m options keeps queries later log = unless_faulty m options keeps queries (without_last later log.list) log.ended
 
--- the first fault of the head, or what is printed of the log behind it
+-- the first fault of the head, or the output for the log after it
 abbrev pub asked_of : Operation → Options → ℕ → List ℕ → Result Head ℕ → Output
 asked_of m options later input (Err line) = refused (numbered_line (codes "fault line ") line)
 asked_of m options later input (Ok head) = of_log m options head.keeps head.queries later (log_writes (drop head.size input))
 
--- what is printed for the bytes of a head and a log, under an operator and options, where so many of the log's last writes come later
+-- the output for the bytes of a head and a log, under an operator and options, where the log's last `later` writes come later
 abbrev pub ask_of : Operation → Options → ℕ → List ℕ → Output
 ask_of m options later input = asked_of m options later input (head_of input)
 
@@ -74,7 +74,7 @@ ask_of m options later input = asked_of m options later input (head_of input)
 abbrev pub opened_cause : Options → List ℕ → ℕ → WriteLog → Option Cause
 opened_cause options keeps later log = log_cause options keeps (record log { list = without_last later log.list })
 
--- what refuses a head and the log behind it, by what is read of the head
+-- the cause that rejects a head and the log after it, by what is read of the head
 abbrev pub head_cause : Options → ℕ → List ℕ → Result Head ℕ → Option Cause
 head_cause options later input (Err line) = Some (AtLine source.Head input line)
 head_cause options later input (Ok head) = opened_cause options head.keeps later (log_writes (drop head.size input))

@@ -321,22 +321,20 @@ pub fn ask_through<O: Operator + Send + Sync, R: Read, W: Write, G: TurnGate>(
 }
 
 /// Answers the queries in front of a log: reads all of the input, checks its head, opens a store from the log after that, and
-/// prints the answers in the order of the queries. `workers` threads answer pieces of `piece` queries, from the versions that are
-/// shown meanwhile, while `compactors` threads compact what universal compaction picks, each until nothing is picked, an
-/// allocation fails, or it took 256 turns. The store opens without the log's last `later` writes: without all, where there are
-/// fewer. One thread more feeds them to it meanwhile, one by one, until one is refused. All threads have ended when it returns,
-/// which says what they did to the store.
+/// prints the answers in the order of the queries. `workers` threads answer pieces of `piece` queries, from the current versions,
+/// while `compactors` threads compact what universal compaction picks, each until nothing is picked, an allocation fails, or it
+/// took 256 turns. The store opens without the log's last `later` writes, or without any if there are fewer. One more thread feeds
+/// these while the queries run, one by one, until one fails. All threads have ended when it returns.
 ///
-/// It writes the text of `ask_of`, a function of the bytes that were read, the operator's meaning, the options and
-/// `later`: not of workers, pieces or compactors, nor of how many writes were fed and when. It is the text of the log without
-/// its last `later` writes, but a fault anywhere in the log is told. A fault of the head is refused with the line that it stands
-/// in, then a log with a fault, and then an opening. If an allocation fails it is some whole first replies of that text, and then
-/// `out of memory`; if the reader or the writer fails, or the input is longer than 64 MiB, it is a front of a text that says so or
-/// of that one. A head or an opening that is refused has a reason.
+/// It writes `ask_of`, a function of the bytes that were read, the operator's meaning, the options and `later`. The output doesn't
+/// depend on workers, pieces or compactors, nor on the number of writes that were fed and when. It is the output for the log
+/// without its last `later` writes, except that a fault anywhere in the log is reported. Faults are checked in this order: the
+/// head, with the number of its line, the log, the opening. If allocation fails, it writes some first replies whole, and then `out
+/// of memory`. If the reader or the writer fails, or the input is longer than 64 MiB, it writes a prefix of these replies or of the
+/// error message. A head or an opening that fails has a reason.
 ///
-/// If `later` is 0 it goes once over the log. It holds the log in pieces, and lets go of each as soon as the store has its
-/// writes. Else it goes twice over the log in one piece, and then holds the last writes beside the store. In both cases it holds
-/// the head's bytes too.
+/// If `later` is 0, it reads the log once, in pieces, and frees each piece as soon as the store has its writes. Otherwise it reads
+/// the log twice, in one piece, and then holds the last writes as well as the store. In both cases it holds the head's bytes too.
 ///
 /// [`is_plan`](crate::is_plan) says which numbers go together.
 pub fn ask<O: Operator + Send + Sync, R: Read, W: Write>(

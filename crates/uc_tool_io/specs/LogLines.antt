@@ -22,7 +22,7 @@ op_words kind.Delete = codes " delete "
 op_words kind.Merge = codes " merge "
 op_words kind.DeleteRange = codes " range "
 
--- what a change does, and to which texts
+-- the kind of a change, its key and its value
 abbrev pub op_text : Op → List ℕ
 op_text (Put key value) = op_words kind.Put ++ hex_text key ++ 32 ∷ hex_text value
 op_text (Delete key) = op_words kind.Delete ++ hex_text key

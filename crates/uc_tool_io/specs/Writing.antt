@@ -1,4 +1,4 @@
--- What a writer holds after a write that may have failed.
+-- The contents of a writer after a write that may have failed.
 use Rattle.std.specs.Prelude.{◌≡◌, ℕ, List, ◌++◌, Option}
 use Rattle.std.specs.Io.KnownBytes.{Appends}
 

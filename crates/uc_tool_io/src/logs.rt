@@ -24,7 +24,7 @@ fn op_words(kind: OpKind) -> &'static [u8]
     }
 }
 
-/// Appends what a change does, and to which texts.
+/// Appends the kind of a change, its key and its value.
 fn push_op(out: &mut Vec<u8>, op: &OpRef<'_>) -> Result<(), AllocError>
     ensures { OnOk result (out.new.items ≡ out.old.items ++ op_text op.now) }
 {

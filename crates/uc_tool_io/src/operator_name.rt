@@ -15,11 +15,11 @@ pub const OPERATORS: usize = 4;
 pub enum OperatorName {
     /// `counter`: sums of 64-bit numbers.
     Counter,
-    /// `append`: texts joined by commas.
+    /// `append`: byte strings joined by commas.
     Append,
     /// `maximum`: the greater text.
     Maximum,
-    /// `tail`: the last bytes of all texts.
+    /// `tail`: the last bytes of all operands.
     Tail,
 }
 

@@ -1,4 +1,4 @@
--- What stands against an opening that is refused.
+-- The fault of an opening that failed.
 use Rattle.std.specs.Prelude.{nat_lt, ◌||◌, Option, Some, None, if◌then◌else◌}
 use Rattle.uc_version_state.specs.declared.options.Options.{Options}
 use Rattle.uc_version_state.specs.declared.options.TheConstants.{GREATEST_FIRST_ID}

@@ -14,8 +14,8 @@ use Rattle.uc_tool_opening.specs.Faults.{fault_of_opening}
 use Rattle.uc_tool_opening.specs.declared.reason.Reason.{Reason}
 use Rattle.uc_tool_opening.specs.declared.reason.Reason.TheVariants as reason
 
--- What a run is refused for, where more can be said of it than its line says: the line of this number, from 1, of a text, or an
--- opening under these options.
+-- The cause why a run is rejected, if more can be said of it than its line says: the line of this number, from 1, in some input, or
+-- an opening under these options.
 pub data Cause : Type 0 where
   AtLine : Source → List ℕ → ℕ → Cause
   AtOpening : OpenError → Options → Cause
@@ -28,8 +28,8 @@ Explains (Some (AtLine source text number)) (reason.Opening fault) = ⊥
 Explains (Some (AtOpening error options)) (reason.Line said) = ⊥
 Explains (Some (AtOpening error options)) (reason.Opening fault) = fault_of_opening error options ≡ Some fault
 
--- What a reader is told of a run with this cause, or with none: the cause's own reason, or nothing. Where there is no cause it is
--- nothing; where there is one, want of memory may keep it back.
+-- The reason that is printed for a run with this cause, or with none. Without a cause there is no reason. With a cause there may be
+-- none if allocation fails.
 abbrev pub IsReason : Option Cause → Option Reason → Type 0
 IsReason cause told = IfSome told (Explains cause)
 

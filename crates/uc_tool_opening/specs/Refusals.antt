@@ -1,4 +1,4 @@
--- What is printed where no store is opened.
+-- The output if no store is opened.
 use Rattle.std.specs.Prelude.{ℕ, List, [], ◌∷◌, codes}
 use Rattle.uc_batch.specs.declared.ended.Ended.{Ended}
 use Rattle.uc_version_open.specs.declared.open_error.OpenError.{OpenError}

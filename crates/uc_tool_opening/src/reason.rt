@@ -22,7 +22,7 @@ pub enum Reason {
     Opening(OpeningFault),
 }
 
-/// Why a text of this kind is refused whose first line at fault has this number. It is `None` if an allocation fails.
+/// The reason why input of this kind is rejected, whose first faulty line has this number. It is `None` if allocation fails.
 pub fn reason_of_line(alloc: Global, source: Source, text: &[u8], number: u64) -> Option<Reason>
     ensures { IsReason (Some (AtLine source text.now number)) result }
 {

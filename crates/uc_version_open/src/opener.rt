@@ -111,10 +111,10 @@ impl Opener {
         self.last
     }
 
-    /// Takes the next write of the log. Its sequence is above all before it and at most
-    /// [`MAX_SEQUENCE`](uc_bytes::MAX_SEQUENCE). It costs a copy of the texts, amortized, and the flush of a memtable
-    /// if that is full, or of several if these workers flush several at once. An `Err` takes nothing. Runs that were made stay
-    /// where they stand, unless the store can't open any more.
+    /// Takes the next write of the log. Its sequence number is above all before it and at most
+    /// [`MAX_SEQUENCE`](uc_bytes::MAX_SEQUENCE). It costs a copy of the key and value, amortized, and the flush of a memtable if
+    /// that is full, or of several if these workers flush several at once. An `Err` takes nothing. Runs that were made stay, unless
+    /// the store can't open any more.
     pub fn insert<W: Workers>(
         &mut self,
         workers: &W,

@@ -69,8 +69,8 @@ pub fn recover<W: Workers>(
     recover_batches(workers, alloc, batches, options)
 }
 
-/// As [`recover`], of a log in pieces. Each is let go of when its batches were read, so what is left of the log grows smaller while
-/// the store grows.
+/// As [`recover`], of a log in pieces. Each is freed once its batches are read, so the rest of the log shrinks while the store
+/// grows.
 pub fn recover_pieces<W: Workers>(
     workers: &W,
     alloc: Global,

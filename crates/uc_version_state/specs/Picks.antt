@@ -83,7 +83,7 @@ abbrev pub number_of_runs : Options → List Candidate → Option Stretch
 number_of_runs o runs =
     if nat_lt o.trigger (length runs) then first_picked (unclaimed_at_most (min (length runs - o.trigger + 1) o.greatest)) 0 runs else None
 
--- What is compacted next: nothing below the trigger, otherwise the pick of the first rule that picks any.
+-- The stretch that is compacted next: none below the trigger, otherwise the pick of the first rule that picks any.
 abbrev pub picked : Options → List Candidate → Option Stretch
 picked o runs =
     if nat_lt (length runs) o.trigger then None

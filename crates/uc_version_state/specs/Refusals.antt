@@ -1,4 +1,4 @@
--- What refuses an install.
+-- Reasons why an install is rejected.
 use Rattle.std.specs.Prelude.{◌≡◌, ℕ, Bool, not, ◌&&◌, ◌==◌, List, [], ◌∷◌, Option, Some, None, nat_lt, if◌then◌else◌}
 use Rattle.std.specs.List.{list_any}
 use Rattle.uc_oper.specs.Operation.{Operation}
