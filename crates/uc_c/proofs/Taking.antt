@@ -27,7 +27,7 @@ AreRead ops = (at : ℕ) → at + length ops < 2 ^ 56 → batch_of at (numbered_
 abbrev pub AreReadSo : List Op → Type 0
 AreReadSo ops = (at : ℕ) (writes : List Write) → batch_of at (numbered_text (at + 1) ops) ≡ Ok writes → (writes ≡ numbered (at + 1) ops) × (0 < length ops → at + length ops < 2 ^ 56)
 
--- the batch without a sequence gets the one behind the last
+-- the batch without a sequence number gets the one after the last
 next_is : (at : ℕ) (bytes : List ℕ) (ops : List Op) → bytes ≡ batch_text 0 ops → next_batch at bytes ≡ batch_of at (numbered_text (at + 1) ops)
 next_is at bytes ops text = ap (next_batch at) text
 

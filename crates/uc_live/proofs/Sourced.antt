@@ -1,4 +1,4 @@
--- What a place where a lookup is answered tells of the writes.
+-- Facts about the writes that follow from the source of a lookup.
 use Rattle.std.proofs.Common.{◌≡◌, ◌≢◌, ℕ, ◌≤◌, Bool, true, false, cond, ◌&&◌, leb, List, [], ◌∷◌, filter, map, refl, sym, ap, ◌∙◌}
 use Rattle.std.specs.Prelude.{◌||◌, ◌↔◌, IsTrue, IsPermutation, if◌then◌else◌}
 use Rattle.std.specs.List.{AllByRecursion, list_any, flat_map}

@@ -1,4 +1,4 @@
--- What a live store has taken, and what it answers.
+-- The writes that a live store has taken, and its answers.
 use Rattle.std.proofs.Common.{◌≡◌, ℕ, ◌+◌, ◌*◌, ◌<◌, ◌≤◌, Bool, true, false, ◌&&◌, List, [], ◌∷◌, ◌++◌, length, take, fold, Option, ◌⊎◌, append_assoc, refl, sym, ap, ◌∙◌, subst, arith}
 use Rattle.std.specs.Prelude.{Contains, if◌then◌else◌, nat_le, count_by, reverse}
 use Rattle.std.specs.List.{flat_map}

@@ -14,7 +14,7 @@ use Rattle.uc_logrec.specs.Grammar.{LogRecord, next_place, place_behind, Group, 
 
 -- ---- a run of the reader over records
 
--- the complete payloads so far, the one that is open, and the place behind the records
+-- the complete payloads read up to now, the one that is open, and the place after the records
 pub record State : Type 0 where
   pub front : List (List ℕ)
   pub fragments : Option Fragments
@@ -187,7 +187,7 @@ empty_firsts-push : (count : ℕ) (records : List LogRecord) → empty_firsts co
 empty_firsts-push zero records = refl
 empty_firsts-push (suc count) records = ap (λ (rs : List LogRecord). (First, []) ∷ rs) (empty_firsts-push count records)
 
--- with a LAST behind them
+-- with a LAST after them
 with_last : (groups : List Group) (count : ℕ) (first : List ℕ) (middles : List (List ℕ)) (last : List ℕ)
     → records_of groups (Some (record { dropped = count; first = first; middles = middles })) ++ (Last, last) ∷ [] ≡ records_of (groups ++ Pieces count first middles last ∷ []) None
 with_last groups count first middles last =
@@ -206,7 +206,7 @@ with_middle groups count first middles middle =
     ∙ (ap (λ (rs : List LogRecord). sentence groups ++ rs) (append_assoc es begun_ones ((Middle, middle) ∷ []))
     ∙ ap (λ (rs : List LogRecord). sentence groups ++ (es ++ (First, first) ∷ rs)) (sym (map-append (λ (fragment : List ℕ). let r : LogRecord = (Middle, fragment) in r) middles (middle ∷ []))))
 
--- behind an E
+-- after an E
 with_empty : (groups : List Group) (count : ℕ) (found : LogRecord)
     → records_of groups (Some (record { dropped = count; first = []; middles = [] })) ++ found ∷ [] ≡ sentence groups ++ (empty_firsts (suc count) ++ found ∷ [])
 with_empty groups count found =

@@ -133,7 +133,7 @@ left_there rest found left text = ap (λ (r : List ℕ). drop (length found.1) (
 
 -- ---- one record at most stands at a place
 
--- a record, and what is left behind it
+-- a record, and what is left after it
 abbrev Found : Type 0
 Found = Kind × List ℕ × List ℕ
 

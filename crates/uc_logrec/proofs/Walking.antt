@@ -66,7 +66,7 @@ nothing_past log offset le = ap (ahead_at offset) (drop_all offset log le) ∙ n
 
 -- ---- a payload that is added to it
 
--- a text that is read whatever follows lies in the log
+-- bytes that are read the same whatever follows are in the log
 lies_there : (payload log : List ℕ) (offset behind : ℕ) → offset < behind → behind ≤ length log → IsTextOf payload offset (between offset behind log) behind → LiesIn payload log offset behind
 lies_there payload log offset behind lt le alone =
     let sum : offset + (behind - offset) ≡ behind = omega (arith, lt) in

@@ -30,7 +30,7 @@ rising_from ms i h =
     subst (λ (ns : List (List Write)). IsRising 0 (all_of ns)) (sym (all_from ms i))
     (rising_alone 0 (all_of (take i ms)) (all_of (drop i ms)) (subst (IsRising 0) (all_of-split ms i) h))
 
--- the one at a place rises behind those before it
+-- the one at a place rises after those before it
 pub rising_at : (ms : List (List Write)) (i : ℕ) (ws : List Write) → i < length ms → ws ≡ get_or ms i ws → IsRising 0 (all_of ms) → IsRising (last_of 0 (all_of (take i ms))) ws
 rising_at ms i ws lt e h =
     let rest : drop i ms ≡ ws ∷ drop (i + 1) ms = drop_more ms i ws lt ∙ ap (λ (us : List Write). us ∷ drop (i + 1) ms) (sym e) in

@@ -1,4 +1,4 @@
--- Where the cursors of a walk stand: before the least key, and behind it once it was passed.
+-- The positions of the cursors of a walk: before the least key, and after it once it was passed.
 use Rattle.std.proofs.Common.{◌≡◌, ℕ, suc, ◌<◌, ◌≤◌, max, Bool, true, false, cond, List, [], ◌∷◌, ◌++◌, map, take, drop, filter, length, get_or, Option, Some, None, refl, sym, ap, ◌∙◌, subst, arith}
 use Rattle.std.specs.List.{AllByRecursion}
 use Rattle.std.specs.declared.cmp.Ordering.{Ordering}
@@ -85,7 +85,7 @@ module _ (low : List ℕ) (strict : Bool) (key : List ℕ) (fresh : is_passed lo
     before_it cs h.1 (all-back IsFrom c.run.points (points_of (runs_of cs)) from),
   )
 
--- ---- and behind it once it was passed
+-- ---- and after it once it was passed
 
 module _ (key : List ℕ) where
   further : (ps : List Entry) → seek_place ps key false ≤ seek_place ps key true

@@ -22,7 +22,7 @@ module _ {A B : Type 0} where
   some_tells P F tells (x ∷ xs) (y ∷ ys) (inl here) = tells x y here
   some_tells P F tells (x ∷ xs) (y ∷ ys) (inr behind) = some_tells P F tells xs ys behind
 
-  -- ---- lists behind lists
+  -- ---- concatenated lists
   module _ (R : A → B → Type 0) where
     pub all_append : (xs more : List A) (ys given : List B) → AllZip R xs ys → AllZip R more given → AllZip R (xs ++ more) (ys ++ given)
     all_append [] more [] given all others = others

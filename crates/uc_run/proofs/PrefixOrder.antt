@@ -33,7 +33,7 @@ is_number (a ∷ b ∷ c ∷ d ∷ e ∷ f ∷ []) = omega arith
 is_number (a ∷ b ∷ c ∷ d ∷ e ∷ f ∷ g ∷ []) = omega arith
 is_number (a ∷ b ∷ c ∷ d ∷ e ∷ f ∷ g ∷ h ∷ rest) = omega arith
 
--- the bytes behind the eighth don't count
+-- the bytes after the eighth don't count
 pub prefix_of-take : (xs : List ℕ) → prefix_of (take 8 xs) ≡ prefix_of xs
 prefix_of-take [] = refl
 prefix_of-take (a ∷ []) = refl

@@ -99,7 +99,7 @@ pub record IsRanked (shared bits high : ℕ) (p : Entry) : Type 0 where
   pub prefix : high ≡ high_in bits (prefix_of (drop shared p.key))
   pub bytes : AreBytes (drop shared p.key)
 
--- where two keys have a front, what is behind it decides
+-- if two keys have a front, the bytes after it decide
 behind : (shared : ℕ) (first xs ys : List ℕ) → HasFront shared first xs → HasFront shared first ys → bytes_cmp xs ys ≡ bytes_cmp (drop shared xs) (drop shared ys)
 behind shared first xs ys h k =
     let front : List ℕ = take shared first in
@@ -225,7 +225,7 @@ module _ (writes : List Write) (bits i : ℕ) (w : Write) (fits : length writes 
   number_missing b before failed told known =
       part_missing part writes i w (points_of writes bits before) is (told ∙ ap (λ t. cond t (Some (entry_in w)) None) failed) known
 
--- what holds of all points holds of those in front and of those behind them
+-- a fact of all points holds of those in front and of those after them
 pub all_front : (P : Entry → Type 0) (ps qs : List Entry) → AllByRecursion P (ps ++ qs) → AllByRecursion P ps
 all_front P [] qs h = tt
 all_front P (p ∷ ps) qs h = (h.0, all_front P ps qs h.1)

@@ -24,13 +24,13 @@ pub struct Head<'a> {
     pub number: u64,
 }
 
-/// The next key of each of several walks in order of key, or none where a walk is at its end. A contract sees them as
-/// that, beside a front that most of them begin with.
+/// The next key of each of several cursors, in order of key, or none where a cursor is at its end. A contract sees these keys, and
+/// a front with which most of them begin.
 #[derive(Drop)]
 pub struct Heads<'a> {
     front: &'a [u8],
     keys: Vec<Option<&'a [u8]>>,
-    /// The first eight bytes of each key as a number: keys are compared only where numbers are equal.
+    /// The number of each key, as [`Head`] has it: keys are compared only where numbers are equal.
     numbers: NumberBlocks,
 }
 

@@ -87,7 +87,7 @@ fault_none (Some k) t n e = absurd (some_none k e)
 fault_none None true n e = absurd (some_none n e)
 fault_none None false n e = refl
 
--- a text is as short by what is behind its first line
+-- the bytes after the first line are fewer by its length and its LF
 short-next : (left : ℕ) (line : List ℕ) (lines : List (List ℕ)) → ltb left (length (bytes_of (line ∷ lines)) + 4) ≡ ltb (left - (length line + 1)) (length (bytes_of lines) + 4)
 short-next left line lines =
     let size = size-next line lines in

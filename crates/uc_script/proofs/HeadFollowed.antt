@@ -1,4 +1,4 @@
--- A head that is read, whatever stands behind it.
+-- A head that is read, whatever comes after it.
 use Rattle.std.proofs.Common.{◌≡◌, ℕ, List, ◌∷◌, ◌++◌, Result, Ok, codes, sym, ◌∙◌, ap, append_assoc}
 use Rattle.uc_script.specs.Head.{Head, bytes_of, head_of}
 use Rattle.uc_script.specs.HeadCases.{ComesTo, asks, no_line, no_log, no_end}

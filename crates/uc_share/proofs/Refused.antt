@@ -1,4 +1,4 @@
--- What a version's refusal shows of an install.
+-- Facts about an install that follow from a version's refusal.
 use Rattle.std.proofs.Common.{◌≡◌, ◌≢◌, List, refl, sym, subst}
 use Rattle.uc_compact.specs.Inputs.{Compaction}
 use Rattle.uc_version_state.specs.Versions.{PlacedRun, Stored, contents_of, ids_of}

@@ -1,4 +1,4 @@
--- What comes of a turn, by what its steps came to.
+-- The result of a turn, by the results of its steps.
 use Rattle.std.proofs.Common.{◌≡◌, ◌≢◌, Bool, List, length, fold, refl, sym, subst}
 use Rattle.std.specs.Prelude.{Option, Some, None, Result, Ok, Err, IfOk, IfErr, OnOk}
 use mathlib.Core.List.{IsPrefix}

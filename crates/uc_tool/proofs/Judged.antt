@@ -1,4 +1,4 @@
--- What is known of a script that was judged, by the laws on scripts.
+-- Facts of a validated script, by the laws on scripts.
 use Rattle.std.proofs.Common.{◌≡◌, ℕ, ◌+◌, ◌^◌, ◌≤◌, List, [], ◌∷◌, ◌++◌, All, Result, Ok, Err, length, drop, length-append, arith}
 use Rattle.std.specs.Prelude.{IfOk}
 use Rattle.std.specs.List.{AllByRecursion, flat_map}

@@ -1,4 +1,4 @@
--- What is told of what was read is told of what the reader gives.
+-- The reason for the input that was read is the reason for what the reader returns.
 use Rattle.std.proofs.Common.{◌≡◌, ℕ, ◌≤◌, List, Option, Some, None, Result, Ok, Err, length, refl, subst, inl, inr}
 use Rattle.std.specs.Prelude.{◌≢◌, IfSome, IfNone, OnOk}
 use Rattle.std.specs.Option.{option_flatten}

@@ -1,4 +1,4 @@
--- What claims, abandons and installs leave is an owner's.
+-- Claims, abandons and installs keep the invariant of an owner.
 use Rattle.std.proofs.Common.{◌≡◌, ℕ, ◌+◌, ◌<◌, ◌≤◌, ◌≢◌, Bool, true, false, cond, eqb, ltb, ◌&&◌, List, [], ◌∷◌, length, get_or, refl, sym, ap, ◌∙◌, subst, eq-eqb, get_or-set_same, arith}
 use Rattle.std.specs.Prelude.{Option, Some, None, Contains, option_map}
 use Rattle.std.specs.Option.{option_or}

@@ -1,4 +1,4 @@
--- Runs that stand among others, behind so many.
+-- Runs among others, at a given place.
 use Rattle.std.proofs.Common.{◌≡◌, ℕ, List, [], ◌∷◌, ◌++◌, length, Some, None, Option, refl, sym, ap, ◌∙◌, append_assoc, Bool, true, false, cond, map, arith}
 use Rattle.std.proofs.lemmas.List.{map-append, append-nil}
 use Rattle.uc_bytes.specs.declared.write.Write.{Write}
@@ -8,7 +8,7 @@ use Rattle.uc_version_open.specs.Lending.{StandsAt, StandsIn}
 use Rattle.uc_version_open.specs.Progress.{Flushing}
 use Rattle.uc_version_open.specs.Steps.{is_full, is_spent, begun, grown, with_write, held_with}
 
--- more runs behind
+-- more runs after them
 stands_before : (place : ℕ) (part whole more : List Contents) → StandsAt place part whole → StandsAt place part (whole ++ more)
 stands_before place part whole more s = record {
   before = s.before;
