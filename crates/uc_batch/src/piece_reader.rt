@@ -11,7 +11,7 @@ use crate::{Advance, BatchWrites, Ended, Header, judge_batch};
 use std::alloc::{AllocError, Global};
 use std::marker::Model;
 
-/// A batch that was judged, or how far the log was read.
+/// A validated batch, or how far the log was read.
 #[derive(Clone, Copy)]
 pub(crate) enum Found {
     Batch(Payload, Header),
@@ -111,7 +111,7 @@ impl PieceReader {
     }
 }
 
-/// Judges the next payload, if there is one.
+/// Validates the next payload, if there is one.
 fn find_batch(log: &mut PayloadReader, joined: &mut Vec<u8>, last: u64) -> Result<Found, AllocError>
     ensures ok { IfOk result (λ found. Finds found joined.new.items last log.old log.new) }
     ensures err { OnErr result (log.new.log ≡ log.old.log) }

@@ -71,8 +71,8 @@ impl Unread {
         self.at += left;
     }
 
-    /// Goes on to a larger piece: the bytes that are left of this one, and pieces after them, so that it has four times as many.
-    /// If none are left, the next piece is taken as it is. Returns `false` if there is none.
+    /// Replaces the piece by a larger one: the bytes that are left of this one, and pieces after them, so that it has four times as
+    /// many. If none are left, the next piece is taken as it is. Returns `false` if there is none.
     ///
     /// After an `Err` the bytes that are ahead are the same.
     pub(crate) fn enlarge(&mut self, alloc: Global) -> Result<bool, AllocError>

@@ -85,7 +85,7 @@ pub extern "C" fn ucstore_checkpoint_next(
     }
 }
 
-/// Tells of a piece of this many bytes that was to go into a room of this many, or that no row was left.
+/// Stores the size of a piece for a buffer of this size, or that no row was left.
 fn tell(laid: Option<usize>, room: usize, size: &mut usize, done: &mut bool) -> i32
     ensures tells { TellsPiece result laid room size.new done.new }
     ensures untold { (result ≡ OK) ⊎ ((result ≡ ROOM) × (done.new ≡ done.old)) }

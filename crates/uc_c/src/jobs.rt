@@ -167,7 +167,7 @@ fn end_held(alloc: Global, handle: &mut Handle, job: &mut StoreJob, installed: &
     }
 }
 
-/// Ends a job that hasn't ended. Tells whether its run was installed, or nothing if it was taken from another store.
+/// Ends a job that hasn't ended. Returns whether its run was installed, or `None` if it was taken from another store.
 fn end(alloc: Global, engine: &mut Engine, job: &mut StoreJob) -> Option<bool>
     requires lasts { ¬ jobs.HasEnded job.old.job }
     requires own { IsOf engine.old job.old → jobs.IsOwn engine.old job.old.job }
@@ -179,7 +179,7 @@ fn end(alloc: Global, engine: &mut Engine, job: &mut StoreJob) -> Option<bool>
     end_own(alloc, engine, &mut job.job)
 }
 
-/// Ends a job of the engine that hasn't ended. Tells whether its run was installed, or nothing if the engine doesn't hold its
+/// Ends a job of the engine that hasn't ended. Returns whether its run was installed, or `None` if the engine doesn't hold its
 /// claim.
 fn end_own(alloc: Global, engine: &mut Engine, job: &mut TakenJob) -> Option<bool>
     requires lasts { ¬ jobs.HasEnded job.old }
@@ -192,7 +192,7 @@ fn end_own(alloc: Global, engine: &mut Engine, job: &mut TakenJob) -> Option<boo
     }
 }
 
-/// Ends a flush job. Tells whether its run was installed.
+/// Ends a flush job. Returns whether its run was installed.
 fn end_flush(alloc: Global, engine: &mut Engine, job: &mut FlushJob) -> bool
     requires lasts { ¬ jobs.HasEnded (kinds.Flush job.old) }
     requires own { jobs.IsOwn engine.old (kinds.Flush job.old) }
@@ -209,7 +209,7 @@ fn is_flushed(end: &FlushEnd) -> bool
     matches!(end, FlushEnd::Installed(_))
 }
 
-/// Ends a compaction job, if the engine holds its claim. Tells whether its run was installed.
+/// Ends a compaction job, if the engine holds its claim. Returns whether its run was installed.
 fn end_compaction(engine: &mut Engine, job: &mut EngineJob) -> Option<bool>
     requires lasts { ¬ jobs.HasEnded (kinds.Compaction job.old) }
     requires own { jobs.IsOwn engine.old (kinds.Compaction job.old) }
@@ -229,8 +229,8 @@ fn is_installed(end: &JobEnd) -> bool
     matches!(end, JobEnd::Installed(_))
 }
 
-/// Tells how many bytes the runs have together that the job compacts, as `ucstore_report` counts them: 0 for a flush. So what the
-/// store's bytes change by when the job ends tells those of the run that was made.
+/// Stores the total size in bytes of the runs that the job compacts, as `ucstore_report` counts them: 0 for a flush. So the change
+/// of the store's size when the job ends shows the size of the new run.
 #[unsafe(no_mangle)]
 pub extern "C" fn ucstore_job_input_bytes(
     alloc: Global,

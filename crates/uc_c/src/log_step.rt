@@ -48,7 +48,7 @@ pub(crate) fn step_from(alloc: Global, log: &[u8], place: CLogPlace) -> Result<L
     }
 }
 
-/// The payload between a place and an offset, judged as a batch.
+/// The payload between a place and an offset, validated as a batch.
 fn batch_step(
     alloc: Global,
     payload: &[u8],

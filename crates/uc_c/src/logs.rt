@@ -50,7 +50,7 @@ pub extern "C" fn ucstore_log_next(
     }
 }
 
-/// Puts bytes into the room, if they fit, and tells how many they are.
+/// Copies bytes into the buffer, if they fit, and stores their number.
 fn lay(bytes: &[u8], room: &mut [u8], size: &mut usize) -> i32
     ensures size { size.new ≡ length bytes.now }
     ensures fits { length bytes.now ≤ length room.old →
@@ -65,7 +65,7 @@ fn lay(bytes: &[u8], room: &mut [u8], size: &mut usize) -> i32
     OK
 }
 
-/// Puts writes into the room, and moves the place after them, if they fit.
+/// Encodes writes into the buffer, and moves the place after them, if they fit.
 fn show(
     laid: &LaidWrites,
     behind: CLogPlace,

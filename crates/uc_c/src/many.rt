@@ -13,7 +13,7 @@ use std::alloc::{AllocError, Global};
 use uc_engine::ValueRef;
 use uc_handle::Handle;
 
-/// The length that is told of a key without a value.
+/// The length that is stored for a key without a value.
 const NO_VALUE: u64 = u64::MAX;
 
 /// The values found for many keys.

@@ -63,10 +63,9 @@ pub extern "C" fn numbered_ucstore_create(
     }
 }
 
-/// Puts a store into the handle that is opened from the bytes of a write-ahead log: it has the writes before the
-/// log's first fault, and `ended` says whether there was one. It has no snapshot. It is refused as
-/// `numbered_ucstore_create` is,
-/// and if no id is left for a run.
+/// Puts a store into the handle that is opened from the bytes of a write-ahead log: it has the writes before the log's first fault,
+/// and `ended` says whether there was one. It has no snapshot. Fails as `numbered_ucstore_create` does, and if run IDs are
+/// exhausted.
 #[unsafe(no_mangle)]
 pub extern "C" fn numbered_ucstore_open(
     alloc: Global,

@@ -102,7 +102,7 @@ pub fn look_up_at<R: Readable>(
     }
 }
 
-/// Copies a value, as much of it as there is room for, and says how long it is.
+/// Copies a value, as many of its bytes as the buffer holds, and stores its size.
 fn tell_value(value: &[u8], room: &mut [u8], size: &mut usize)
     ensures room { room.new ≡ filled value.now room.old }
     ensures size { size.new ≡ length value.now }

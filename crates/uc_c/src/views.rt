@@ -1,4 +1,4 @@
-//! Views that C holds: what a store held at a moment.
+//! Views that C holds: the contents of a store at one point in time.
 ghost use Rattle.std.specs.Prelude.{◌≡◌, ◌⊎◌, None, Some, IsOkAnd};
 ghost use Rattle.uc_live.specs.Views as views;
 ghost use Rattle.uc_engine.specs.EngineViews.{viewed_in};

@@ -87,7 +87,7 @@ pub extern "C" fn ucstore_put(alloc: Global, handle: &mut Handle, key: &[u8], va
     write(alloc, handle, OpRef::put(key, value))
 }
 
-/// Removes a key. It is refused as `ucstore_put` is.
+/// Deletes a key. Fails as `ucstore_put` does.
 #[unsafe(no_mangle)]
 pub extern "C" fn ucstore_delete(alloc: Global, handle: &mut Handle, key: &[u8]) -> i32
     ensures { Writes result handle.old.held handle.new.held (ops.Delete key.now) }
@@ -95,7 +95,7 @@ pub extern "C" fn ucstore_delete(alloc: Global, handle: &mut Handle, key: &[u8])
     write(alloc, handle, OpRef::delete(key))
 }
 
-/// Combines a key with an operand. It is refused as `ucstore_put` is.
+/// Merges an operand into a key. Fails as `ucstore_put` does.
 #[unsafe(no_mangle)]
 pub extern "C" fn ucstore_merge(
     alloc: Global,
@@ -108,7 +108,7 @@ pub extern "C" fn ucstore_merge(
     write(alloc, handle, OpRef::merge(key, operand))
 }
 
-/// Removes each key from `begin` to below `end`, none if `begin` isn't below `end`. It is refused as `ucstore_put` is.
+/// Deletes each key from `begin` to below `end`, none if `begin` isn't below `end`. Fails as `ucstore_put` does.
 #[unsafe(no_mangle)]
 pub extern "C" fn ucstore_delete_range(
     alloc: Global,
@@ -121,9 +121,8 @@ pub extern "C" fn ucstore_delete_range(
     write(alloc, handle, OpRef::delete_range(begin, end))
 }
 
-/// Prepares a batch, and copies the record that it adds to a log of this many bytes, if there is room for it, and says
-/// how long that is. If there is too little room, nothing is prepared. Returns the status, or why the batch isn't
-/// taken.
+/// Prepares a batch, copies the record that it adds to a log of this many bytes, if it fits the buffer, and stores the record's
+/// size. If the buffer is too small, nothing is prepared. Returns the status.
 fn prepare(
     alloc: Global,
     engine: &mut Engine,
@@ -148,10 +147,9 @@ fn prepare(
     Ok(OK)
 }
 
-/// Prepares the operations of a batch, so that `ucstore_commit` can take them, with the sequences after the last one,
-/// and copies the bytes that they add to a log of this many bytes, if there is room for them. It says how many these are.
-/// If there is too little room, nothing is prepared. It is refused as `ucstore_write` would be. The batch stays as it
-/// was.
+/// Prepares the operations of a batch, so that `ucstore_commit` can take them, with the sequence numbers after the last one, and
+/// copies the bytes that they add to a log of this many bytes, if they fit the buffer. Stores the number of these bytes. If the
+/// buffer is too small, nothing is prepared. Fails as `ucstore_write` does. The batch is unchanged.
 #[unsafe(no_mangle)]
 pub extern "C" fn ucstore_prepare(
     alloc: Global,
@@ -198,7 +196,7 @@ fn prepare_ops(
     }
 }
 
-/// Prepares a batch, given as bytes, as `ucstore_prepare` does. It is refused as `ucstore_write_bytes` would refuse it.
+/// Prepares a batch, given as bytes, as `ucstore_prepare` does. Fails as `ucstore_write_bytes` does.
 #[unsafe(no_mangle)]
 pub extern "C" fn ucstore_prepare_bytes(
     alloc: Global,
@@ -237,7 +235,7 @@ pub extern "C" fn ucstore_commit(alloc: Global, handle: &mut Handle) -> i32
     OK
 }
 
-/// Gives up the batch that is prepared, if there is one.
+/// Discards the prepared batch, if there is one.
 #[unsafe(no_mangle)]
 pub extern "C" fn ucstore_give_up(alloc: Global, handle: &mut Handle) -> i32
     ensures { IfHeld result handle.old.held handle.new.held (λ e.

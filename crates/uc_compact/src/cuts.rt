@@ -7,7 +7,7 @@ use std::alloc::{AllocError, Global};
 use std::sync::Arc;
 use uc_run::Run;
 
-/// About how many fences are drawn of all runs together.
+/// About how many fences are sampled from all runs together.
 const SAMPLE: u64 = 256;
 
 /// The number of blocks that the points of all runs fill.

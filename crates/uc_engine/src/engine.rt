@@ -18,7 +18,7 @@ pub(crate) enum AnyStore {
     Append(LiveStore<Texts>),
     /// A store that adds numbers.
     Counter(LiveStore<Counter>),
-    /// A store that keeps the greater text.
+    /// A store that keeps the greater byte string.
     Maximum(LiveStore<Maximum>),
     /// A store that keeps the last bytes.
     Tail(LiveStore<LastBytes>),
@@ -82,7 +82,7 @@ impl Engine {
         with_each!(AnyStore, &self.store, store => store.last())
     }
 
-    /// The number of gathered writes.
+    /// The number of writes in memtables.
     pub fn gathered(&self) -> usize
         ensures { result ≡ length self.now.live.gathered }
     {

@@ -23,7 +23,7 @@ pub enum OperatorKind {
     Append,
     /// Sums of 64-bit numbers.
     Counter,
-    /// The greater text.
+    /// The greater byte string.
     Maximum,
     /// The last four bytes of all operands.
     Tail,

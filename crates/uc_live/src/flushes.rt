@@ -13,7 +13,7 @@ use uc_oper::Operator;
 use uc_version_state::small_writes_fill_one_memtable;
 
 impl<O: Operator> LiveStore<O> {
-    /// Whether a memtable is full of what is gathered.
+    /// Whether a memtable is full.
     fn is_full(&self) -> bool
         ensures { result ≡ flushes.is_full self.now }
     {

@@ -74,7 +74,7 @@ fn unread(fault: BatchError) -> WriteError
 }
 
 impl<O: Operator> LiveStore<O> {
-    /// Flushes if as many memtables are full as it gathers. Nothing is prepared then.
+    /// Flushes if as many memtables are full as the store may have. Nothing is prepared then.
     fn make_room(&mut self, alloc: Global) -> Result<(), RoomError>
         requires { self.old.prepared ≡ [] }
         ensures prepares { Prepares O.meaning self.old self.new [] }
@@ -143,14 +143,12 @@ impl<O: Operator> LiveStore<O> {
         Ok(())
     }
 
-    /// Prepares a write batch, given as bytes (RocksDB, `write_batch.cc`): 8 bytes for a sequence, 4 for a count, and
-    /// as many records. The operations get the batch's sequence and those after it, in their order. A batch with the
-    /// sequence 0, as a program that builds one leaves it, gets the sequence after the last one. Else it goes as
-    /// [`prepare`](LiveStore::prepare) does.
+    /// Prepares a write batch, given as bytes (RocksDB, `write_batch.cc`): 8 bytes for a sequence number, 4 for a count, and as
+    /// many records. The operations get the batch's sequence number and those after it, in their order. A batch with the number 0,
+    /// as a program that builds one leaves it, gets the one after the last. All else is as in [`prepare`](LiveStore::prepare).
     ///
-    /// It is refused if the bytes aren't a batch, if its sequence is neither 0 nor above the last one, if too few
-    /// sequences are left, and if there is no room for it, as [`RoomError`] says. Nothing is prepared then, and no read
-    /// changes.
+    /// Fails if the bytes aren't a batch, if its sequence number is neither 0 nor above the last one, if too few sequence numbers
+    /// are left, and as [`RoomError`] says. Nothing is prepared then, and no read changes.
     pub fn prepare_batch(&mut self, alloc: Global, batch: &[u8]) -> Result<(), WriteError>
         ensures ok { OnOk result (IsBatchPrepared O.meaning batch.now self.old self.new) }
         ensures err { IfErr result (λ error.
@@ -172,7 +170,7 @@ impl<O: Operator> LiveStore<O> {
         self.active.commit();
     }
 
-    /// Gives up what is prepared.
+    /// Discards the prepared batch.
     pub fn give_up(&mut self)
         ensures { self.new ≡ lives.unprepared self.old }
     {
@@ -200,10 +198,10 @@ impl<O: Operator> LiveStore<O> {
         Ok(())
     }
 
-    /// Takes the writes of a batch that come after the last sequence, with the sequences that they have. A batch that is
-    /// prepared is given up. Else it goes as [`prepare`](LiveStore::prepare) does.
+    /// Takes the writes of a batch that come after the last sequence number, with their own sequence numbers. A prepared batch is
+    /// discarded. All else is as in [`prepare`](LiveStore::prepare).
     ///
-    /// It is refused if there is no room for them, as [`RoomError`] says. None is taken then, and no read changes.
+    /// Fails as [`RoomError`] says. None is taken then, and no read changes.
     pub fn write_all(&mut self, alloc: Global, writes: BatchWrites<'_>) -> Result<(), RoomError>
         requires rising { IsRising (lives.last self.old) writes }
         ensures ok { OnOk result (GoesOn O.meaning self.old self.new writes.entry) }

@@ -20,7 +20,7 @@ pub enum WriteError {
     /// A key or value has 2^32 bytes or more, and so no batch holds it.
     #[error("a text has 2^32 bytes or more")]
     TooLong,
-    /// There is no room for it.
+    /// A run can't be added.
     #[error("{0}")]
     NoRoom(RoomError),
 }

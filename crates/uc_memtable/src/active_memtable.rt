@@ -254,10 +254,9 @@ impl ActiveMemtable {
             .into_effect(alloc)
     }
 
-    /// The effect of the shown writes at or below a sequence on a key. It looks at the range deletions, the newest
-    /// first, down to one over the key, and then at the writes of the key above it, down to a put or a delete. Merges
-    /// above that one cost the length of the text that they give. A value that is put, and that nothing is merged into, stays
-    /// where it is.
+    /// The effect of the shown writes at or below a sequence number on a key. It searches the range deletions, newest first, for
+    /// one over the key, and then reads the writes of the key above it, down to a put or a delete. Merges above that one cost the
+    /// length of their result. A value that is put, and into which nothing is merged, isn't copied.
     pub fn effect_of_sought<O: Operator>(
         &self,
         alloc: Global,

@@ -62,12 +62,12 @@ impl Operator for Counter {
         sum_of(alloc, older, newer)
     }
 
-    /// Writes the sum in place. It allocates only if the value has no room for 8 bytes.
+    /// Writes the sum in place. It allocates only if the value has no capacity for 8 bytes.
     fn join_onto(_: Global, base: Vec<u8>, operand: &[u8]) -> Result<Vec<u8>, AllocError> {
         add_onto(base, operand)
     }
 
-    /// Writes the sum in place. It allocates only if the older operand has no room for 8 bytes.
+    /// Writes the sum in place. It allocates only if the older operand has no capacity for 8 bytes.
     fn pair_onto(_: Global, older: Vec<u8>, newer: &[u8]) -> Result<Vec<u8>, AllocError> {
         add_onto(older, newer)
     }

@@ -45,7 +45,7 @@ pub(crate) fn push_row(bytes: &mut Vec<u8>, key: &[u8], value: &[u8]) -> Result<
     Ok(())
 }
 
-/// The text at the front, and the bytes after it.
+/// The byte string at the front, and the bytes after it.
 #[inline]
 fn read_text(bytes: &[u8]) -> (&[u8], &[u8])
     ensures text { result.0.now ≡ (spelling.text_from bytes.now).0 }

@@ -29,7 +29,7 @@ const POINTS_AT_ONCE: usize = 64;
 #[derive(Drop)]
 pub(crate) struct Ranked<'a> {
     pub(crate) slots: SlotSlice<'a>,
-    /// The number of a rank's bits that tell the number of the slot.
+    /// The number of a rank's bits that encode the slot's number.
     pub(crate) bits: u32,
 }
 
@@ -126,7 +126,7 @@ pub(crate) fn begins_with(front: &[u8], key: &[u8]) -> usize
     common_prefix_len(front, key)
 }
 
-/// The numbers of the slots that are points, as ranks that tell nothing of the keys. An `Err` loses them.
+/// The numbers of the slots that are points, as ranks without bits of the keys. An `Err` loses them.
 pub(crate) fn numbers_of_points(
     alloc: Global,
     slots: &SlotSlice<'_>,

@@ -69,7 +69,7 @@ impl Slot {
         self.start
     }
 
-    /// The write that the slot tells with its bytes.
+    /// The write that the slot encodes with its bytes.
     #[inline]
     pub(crate) fn read<'t>(&self, bytes: &'t [u8]) -> SlotRef<'t>
         ensures { result ≡ write_of self.now.trailer bytes.now }

@@ -15,7 +15,7 @@ pub(crate) struct SlotRef<'a> {
     seq: u64,
     kind: OpKind,
     first: &'a [u8],
-    /// Ignored if the kind has only one text.
+    /// Ignored if the kind has only one byte string.
     second: &'a [u8],
 }
 

@@ -17,7 +17,7 @@ use crate::shown_line::shortened;
 use crate::word::Word;
 use std::alloc::{AllocError, Global};
 
-/// The text after `count` lines, and whether one of those is `open`.
+/// The bytes after `count` lines, and whether one of those is `open`.
 fn skip_lines(text: &[u8], count: u64) -> (&[u8], bool)
     ensures rest { lines_of result.0.now ≡ drop count (lines_of text.now) }
     ensures opened { result.1 ≡ list_any says_open (take count (lines_of text.now)) }
@@ -81,7 +81,7 @@ fn missing(part: Part, number: u64, text: &[u8]) -> Option<Explanation>
     Some(Explanation::Missing { number, word })
 }
 
-/// Whether a line that these others follow is the end of a head but for its line feed.
+/// Whether a line that these others follow is the end of a head except for its line feed.
 #[tactic(auto, using(crate::proofs::Passing::same_emptiness))]
 fn lacks_its_end(part: Part, line: &[u8], others: &[u8], is_ended: bool) -> bool
     ensures { result ≡ explanations.lacks_its_end part line.now (lines_of others.now) is_ended }
@@ -110,7 +110,7 @@ fn fault_before(
 /// allowed there, or that it is missing. It is `None` if nothing is wrong with that line, which never holds for a number from
 /// [`read_script`](crate::read_script) or [`read_head`](crate::read_head).
 ///
-/// It reads the lines up to that one once, and all lines once more if it is missing.
+/// It reads the lines up to that one once, and all lines a second time if it is missing.
 #[tactic(auto, unfolding(crate::specs::Explanations::explanation_of))]
 pub fn explain(
     alloc: Global,

@@ -1,4 +1,4 @@
-//! [`Compactor`]: who compacts a store, and [`Store::turn`], which it takes.
+//! [`Compactor`]: compacts a store by [`Store::turn`].
 ghost use Rattle.std.specs.Prelude.{◌≡◌, Some, IfOk, IfErr, IfSome};
 ghost use mathlib.Core.List.{IsPrefix};
 ghost use Rattle.uc_version_state.specs.Histories.{MayFollow};

@@ -73,8 +73,8 @@ impl<O: Operator, N: Name, W: Wait + Drop> Desk<O, N, W> {
         done
     }
 
-    /// Releases a keep, and shows the reader: one publication of exactly its event, or a refusal that changes nothing that is
-    /// shown and that the version which the reader then has seen shows.
+    /// Releases a keep and updates the reader. It publishes exactly one event, or fails, changes nothing that is shown, and lets
+    /// the reader see the version that shows why.
     pub(crate) fn release<R: Wait>(
         &mut self,
         rt: &R,

@@ -96,7 +96,7 @@ fn recall_limit<O: Operator, N: Name>(pin: &Pin<O, N>)
     pin.recall();
 }
 
-/// The runs of the memtables that writes fill, the oldest first, unless the version that is shown refuses the writes.
+/// The runs of the memtables that writes fill, the oldest first, unless the current version rejects the writes.
 fn runs_to_feed<O: Operator, N: Name>(
     rt: &impl Wait,
     alloc: Global,

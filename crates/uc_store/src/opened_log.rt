@@ -22,7 +22,7 @@ pub struct OpenedLog<O: Operator> {
     pub ended: Ended,
 }
 
-/// The store of a version, beside how the log ended that the version was made of.
+/// The store of a version, and how the log ended from which the version was made.
 fn store_of<O: Operator>(
     alloc: Global,
     version: Version,

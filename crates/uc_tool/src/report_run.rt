@@ -61,8 +61,7 @@ fn print_reports<O: Operator + Sync, W: Write>(
     Ok(Done::Fine)
 }
 
-/// Opens the store that has taken some writes, and prints why it is refused, or the reports. It returns the reason beside its
-/// outcome.
+/// Opens the store that has taken some writes, and prints why that fails, or the reports. Returns the reason with its outcome.
 fn print_opened<O: Operator + Sync, W: Write>(
     rt: &(impl Threads + Sync),
     alloc: Global,

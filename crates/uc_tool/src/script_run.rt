@@ -31,7 +31,7 @@ use uc_version::Owned;
 use uc_version_open::OpenError;
 use uc_version_state::{Options, Version};
 
-/// Judges a script, and reads what stands up to its `open`.
+/// Validates a script, and reads the lines up to its `open`.
 fn judged(alloc: Global, input: &[u8]) -> Result<Preamble, ScriptError>
     requires { length input.now ≤ INPUT_LIMIT }
     ensures read { Gives (λ preamble. script_with preamble (drop preamble.size input.now)) result (script_of input.now) }
@@ -85,8 +85,8 @@ fn print_opened<O: Operator + Sync, W: Write>(
     Ok(Done::Fine)
 }
 
-/// Opens the store that a script asks for, and prints why it is refused, or that it opened and the replies to the calls that
-/// `lines` name, which stand after `open`. It returns the reason beside its outcome.
+/// Opens the store of a script, and prints why that fails, or that it opened and the replies to the calls of `lines`, which come
+/// after `open`. Returns the reason with its outcome.
 fn print_script<O: Operator + Sync, W: Write>(
     rt: &(impl Threads + Sync),
     alloc: Global,
@@ -119,7 +119,7 @@ fn print_script<O: Operator + Sync, W: Write>(
     }
 }
 
-/// Runs a script: opens its store and answers its calls. Of its text the lines after `open` alone are kept meanwhile.
+/// Runs a script: opens its store and answers its calls. Only the lines after `open` are kept while it runs.
 fn run<O: Operator + Sync, W: Write>(
     rt: &(impl Threads + Sync),
     alloc: Global,

@@ -1,4 +1,4 @@
-//! `ask`: the queries in front of a log, answered beside compactors and a feeder.
+//! `ask`: the queries in front of a log, answered while compactors and a feeder run.
 ghost use denote.Param.Send.{IsSync, IsSend};
 ghost use Rattle.std.specs.Prelude.{◌≡◌, ◌+◌, ◌≤◌, List, None, true, vec_len};
 ghost use Rattle.uc_share.specs.Stores.{IsNamed};
@@ -39,15 +39,15 @@ use uc_tool_opening::{
 };
 use uc_version_open::{InThreads, OpenError, Opener, Recovered, no_refusal_is_leave_to_open};
 
-/// The end of a run, and what was done to the store meanwhile.
+/// The end of a run, and the changes of the store while it ran.
 type Asked = (Result<Done, RunError>, Beside);
 
-/// The report of a run beside its end.
+/// The report of a run and its end.
 #[derive(Drop)]
 struct Told {
-    /// Why it was refused.
+    /// Why it failed.
     reason: Option<Reason>,
-    /// The counts of what was done to the store meanwhile.
+    /// The counts of changes of the store while it ran.
     beside: Beside,
 }
 
@@ -73,8 +73,8 @@ impl Told {
 /// The end of a run, and its report.
 type Worked = (Result<Done, RunError>, Told);
 
-/// Prints the answers to the queries of a head while a crew compacts and a feeder feeds, which have ended when it returns. They
-/// are moved to their thread: what is lent to both closures can be followed through one of them alone.
+/// Prints the answers to the queries of a head while a crew compacts and a feeder feeds, which have ended when it returns. They are
+/// moved to their thread: a value that both closures borrow can be followed through only one of them.
 fn answer_beside_crew<O, N, W, G, R, V>(
     rt: &R,
     alloc: Global,
@@ -110,8 +110,8 @@ where
     (printed, beside)
 }
 
-/// Names a store that threads share, and prints the answers to the queries of a head while compactors compact it and a feeder
-/// feeds these writes, if a reader is left for it. Nobody keeps a sequence or releases one meanwhile.
+/// Names a store that threads share, and prints the answers to the queries of a head while compactors compact it and a feeder feeds
+/// these writes, if a reader is left for it. Nobody takes or releases a snapshot in that time.
 fn answer_shared<O, N, G, R, V>(
     rt: &R,
     alloc: Global,
@@ -165,8 +165,8 @@ fn feeders_of(behind: &[LogWrite]) -> usize
     if behind.is_empty() { 0 } else { 1 }
 }
 
-/// Opens the store that has taken some writes, and prints why it is refused, or the answers to the queries of a head. The writes
-/// after those come meanwhile.
+/// Opens the store that has taken some writes, and prints why that fails, or the answers to the queries of a head. The writes after
+/// those are fed while the queries run.
 fn print_opened<O: Operator + Send + Sync, G: TurnGate, R: Threads + Wait + Sync, V: Write>(
     rt: &R,
     alloc: Global,
@@ -192,7 +192,7 @@ fn print_opened<O: Operator + Send + Sync, G: TurnGate, R: Threads + Wait + Sync
         let opening : OpeningOf = record { writes = writes; keeps = keeps.now; options = options.now } in
         OnOk result.0 (TellsOpening (opening_cause opening) result.1.reason) }
 {
-    // A law of the layer below, which does nothing when it runs: what isn't refused may open.
+    // A law of the layer below, which does nothing when it runs: without a refusal the store may open.
     no_refusal_is_leave_to_open();
     match opener.finish(&InThreads(rt), alloc, keeps) {
         Ok(version) => {
@@ -215,7 +215,7 @@ fn print_opened<O: Operator + Send + Sync, G: TurnGate, R: Threads + Wait + Sync
     }
 }
 
-/// Answers the queries of a head over the log that stands after it, whose last writes come meanwhile.
+/// Answers the queries of a head over the log after it, whose last writes are fed while the queries run.
 fn answer_log<O: Operator + Send + Sync, G: TurnGate, R: Threads + Wait + Sync, V: Write>(
     rt: &R,
     alloc: Global,
@@ -258,7 +258,7 @@ fn answer_log<O: Operator + Send + Sync, G: TurnGate, R: Threads + Wait + Sync, 
     }
 }
 
-/// Answers the queries in front of a log, or prints why they are refused.
+/// Answers the queries in front of a log, or prints why they fail.
 fn run<O: Operator + Send + Sync, G: TurnGate, R: Threads + Wait + Sync, V: Write>(
     rt: &R,
     alloc: Global,

@@ -103,7 +103,7 @@ pub fn writes_by_log(alloc: Global, first: u64, ops: Ops) -> Result<Writes, Allo
     match read_writes(alloc, &log, Mode::PointInTime) {
         Ok(writes) => Ok(writes),
         Err(ReadError::Memory) => Err(AllocError),
-        // Point-in-time recovery refuses nothing.
+        // Point-in-time recovery rejects nothing.
         Err(ReadError::Batch(_, _) | ReadError::Log(_, _)) => unreachable!(),
     }
 }

@@ -49,7 +49,7 @@ pub fn print_refused_opening<W: Write>(
     print_refusal(&line, writer)
 }
 
-/// Prints why a log is refused.
+/// Prints why a log is rejected.
 pub fn print_bad_log<W: Write>(
     alloc: Global,
     ended: Ended,

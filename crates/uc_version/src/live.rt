@@ -55,8 +55,8 @@ impl<O: Operator> Owned<O> {
         self.feed_by(&Alone, alloc, writes)
     }
 
-    /// Feeds writes as [`feed`](Owned::feed) does, and these workers flush their memtables. What it gives is the same, and so is what
-    /// it refuses. Threads pay if the writes fill several memtables, of which they hold up to four meanwhile.
+    /// Feeds writes as [`feed`](Owned::feed) does, and these workers flush their memtables. The result and the errors are the same.
+    /// Threads pay if the writes fill several memtables, up to four of which they hold at a time.
     pub fn feed_by<W: Workers>(
         &mut self,
         workers: &W,
@@ -93,7 +93,7 @@ impl<O: Operator> Owned<O> {
         Ok(self.version.last())
     }
 
-    /// Releases a snapshot: the sequence is a keep no more. It is refused if it is none.
+    /// Releases a snapshot: the sequence number is no longer a keep. Fails if it is none.
     pub fn release(&mut self, seq: u64) -> Result<(), ReleaseError>
         ensures ok { OnOk result
             (Contains self.old.version.keeps seq × (self.new ≡ feeding.after_release seq self.old)) }

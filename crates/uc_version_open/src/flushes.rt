@@ -60,9 +60,9 @@ pub fn version_with_flushed(
     version.with_runs(alloc, runs, last_of(version.last(), writes))
 }
 
-/// The version after writes were fed to it, as a new one that shares the runs which were there. It costs a copy of each
-/// text and a sort of each memtable that the writes fill, and one look at the runs for their slots. Threads flush full memtables
-/// side by side, up to four of which it holds meanwhile.
+/// The version after writes were fed to it, as a new one that shares the existing runs. It costs a copy of each key and value and a
+/// sort of each memtable that the writes fill, and one pass over the runs for their slots. Threads flush full memtables
+/// concurrently, up to four of which it holds at a time.
 pub fn fed_version<W: Workers>(
     workers: &W,
     alloc: Global,

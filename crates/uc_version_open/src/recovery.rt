@@ -48,12 +48,11 @@ fn recover_batches<W: Workers>(
     }
 }
 
-/// Takes the writes of a log, up to its first fault, into a store that is being opened under these options. It goes once over the
-/// log.
+/// Takes the writes of a log, up to its first fault, into a store that is being opened under these options. It reads the log once.
 ///
-/// It holds what the opener holds, and one buffer for a batch of several records. Threads flush full memtables side by side while
-/// the calling one reads on. So beside that there are four of them with the runs that are made of them, and up to six where a batch
-/// fills several.
+/// It holds what the opener holds, and one buffer for a batch of several records. Threads flush full memtables concurrently while
+/// the calling one reads. So there are four more memtables with the runs that are made of them, and up to six if a batch fills
+/// several.
 pub fn recover<W: Workers>(
     workers: &W,
     alloc: Global,
@@ -173,8 +172,8 @@ fn part_batch<W: Workers>(
     Ok(())
 }
 
-/// As [`recover`], for the first `most` writes alone. Those after them come as they are, the oldest first. It holds them beside
-/// what the opener holds, and up to four full memtables, which threads flush side by side.
+/// As [`recover`], for the first `most` writes alone. Those after them are returned as they are, the oldest first. It holds them
+/// besides what the opener holds, and up to four full memtables, which threads flush concurrently.
 pub fn recover_first<W: Workers>(
     workers: &W,
     alloc: Global,
