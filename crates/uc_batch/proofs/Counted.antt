@@ -130,7 +130,7 @@ pub counted_is : (sequence count total : ℕ) (body : List ℕ) → AreCounted c
 unfolding counted_of
 counted_is sequence count total body c = rw c.fine (rw (eq-eqb (length (ops_in total body)) count (sym c.counted)) refl)
 
--- ---- records that were judged, one after the other
+-- ---- validated records, one after the other
 
 -- the first record of some that have no fault, and the others
 pub first_judged : (total : ℕ) (rest after : List ℕ) (o : Option Op) → 0 < length rest → operations total rest ≡ Ok (ops_in total rest) → record_at total rest ≡ Ok (o, after)

@@ -24,7 +24,7 @@ passes_by payload piece behind at place after stands more =
     ∙ stands.3 (drop (at + size) piece ++ more)
     ∙ ap (λ (n : ℕ). with_payload payload (ahead_at n (drop (at + size) piece ++ more))) there
 
--- its text lies in the piece
+-- its bytes are in the piece
 pub text_within : (payload piece behind : List ℕ) (at place after : ℕ) → at ≤ length piece → StandsBetween payload place (drop at piece) after behind → at + (after - place) ≤ length piece
 text_within payload piece behind at place after le stands = omega (arith, stands.1, stands.2, length-drop at piece)
 

@@ -146,7 +146,7 @@ place_behind total bytes front rest within whole = omega (arith, ap length whole
 rest_within : (total : ℕ) (bytes front rest : List ℕ) → length bytes ≤ total → bytes ≡ front ++ rest → length rest ≤ total
 rest_within total bytes front rest within whole = omega (arith, ap length whole, length-append front rest)
 
--- one text, and two
+-- one byte string, and two
 of_text : {B : Type 0} (make : List ℕ × List ℕ → B) (total start : ℕ) (bytes : List ℕ) (e : BatchError) → (string_at total start bytes >>= λ one. Ok (make one)) ≡ Err e → FaultAmong start (total - length bytes) (Text ∷ []) bytes e
 of_text make total start bytes e h = first_field start (total - length bytes) Text [] bytes e (text_fault total start bytes e (only_first (string_at total start bytes) make e h))
 
@@ -296,7 +296,7 @@ refused_body : (last seq count : ℕ) (bytes body : List ℕ) (e : BatchError) �
 refused_body last seq count bytes body e header follows at (inl stops) = faulty last seq count bytes body e header follows (subst (λ (p : ℕ). StopsAt p body e) at stops)
 refused_body last seq count bytes body e header follows at (inr (ops, records, other, is)) = subst (λ (x : BatchError). IsRefused last bytes x) is (wrong_count last seq count bytes body ops header follows records other)
 
--- what a batch is refused for stands there
+-- the error of a batch is its fault by the grammar
 pub batch_refused : (last : ℕ) (bytes : List ℕ) (e : BatchError) → IsBytes bytes → batch_of last bytes ≡ Err e → IsRefused last bytes e
 unfolding batch_of
 batch_refused last bytes e fits h =

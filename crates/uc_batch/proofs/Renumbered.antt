@@ -1,4 +1,4 @@
--- Gathered operations that get a sequence.
+-- Encoded operations that get a sequence number.
 use Rattle.std.proofs.Common.{◌≡◌, ℕ, ◌+◌, ◌^◌, ◌<◌, ◌≤◌, List, [], ◌∷◌, ◌++◌, length, drop, Ok, Err, refl, ap, sym, ◌∙◌, append_assoc, arith}
 use Rattle.std.specs.List.{flat_map, AllByRecursion}
 use Rattle.std.specs.Int.{w32, w64, to_le_bytes, from_le_bytes}
@@ -17,7 +17,7 @@ use Rattle.uc_batch.proofs.Again.{accepted_again, counted_again, judged_again, t
 use Rattle.uc_batch.proofs.Found.{judged_found}
 use Rattle.uc_batch.proofs.Steps.{bind_ok, ok_is}
 
--- the text has the sequence
+-- the bytes have the sequence number
 pub renumbered : (seq : ℕ) (ops : List Op) → numbered_text seq ops ≡ batch_text seq ops
 renumbered seq ops =
     let n = to_le_bytes w32 (length ops) in

@@ -1,5 +1,4 @@
--- Operations that are gathered as the bytes of a batch without a sequence, as a program builds one (RocksDB,
--- `write_batch.cc`).
+-- Operations encoded as the bytes of a batch without a sequence number, as a program builds one (RocksDB, `write_batch.cc`).
 use Rattle.std.specs.Prelude.{◌≡◌, ℕ, ◌+◌, ◌^◌, ◌<◌, List, ◌++◌, length, drop, All}
 use Rattle.std.specs.Int.{w64, to_le_bytes}
 use Rattle.uc_bytes.specs.declared.op.Op.{Op}

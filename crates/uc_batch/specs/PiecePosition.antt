@@ -27,8 +27,8 @@ LiesIn payload.Joined piece = Unit {0}
 
 -- ---- in one piece
 
--- A payload's text of this size is at a place of the log, and at an offset of the piece. Whatever follows the piece, the
--- payload is read, and then what follows.
+-- A payload takes `size` bytes at a place of the log, and at an offset of the piece. Whatever follows the piece, the payload is
+-- read, and then what follows.
 pub record Passes (payload : Payload) (size : ℕ) (joined piece : List ℕ) (at place : ℕ) : Type 0 where
   pub some : 0 < size
   pub within : at + size ≤ length piece
@@ -48,7 +48,7 @@ ReadsIn (read.Ended ending) joined piece at place = ahead_at place (drop at piec
 
 -- ---- in all pieces
 
--- a payload's text of this size is the first that is ahead
+-- a payload of this size is the first that is ahead
 pub record Leads (payload : Payload) (size : ℕ) (joined : List ℕ) (place : ℕ) (old new : Unread) : Type 0 where
   pub some : 0 < size
   pub fits : length (bytes_ahead old) ≡ size + length (bytes_ahead new)

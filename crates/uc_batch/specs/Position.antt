@@ -68,7 +68,7 @@ abbrev pub ahead_unless : Option Ended → WriteLog → WriteLog
 ahead_unless None ahead = ahead
 ahead_unless (Some ended) ahead = nothing_ahead ended
 
--- The header is that of a batch that was judged whole.
+-- The header is that of a validated batch.
 pub record IsJudged (header : Header) (bytes : List ℕ) : Type 0 where
   pub counted : AreCounted header.count (length bytes) (drop 12 bytes)
   pub room : 0 < header.count → header.sequence + header.count ≤ 2 ^ 56

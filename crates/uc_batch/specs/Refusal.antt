@@ -1,4 +1,4 @@
--- Why a batch is refused, in the words of the grammar (RocksDB, `write_batch.cc`, and `coding.h` for the numbers).
+-- Errors of a batch, in terms of the grammar (RocksDB, `write_batch.cc`, and `coding.h` for the numbers).
 use Rattle.std.specs.Prelude.{◌≡◌, ◌≢◌, ℕ, zero, suc, ◌+◌, ◌^◌, ◌<◌, ◌≤◌, true, false, List, [], ◌∷◌, ◌++◌, length, Some, None}
 use Rattle.std.specs.Int.{w32, w64, to_le_bytes}
 use Rattle.uc_bytes.specs.declared.op.Op.{Op}
@@ -59,7 +59,7 @@ AreFields (field ∷ fields) bytes = (front others : List ℕ) × IsField field 
 pub data FieldFault : ℕ → ℕ → List ℕ → Field → BatchError → Type 0 where
   -- the batch ends within its number
   number_cut : (start place : ℕ) (bytes : List ℕ) (field : Field) → NumberIsCut 4 bytes → FieldFault start place bytes field (faults.Cut start)
-  -- or within the text, whose number announces more bytes
+  -- or within the byte string, whose length announces more bytes
   text_cut : (start place : ℕ) (bytes size behind : List ℕ) (n : ℕ) → Spells 4 size n → bytes ≡ size ++ behind → length behind < n → FieldFault start place bytes Text (faults.Cut start)
   -- its number doesn't fit 32 bits
   number_long : (start place : ℕ) (bytes : List ℕ) (field : Field) → NumberIsLong 4 bytes → FieldFault start place bytes field (faults.BadVarint place)
@@ -107,8 +107,8 @@ pub record MayFollow (last seq count : ℕ) : Type 0 where
   pub above : 0 < count → last < seq
   pub below : 0 < count → seq + count ≤ 2 ^ 56
 
--- Why a batch that comes after the sequence `last` is refused, in this order. The records' first fault from the left
--- comes before their count.
+-- Why a batch that comes after the sequence number `last` isn't valid, in this order. The records' first fault from the left comes
+-- before their count.
 pub data IsRefused : ℕ → List ℕ → BatchError → Type 0 where
   too_short : (last : ℕ) (bytes : List ℕ) → length bytes < 12 → IsRefused last bytes faults.TooShort
   sequence_back : (last seq count : ℕ) (bytes body : List ℕ) → HasHeader bytes seq count body → 0 < count → seq ≤ last → IsRefused last bytes (faults.SequenceBack last)

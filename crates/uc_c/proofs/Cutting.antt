@@ -34,7 +34,7 @@ found_more f lengths i keys lt =
       ap values_bytes values ∙ flat_map-append value_bytes (values_of f before keys) (value ∷ []) ∙ ap (λ (l : List ℕ). values_bytes (values_of f before keys) ++ l) (append-nil (value_bytes value)),
     )
 
--- a length is told for each key
+-- a length is stored for each key
 pub as_many : (f : List ℕ → Option (List ℕ)) (lengths keys : List ℕ) → length (map length_told (values_of f lengths keys)) ≡ length lengths
 as_many f [] keys = refl
 as_many f (n ∷ lengths) keys = ap suc (as_many f lengths (drop n keys))

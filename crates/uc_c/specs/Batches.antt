@@ -45,7 +45,7 @@ pub record ArePrepared (ops : List Op) (e e' : Engined) : Type 0 where
   pub prepares : Prepares (meaning_of e.kind) e.live e'.live (numbered (last e.live + 1) ops)
   pub room : HasRoom e'.live
 
--- The status says that too few sequences are left, or why there is no room. No operation is taken.
+-- The status says that too few sequence numbers are left, or why a run can't be added. No operation is taken.
 abbrev pub DeclinesOps : ℤ → List Op → Engined → Engined → Type 0
 DeclinesOps status ops e e' =
     StaysUnwritten e e'
@@ -61,8 +61,8 @@ abbrev pub WritesOps : ℤ → Option Engined → Option Engined → List Op →
 WritesOps status old new ops = Becomes status old new (TakesOps status ops)
 
 module _ (status : ℤ) (len : ℕ) (ops : List Op) (room room' : List ℕ) (size' : ℕ) where
-  -- The operations wait, and their record is in the room; or it doesn't fit, and nothing waits; or the status says why
-  -- they aren't taken.
+  -- The operations are prepared, and their record is in the buffer; or it doesn't fit, and nothing is prepared; or the status says
+  -- why they aren't taken.
   pub record TellsOps (e e' : Engined) : Type 0 where
     pub tells :
         (IsTold status len (batch_text 0 ops) room room' size' e e' × ((status ≡ OK) → ArePrepared ops e e'))

@@ -31,7 +31,7 @@ TellsPiece status (Some length) room size done =
     × (((length ≤ room) × (status ≡ OK) × (done ≡ false)) ⊎ ((room < length) × (status ≡ ROOM)))
 
 module _ (status : ℤ) (len most : ℕ) (room room' : List ℕ) (size' : ℕ) (done' : Bool) where
-  -- The next piece is in the room; or it doesn't fit, or no row is left, and nothing changed.
+  -- The next piece is in the buffer; or it doesn't fit, or no row is left, and nothing changed.
   pub record IsLaidNext (c c' : EngineProgress) : Type 0 where
     pub laid : Option ℕ
     pub lays : LaysInto (meaning_of c.kind) len most laid room room' c.progress c'.progress

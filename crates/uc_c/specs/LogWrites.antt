@@ -1,4 +1,4 @@
--- The writes of a log that are laid out in the room that C gives.
+-- The writes of a log that are encoded into the caller's buffer.
 use Rattle.std.specs.Prelude.{ℕ, List, [], ◌∷◌, ◌++◌}
 use Rattle.std.specs.Int.{w64, to_le_bytes}
 use Rattle.std.specs.List.{flat_map}

@@ -31,13 +31,13 @@ value_bytes (Some value) = value
 abbrev pub values_bytes : List (Option (List ℕ)) → List ℕ
 values_bytes values = flat_map value_bytes values
 
--- The values' lengths are told, and as many of their bytes are in the room as fit it, and how many these are.
+-- The values' lengths are stored, as many of their bytes are in the buffer as fit it, and their total size is stored.
 pub record AreTold (values : List (Option (List ℕ))) (lengths' room room' : List ℕ) (size' : ℕ) : Type 0 where
   pub lengths : lengths' ≡ map length_told values
   pub bytes : room' ≡ filled (values_bytes values) room
   pub size : size' ≡ length (values_bytes values)
 
--- the values are told, or the status says that memory was refused
+-- the values are stored, or the status says that allocation failed
 abbrev pub TellsMany : ℤ → List (Option (List ℕ)) → List ℕ → List ℕ → List ℕ → ℕ → Type 0
 TellsMany status values lengths' room room' size' = ((status ≡ OK) × AreTold values lengths' room room' size') ⊎ (status ≡ OUT_OF_MEMORY)
 

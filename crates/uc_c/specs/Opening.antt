@@ -20,7 +20,7 @@ use Rattle.uc_c.specs.Replies.{Names}
 abbrev pub are_fine : COptions → Bool
 are_fine c = are_good (options_in c 0)
 
--- Why a store isn't created: its options aren't good, or memory is refused.
+-- Why a store isn't created: its options aren't valid, or allocation failed.
 abbrev pub IsUncreated : COptions → LiveOpenError → Type 0
 IsUncreated c BadOption = are_fine c ≡ false
 IsUncreated c (NoRoom IdsSpent) = ⊥

@@ -33,7 +33,7 @@ abbrev pub Names : {X : Type 0} → (X → ℤ → Type 0) → ℤ → (X → Ty
 Names {X} Says status P = (error : X) × Says error status × P error
 
 module _ {E X : Type 0} (Says : X → ℤ → Type 0) (status : ℤ) (old new : Option E) where
-  -- It is done, and Done holds of the store before and after; or it is refused for an error that the status says, for
-  -- which Fails holds.
+  -- It succeeds, and Done holds of the store before and after; or it fails with an error that the status says, for which Fails
+  -- holds.
   abbrev pub Tries : (E → E → Type 0) → (E → E → X → Type 0) → Type 0
   Tries Done Fails = Becomes status old new (λ e e'. ((status ≡ OK) × Done e e') ⊎ Names Says status (Fails e e'))

@@ -28,7 +28,7 @@ put_all rows n count ops none within is =
     let no_more : length (drop n rows) ≡ 0 = ap (λ (rs : List Row). length rs) none in
     is ∙ ap puts_of (take_all n rows (omega (arith, left, no_more)) ∙ sym (take_all count rows (omega (arith, left, no_more, within))))
 
--- a row that is refused is one of the first
+-- a row that is rejected is one of the first
 pub refused_there : (rows rest : List Row) (row : Row) (n count : ℕ) (error : CheckpointError) → drop n rows ≡ row ∷ rest → n < count → RefusesRows (row ∷ []) error → RefusesRows (take count rows) error
 refused_there rows rest row n count Memory next below refused = tt
 refused_there rows rest row n count SequencesSpent next below refused = refused

@@ -49,7 +49,7 @@ puts_of rows = map put_of rows
 abbrev pub writes_that_put : List (List ℕ × List ℕ) → List Write
 writes_that_put rows = numbered 1 (puts_of rows)
 
--- The bytes are what a log of `len` bytes gets for the next rows, as a batch whose sequences go on.
+-- The bytes are what a log of `len` bytes gets for the next rows, as a batch with the next sequence numbers.
 pub record IsPiece (m : Operation) (len : ℕ) (bytes : List ℕ) (old new : Progress) : Type 0 where
   pub rows : List (List ℕ × List ℕ)
   pub some : rows ≢ []
@@ -86,7 +86,7 @@ RefusesPiece m p TooLong = Any (λ row. FitsOp (put_of row) → ⊥) (rows_left 
 RefusesPiece m p SequencesSpent = 2 ^ 56 ≤ p.rows + length (rows_left m p)
 RefusesPiece m p Memory = Unit {0}
 
--- A log has puts of the rows that are laid out, and ends clean. It can go on.
+-- A log has puts of the rows that are encoded, and ends clean. More can be appended.
 pub record IsLaidOut (m : Operation) (s : Seen) (log : List ℕ) (p : Progress) : Type 0 where
   pub rows : List (List ℕ × List ℕ)
   pub of_view : p.seen ≡ s

@@ -1,4 +1,4 @@
--- The rule of the claim words, and what a step tells the seat that makes it.
+-- The rule of the claim words, and the effect of a step on the seat that makes it.
 use Rattle.std.specs.Prelude.{◌≡◌, ℕ, ◌<◌, ◌≤◌, ◌==◌, ◌/◌, ◌%◌, nat_lt, Bool, true, false, List, [], ◌∷◌, ◌++◌, length, slice_index, slice_index_or, count_by, Contains, MatchBool}
 use Rattle.std.specs.List.{sum_by}
 use Rattle.std.specs.Int.{bit_at}

@@ -202,7 +202,7 @@ filter-back test ps i le point =
     let long : length (drop i ps) ≡ length ps - i = length-drop i ps in
     sym (filter-cut (λ p. not (test p)) ps i (length ps - i) (is_cut test ps i le point) ∙ take_all (length ps - i) (drop i ps) (omega (arith, long)))
 
--- ---- runs' points on both sides of a key, as they are lent
+-- ---- runs' points on both sides of a key, as they are borrowed
 
 module _ {X : Type 0} (f : X → List Entry) (cut : List ℕ) (runs : List X) where
   module _ (part lent : List X) (same : lent ≡ part) where

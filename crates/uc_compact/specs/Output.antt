@@ -41,8 +41,8 @@ what_of (Fold operand) cleared = Some (Merge operand)
 what_of (Set (Some value)) cleared = Some (Put value)
 what_of (Set None) cleared = if cleared then None else Some Delete
 
--- The point that replaces a stripe's effect. A range deletion above the newest point clears the key by itself. In the bottom
--- stripe, below which there is nothing, the effect becomes the value that it makes of none.
+-- The point that replaces a stripe's effect. A range deletion above the newest point clears the key alone. In the bottom stripe,
+-- below which there is nothing, the effect becomes the value that it makes of none.
 abbrev pub what_kept : Operation → Bool → Effect → Bool → Option What
 what_kept m bottom effect cleared = if bottom then what_of (Set (applied m effect None)) true else what_of effect cleared
 

@@ -30,7 +30,7 @@ abbrev pub flushed_alone : List Write → Stored → List Write
 flushed_alone ws v = writes_in (record v { runs = record { id = 0; slot = 0; run = flushed ws } ∷ [] })
 
 module _ (m : Operation) where
-  -- a query at a keep has the same answer without what is gathered
+  -- a query at a keep has the same answer without the writes in memtables
   pub answer_behind : (v : Stored) (gathered : List Write) (query : Query) → AllByRecursion (λ keep. keep ≤ v.last) v.keeps → IsRising v.last gathered →
       ((writes others : List Write) (keeps : List ℕ) (query : Query) → (Contains keeps (at_of query) → (key : List ℕ) → Reads query key → value_of m writes key (at_of query) ≡ value_of m others key (at_of query)) → answer_of m writes keeps query ≡ answer_of m others keeps query) →
       ((writes later : List Write) (key : List ℕ) (at : ℕ) → AllByRecursion (λ w. at < w.seq) later → value_of m (writes ++ later) key at ≡ value_of m writes key at) →

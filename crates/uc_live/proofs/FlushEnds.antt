@@ -64,7 +64,7 @@ module _ {O : Type 0} (i : Inside O) (is : IsLive i) where
     taken = is.taken;
   }
 
-  -- one is taken out, of all that is gathered
+  -- one is taken out, of all memtables
   pub all_leave : (active : Gathered) → active ≡ record i.active { apart = length i.active.shown } → (flushes n : ℕ) → n ≡ length i.active.shown →
       IsLive (record i { active = active; flushes = flushes; leaving = Some n })
   all_leave active e flushes n count = record {

@@ -41,7 +41,7 @@ last_follows m v v' g g' ws follows =
     ∙ sym (last_of-append v.last (flat_map writes_brought es) g')
     ∙ ap (last_of v.last) follows.writes
 
--- a store that only made room, in which nothing waits
+-- a store that was only flushed, in which nothing is prepared
 module _ {O : Type 0} (m : Operation) (i : Inside O) (old now : Live) (view : live i ≡ now) (prepares : Prepares m old now []) where
   none : i.active.waiting ≡ []
   none = ap (λ (l : Live). l.prepared) view ∙ prepares.1

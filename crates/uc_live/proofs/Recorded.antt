@@ -12,7 +12,7 @@ use Rattle.uc_batch.proofs.Rises.{last_of-append}
 abbrev pub whole : List Write → Batches
 whole writes = record { writes = writes; refused = None }
 
--- the text of one payload
+-- the bytes of one payload
 pub text_of_one : (offset : ℕ) (payload : List ℕ) → text_from offset (payload ∷ []) ≡ payload_text offset payload
 unfolding text_from
 text_of_one offset payload = append-nil (payload_text offset payload)

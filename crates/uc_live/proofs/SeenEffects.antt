@@ -105,7 +105,7 @@ module _ {X : Type 0} (run_of : X → Contents) (key : List ℕ) (at : ℕ) wher
   abbrev pub is_seen_in : X → Bool
   is_seen_in x = is_seen_among (plain_list (run_of x)) key at
 
-  -- the effect of a run tells it
+  -- the effect of a run shows it
   pub told_of_run : (m : Operation) (x : X) (run : Contents) (e : Effect) (told : Bool) → run ≡ run_of x → e ≡ effect_on m (plain_list run) key at → told ≡ changes e → told ≡ is_seen_in x
   told_of_run m x run e told same found is =
       is

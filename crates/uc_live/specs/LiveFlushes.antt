@@ -19,7 +19,7 @@ use Rattle.uc_live.specs.declared.flush_end.FlushEnd.TheVariants.{Installed, Not
 use Rattle.uc_live.specs.declared.live_options.TheConstants.{MOST_RANGES}
 use Rattle.uc_live.specs.Lives.{Live, owner_in}
 
--- Writes have fewer bytes, and fewer range deletions, than fill the memtables that the store gathers.
+-- Writes have fewer bytes, and fewer range deletions, than fill all memtables of the store.
 abbrev pub FillFewer : Live → List Write → Type 0
 FillFewer l ws =
     (memtable_size ws < l.options.store.memtable * l.options.max_write_buffer_number)
@@ -29,7 +29,7 @@ FillFewer l ws =
 abbrev pub HasRoom : Live → Type 0
 HasRoom l = FillFewer l l.gathered
 
--- So did what was gathered before the last writes.
+-- So did the writes in memtables before the last writes.
 abbrev pub HadRoom : Live → List Write → Type 0
 HadRoom l ws = (before : List Write) × (l.gathered ≡ before ++ ws) × FillFewer l before
 
@@ -53,17 +53,17 @@ IsMadeOf task (Some made) = (task.stage ≡ stages.Run) × (made ≡ flushed tas
 
 -- ---- its start
 
--- whether a memtable is full of what is gathered
+-- whether a memtable is full
 abbrev pub is_full : Live → Bool
 is_full l = nat_le l.options.store.memtable (memtable_size l.gathered) || nat_le MOST_RANGES (count_by deletes_range l.gathered)
 
--- Whether a flush job is taken out: what is gathered is full, the store leaves it to such jobs, and none is out. The last
--- number is never given.
+-- Whether a flush job is taken out: a memtable is full, the store leaves flushes to such jobs, and none is pending. The last number
+-- is never given.
 abbrev pub wants_flush : Live → Bool
 wants_flush l =
     is_none l.leaving && (nat_lt 1 l.options.max_write_buffer_number && (nat_lt l.flushes (2 ^ 64 - 1) && is_full l))
 
--- the job of all that is gathered, and the store after it was taken out
+-- the job of all memtables, and the store after it was taken out
 abbrev pub flush_of : Live → FlushTask
 flush_of l = record { number = l.flushes + 1; writes = l.gathered; stage = stages.Taken }
 
@@ -85,11 +85,11 @@ has_flush_out l task = is_some l.leaving && (l.flushes == task.number)
 abbrev pub Begin : List Write → List Write → Type 0
 Begin ws all = (rest : List Write) × (all ≡ ws ++ rest)
 
--- If it is out, it has as many writes as leave, which are the first of those that are gathered.
+-- If it is pending, its writes are those that are set apart, which are the first ones in memtables.
 abbrev pub IsOwnFlush : Live → FlushTask → Type 0
 IsOwnFlush l task = has_flush_out l task ≡ true → (l.leaving ≡ Some (length task.writes)) × Begin task.writes l.gathered
 
--- Why there is no room for its run: no slot is left, or no id, or memory ran out.
+-- Why its run can't be added: no slot is left, or no id, or allocation failed.
 abbrev pub LacksRoom : FeedError → Live → Type 0
 LacksRoom (Back last) l = ⊥
 LacksRoom TooManyRuns l = MOST_SLOTS ≤ length l.version.runs
@@ -118,7 +118,7 @@ EndsFlush task old new (Refused error) =
 
 -- ---- between both
 
--- A flush job is out, and hasn't ended: its writes are the oldest of those that are gathered.
+-- A flush job is pending, and hasn't ended: its writes are the oldest ones in memtables.
 pub record IsFlushOut (task : FlushTask) (l : Live) : Type 0 where
   pub lasts : task.stage ≢ stages.Ended
   pub out : has_flush_out l task ≡ true

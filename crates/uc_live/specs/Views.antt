@@ -14,7 +14,7 @@ pub record Seen : Type 0 where
 abbrev pub seen_in : Live → Seen
 seen_in l = record { version = l.version; gathered = l.gathered }
 
--- its plain writes: those of the runs, and those that are gathered
+-- its plain writes: those of the runs, and those in memtables
 abbrev pub writes_of : Seen → List Write
 writes_of s = writes_in s.version ++ s.gathered
 

@@ -1,4 +1,4 @@
--- Marks: a batch tells how far its log was on the device for certain when it was written.
+-- Marks: each batch has the number of bytes of its log that were durable when it was written.
 use Rattle.std.specs.Prelude.{◌≡◌, ◌≤◌, ◌<◌, ℕ, zero, suc, ◌+◌, ◌-◌, ◌*◌, ◌/◌, ◌%◌, List, [], ◌∷◌, ◌++◌, length, take, drop, Option, Some, None, option_map, nat_lt, nat_le, ◌&&◌, ◌==◌, if◌then◌else◌}
 use Rattle.std.specs.Int.{w64, from_le_bytes}
 use Rattle.uc_logrec.specs.Position.{LiesIn}
@@ -59,7 +59,7 @@ pub record Tells (log : List ℕ) (end last offset : ℕ) : Type 0 where
   pub mark : mark_of payload ≡ Some unsynced
   pub beyond : end + unsynced < offset
 
--- The marks of a log are true up to an offset: each batch that lies in it tells at most that.
+-- The marks of a log are true up to an offset: the mark of each batch in it is at most that.
 abbrev pub AreTrue : List ℕ → ℕ → Type 0
 AreTrue written synced = (payload : List ℕ) (offset after unsynced : ℕ) → LiesIn payload written offset after → mark_of payload ≡ Some unsynced → offset ≤ synced + unsynced
 

@@ -4,7 +4,7 @@ use Rattle.std.specs.Prelude.{◌≡◌, ℕ, zero, suc, ◌+◌, ◌-◌, ◌*�
 use Rattle.uc_logrec.specs.Format.{room, header_place, stored_length, stored_code}
 use Rattle.uc_log_crash.specs.Marks.{Tells}
 
--- whether a header stands at the front of these bytes, and its block has room for its data and another header: zeros are no header
+-- whether a header is at the front of these bytes, and its data and another header fit its block: zeros are no header
 abbrev pub has_another : ℕ → List ℕ → Bool
 has_another place rest = (nat_le 7 (length rest) && not (stored_code rest == 0 && stored_length rest == 0)) && nat_le (14 + stored_length rest) (room place)
 
@@ -40,7 +40,7 @@ abbrev pub all_places : List ℕ → ℕ → List ℕ
 all_places log from =
     places_from log (header_place from) ++ in_blocks (block_count log - (header_place from / 32768 + 1)) log (header_place from / 32768 + 1)
 
--- the first of some places where a batch tells that the log was on the device beyond `end`
+-- the first of some places with a batch whose mark says that the log was durable beyond `end`
 abbrev pub IsFirst : List ℕ → ℕ → ℕ → List ℕ → Option ℕ → Type 0
 IsFirst log end last [] found = found ≡ None
 IsFirst log end last (place ∷ places) found = (Tells log end last place × (found ≡ Some place)) ⊎ ((Tells log end last place → ⊥) × IsFirst log end last places found)

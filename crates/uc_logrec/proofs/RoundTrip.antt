@@ -206,7 +206,7 @@ read_all (payload ∷ payloads) places offset enough =
     let first = read_payload places offset payload (text_from (offset + length (payload_text offset payload)) payloads) enough in
     first.reads ∙ ap (with_payload payload) (read_all payloads first.fewer (offset + length (payload_text offset payload)) first.enough)
 
--- what is read of payloads' text from an offset on
+-- the result of reading payloads' bytes from an offset on
 pub read_from : (payloads : List (List ℕ)) (offset : ℕ) → ahead_at offset (text_from offset payloads) ≡ record { payloads = payloads; ending = Clean }
 unfolding clean
 read_from payloads offset = read_all payloads (suc (length (text_from offset payloads))) offset (omega arith)

@@ -100,7 +100,7 @@ walks_still log to more payloads offset within at_start le = at_start
 walks_still log to more payloads offset within (one_more before from payload behind walk lies) le =
     one_more before from payload behind (walks_still log to more before from within walk (omega (arith, le, lies.later))) (lies_still payload log from behind to more lies le within)
 
--- the text that the writer adds is a payload's
+-- the bytes that the writer adds are a payload's
 written_alone : (offset : ℕ) (payload : List ℕ) → IsTextOf payload offset (payload_text offset payload) (offset + length (payload_text offset payload))
 written_alone offset payload more =
     let text = payload_text offset payload in

@@ -96,7 +96,7 @@ blocks_text (suc blocks) payload =
 abbrev pub rest_text : List ℕ → List ℕ
 rest_text payload = blocks_text (suc (length payload)) payload
 
--- the records of a payload at a header place: each has as much data as its block has room for
+-- the records of a payload at a header place: each has as much data as fits its block
 unfoldable pub records_text : ℕ → List ℕ → List ℕ
 records_text place payload =
     let fits = room place - 7 in

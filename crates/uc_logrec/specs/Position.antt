@@ -24,7 +24,7 @@ Comes (Whole payload) joined old new = ComesFirst payload.now old new
 Comes Joined joined old new = ComesFirst joined old new
 Comes (Ended ending) joined old new = (old.ahead ≡ ended ending) × (new ≡ old)
 
--- This text is a payload's from one place to another: whatever follows it, the payload is read, and then what follows.
+-- These bytes are a payload's from one place to another: whatever follows them, the payload is read, and then what follows.
 abbrev pub IsTextOf : List ℕ → ℕ → List ℕ → ℕ → Type 0
 IsTextOf payload place text after = (more : List ℕ) → ahead_at place (text ++ more) ≡ with_payload payload (ahead_at after more)
 

@@ -15,7 +15,7 @@ pub record BeginsWith (log : List ℕ) (payloads : List (List ℕ)) (offset : �
   pub payloads_are : payloads_of log ≡ payloads ++ (ahead_in log offset).payloads
   pub ending_is : ending_of log ≡ (ahead_in log offset).ending
 
--- a log that is cut at an offset, with this text in place of the rest
+-- a log that is cut at an offset, with these bytes in place of the rest
 abbrev pub cut_and_added : List ℕ → ℕ → List ℕ → List ℕ
 cut_and_added log offset text = take offset log ++ text
 

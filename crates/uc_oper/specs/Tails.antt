@@ -21,14 +21,14 @@ module _ (n : ℕ) where
   counted : (a b whole rest : ℕ) → whole ≡ a + b → rest ≡ whole - (a - n) → (a - n) + (rest - n) ≡ whole - n
   counted a b whole rest p q = omega (arith, p, q)
 
-  -- what is cut from the older text doesn't come back
+  -- bytes that are cut from the older byte string don't come back
   last_left : (x y : List ℕ) → last_of_both n (last_bytes n x) y ≡ last_of_both n x y
   last_left x y =
       ap (last_bytes n) (sym (drop-append-le (length x - n) x y (omega arith)))
       ∙ drop-drop (length (drop (length x - n) (x ++ y)) - n) (length x - n) (x ++ y)
       ∙ ap (λ (i : ℕ). drop i (x ++ y)) (counted (length x) (length y) (length (x ++ y)) (length (drop (length x - n) (x ++ y))) (length-append x y) (length-drop (length x - n) (x ++ y)))
 
-  -- the newer text alone decides if it is long
+  -- the newer byte string alone decides if it is long
   long_newer : (x y : List ℕ) → n ≤ length y → last_of_both n x y ≡ last_bytes n y
   long_newer x y le =
       let index : length (x ++ y) - n ≡ length x + (length y - n) = let e = length-append x y in omega (arith, e, le) in
@@ -43,7 +43,7 @@ module _ (n : ℕ) where
   last_twice : (y : List ℕ) → n ≤ length y → last_bytes n (last_bytes n y) ≡ last_bytes n y
   last_twice y le = let e = last_long y le in short_stays (last_bytes n y) (omega (arith, e))
 
-  -- what is cut from the newer text doesn't come back
+  -- bytes that are cut from the newer byte string don't come back
   last_right : (x y : List ℕ) → last_of_both n x (last_bytes n y) ≡ last_of_both n x y
   last_right x y =
       elim (cases_lt (length y) n) [

@@ -68,7 +68,7 @@ replied s reply = record { reply = reply; state = s }
 abbrev pub has_id : Stored → Bool
 has_id v = nat_lt v.next_id (2 ^ 64 - 1)
 
--- the owner once the stretch of a claim was compacted, under the keeps of this moment, and installed
+-- the owner once the stretch of a claim was compacted, under the present keeps, and installed
 abbrev pub compacted : Operation → Owner → Claim → Owner
 compacted m o c = after_install m o c (compaction_of o.version (stretch_of o c))
 
@@ -76,7 +76,7 @@ compacted m o c = after_install m o c (compaction_of o.version (stretch_of o c))
 abbrev pub claimed : Owner → Stretch → Owner
 claimed o stretch = with_claim o (claim_of o stretch) stretch
 
--- ---- a claim under a name: a name that is held is refused before the stretch is looked at
+-- ---- a claim under a name: a name that is held is rejected before the stretch is checked
 
 abbrev pub claimed_unless : State → ℕ → Stretch → Option ClaimError → Turn
 claimed_unless s name stretch (Some error) = replied s (Refused error)

@@ -64,7 +64,7 @@ module _ (f : List ℕ → Option (List ℕ)) where
     first = λ row p. ⊎_elim (λ same. absurd (let v = p.1 in cc)) (λ c. s.first row (c, p.1)) (contains_cases key row.0 keys p.0);
   }
 
-  -- no room for a row is left
+  -- the limit of rows is reached
   full : (keys : List (List ℕ)) → Shows keys 0 []
   unfolding IsStrictlySortedBy
   full keys = record {

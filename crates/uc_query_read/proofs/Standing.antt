@@ -106,7 +106,7 @@ module _ (key : List ℕ) where
   runs_stay [] = refl
   runs_stay (c ∷ cs) = ap (λ (runs : List Contents). c.run ∷ runs) (runs_stay cs)
 
--- the cursors that were lent and moved come back
+-- the cursors that were borrowed and moved come back
 pub come_back : (moves : Standing → Standing) (cs lent new : List Standing) (len : ℕ) → length cs ≡ len → lent ≡ cs → new ≡ map moves lent → take len (new ++ drop (length new) cs) ≡ map moves cs
 come_back moves cs lent new len long same made =
     let all : new ≡ map moves cs = made ∙ ap (map moves) same in

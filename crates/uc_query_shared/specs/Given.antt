@@ -21,8 +21,8 @@ ForEachHistory m base holds = (h : History) → IsLegal m h → version_after h 
 abbrev pub longer : History → List Event → History
 longer h events = record h { events = h.events ++ events }
 
--- An answer between two moments of a reader: the writes and the keeps after some events give it, in every history of a store that
--- begins with this version. The events begin with all that the reader had seen, and it has seen them; they don't depend on the
+-- An answer between two points in time of a reader: the writes and the keeps after some events give it, in every history of a store
+-- that begins with this version. The events begin with all that the reader had seen, and it has seen them; they don't depend on the
 -- history before the opening.
 pub record IsAnswerBetween (m : Operation) (base : Stored) (query : Query) (answer : Answer) (old new : List Event) : Type 0 where
   pub events : List Event

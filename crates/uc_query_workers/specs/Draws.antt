@@ -1,4 +1,4 @@
--- The rule of the counter of pieces, what a step tells the seat that makes it, and what a contract sees.
+-- The rule of the counter of pieces, the effect of a step on the seat that makes it, and the state that a contract sees.
 use Rattle.std.specs.Prelude.{◌≡◌, ℕ, ◌+◌, ◌-◌, ◌<◌, ◌≤◌, ◌==◌, ◌^◌, nat_lt, nat_le, List, [], ◌∷◌, ◌++◌, length, slice_index, count_by, if◌then◌else◌}
 use Rattle.std.specs.List.{sum_by, AllByRecursion}
 use mathlib.Core.Option.{some}
@@ -76,7 +76,7 @@ pub record Drawing : Type 0 where
   pub parts : ℕ
   pub numbers : List ℕ
 
--- a table of one word, whose rule was told how many pieces and workers there are
+-- a table of one word, whose rule has the numbers of pieces and workers as parameters
 pub record IsLaid (pieces : ℕ) (key : Shares) (table : TableId) : Type 0 where
   pub kept : pieces ≡ key.pieces
   pub within : key.pieces + key.workers < 2 ^ 64

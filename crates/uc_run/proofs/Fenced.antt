@@ -1,4 +1,4 @@
--- Where a search goes on from the fences of blocks.
+-- The place where a search continues after the fences of blocks.
 use Rattle.std.proofs.Common.{◌≡◌, ℕ, ◌-◌, ◌*◌, ◌<◌, ◌≤◌, Bool, true, false, ltb, List, [], ◌∷◌, ◌++◌, length, get_or, Some, refl, sym, ap, ◌∙◌, arith}
 use Rattle.std.specs.List.{AllWithin, slice_get}
 use Rattle.std.proofs.lemmas.Bool.Decides.{nat_tests}

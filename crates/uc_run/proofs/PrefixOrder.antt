@@ -110,7 +110,7 @@ outweighs n x y xs ys bytes lt =
     let up : suc x * 256 ^ n ≤ y * 256 ^ n = mul-le-mul_right (256 ^ n) lt in
     omega (arith, up, suc-mul x (256 ^ n), number_below n xs bytes)
 
--- of two lists with one number the shorter is below, if the number tells all of it
+-- of two lists with one number the shorter is below, if the number encodes all of it
 equal_number : (n : ℕ) (xs ys : List ℕ) → AreBytes xs → AreBytes ys → number n xs ≡ number n ys → min (length xs) (length ys) ≤ n → bytes_cmp xs ys ≡ nat_cmp (length xs) (length ys)
 equal_number n [] [] bx by e le = refl
 equal_number n [] (y ∷ ys) bx by e le = sym (less_is 0 (length (y ∷ ys)) (omega arith))

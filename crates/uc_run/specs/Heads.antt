@@ -24,7 +24,7 @@ abbrev pub next_number : List ℕ → Option (List ℕ) → ℕ
 next_number front None = 2 ^ 64 - 1
 next_number front (Some key) = number_of front key
 
--- Beside each key is its number, and keys are bytes.
+-- Each key has its number, and keys are bytes.
 pub record AreNumbered (front : List ℕ) (keys : List (Option (List ℕ))) (numbers : List ℕ) : Type 0 where
   pub each : numbers ≡ map (next_number front) keys
   pub bytes : All (λ key. AreBytes (unwrap_or key [])) keys

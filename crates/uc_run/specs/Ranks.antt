@@ -35,7 +35,7 @@ abbrev pub entry_or : Option Write → Entry
 entry_or None = record { key = []; seq = 0; what = what.Delete }
 entry_or (Some w) = entry_in w
 
--- how many numbers of slots ranks tell apart, if their last bits tell the number
+-- number of slots that ranks can distinguish by their last bits
 abbrev pub room : ℕ → ℕ
 room bits = 2 ^ (bits % 64)
 

@@ -28,7 +28,7 @@ trailer_of seq kind = 4 * seq + kind_number kind
 abbrev pub bytes_of : List ℕ → List ℕ → List ℕ
 bytes_of first second = number_text (length first) ++ (first ++ second)
 
--- the write that a trailer tells with its bytes
+-- the write that a trailer encodes with its bytes
 abbrev pub write_of : ℕ → List ℕ → Write
 write_of trailer bytes =
     let len = number_from bytes in

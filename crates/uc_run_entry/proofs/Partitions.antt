@@ -83,7 +83,7 @@ module _ {X : Type 0} (p q : X → Bool) (weaker : (x : X) → p x ≡ true → 
 pub part_at : {X : Type 0} (xs : List X) (a n k : ℕ) (d : X) → k < n → get_or (take n (drop a xs)) k d ≡ get_or xs (a + k) d
 part_at xs a n k d l = get_or-take n (drop a xs) k d l ∙ get_or-drop a xs k d
 
--- a search goes on between two places, where all before the first pass the test, and none from the second on does
+-- a search continues between two places, where all before the first pass the test, and none from the second on does
 module _ {X : Type 0} (test : X → Bool) (xs : List X) (begin end : ℕ) (order : begin ≤ end) (within : end ≤ length xs) where
   pub length_part : length (take (end - begin) (drop begin xs)) ≡ end - begin
   length_part = length-take-le (end - begin) (drop begin xs) (let l : length (drop begin xs) ≡ length xs - begin = length-drop begin xs in omega (arith, l, within))

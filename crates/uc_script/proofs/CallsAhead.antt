@@ -1,4 +1,4 @@
--- The calls of lines, judged or with one line taken from the front.
+-- The calls of lines, validated or with one line taken from the front.
 use Rattle.std.proofs.Common.{◌≡◌, ℕ, ◌+◌, Bool, false, eqb, suc, List, [], ◌∷◌, ◌++◌, length, drop, Option, Some, None, Result, Ok, Err, refl, ap, ◌∙◌, sym, arith}
 use Rattle.std.specs.List.{cons_option}
 use Rattle.std.proofs.lemmas.Bool.{cond-false, ne_eqb}
@@ -16,7 +16,7 @@ use Rattle.uc_bytes.specs.declared.op.Op.{Op}
 use Rattle.uc_script.proofs.Faults.{made, some_ops, some_ops-after, calls-said}
 use Rattle.uc_script.proofs.Whole.{regroup_option, script_of-read, script_of-at_calls}
 
--- ---- lines that were judged
+-- ---- validated lines
 
 abbrev script_is : Script → Result Script ℕ
 script_is script = Ok script

@@ -48,7 +48,7 @@ lines_at text end h =
     let found = position_some is_end text end h in
     rw (← found.1) (lines_first text found.0)
 
--- that place is in the text
+-- that place is in the input
 pub end_within : (text : List ℕ) (end : ℕ) → position is_end text ≡ Some end → end < length text
 end_within text end h =
     let found = position_some is_end text end h in

@@ -73,7 +73,7 @@ refused_no_log line bad = refused_step (says_log line) line refl bad
 abbrev pub refuses : List ℕ → Bool
 refuses line = is_none (head_line line)
 
--- the first fault, by the first of the lines before `log`, whether the text is too short, and how many lines those are
+-- the first fault, by the first of the lines before `log`, whether the input is too short, and the number of those lines
 abbrev pub fault_of : Option ℕ → Bool → ℕ → Option ℕ
 fault_of refused short before = option_or refused (cond short (Some before) None)
 

@@ -22,7 +22,7 @@ abbrev behind : List ℕ → Result Script ℕ → Result Script ℕ
 behind line (Ok script) = Ok (made (cons_option (change_in line) script.ops) (cons_option (keep_in line) script.keeps) script.calls)
 behind line (Err n) = Err (n + 1)
 
--- what refuses no line, and what names a line
+-- no line is rejected if a line is named
 not_refused : {A : Type 0} (o : Option A) → IsSome o → is_none o ≡ false
 not_refused (Some x) h = refl
 not_refused None h = absurd cc

@@ -313,7 +313,7 @@ of_outcome lines outcome script n (no_open before p) short few e = absurd cc
 of_outcome lines outcome script n (no_call before opening after line rest p q r s) short few e = absurd cc
 of_outcome lines outcome script n (no_feed before opening after p q r unfed) short few e = absurd cc
 
--- what a script names is no longer than its text
+-- the contents of a script are no longer than its bytes
 pub no_longer : ((text : List ℕ) → ComesTo (lines_of text) (script_of text)) → (text : List ℕ) (script : Script) → script_of text ≡ Ok script
     → AreNoLonger (length text) script.ops × AreNoLonger (length text) (all_ops script)
 no_longer comes text script e = of_outcome (lines_of text) (script_of text) script (length text) (comes text) (lines_short text) (lines_few text) e

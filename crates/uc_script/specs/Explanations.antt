@@ -55,7 +55,7 @@ is_head Setup = false
 is_head Calls = false
 is_head Head = true
 
--- Whether a line that these follow is the end of a head but for its LF.
+-- Whether a line that these follow is the end of a head except for its LF.
 abbrev pub lacks_its_end : Part → List ℕ → List (List ℕ) → Bool → Bool
 lacks_its_end part line others ended = is_head part && (says line (codes "log") && (length others == 0 && not ended))
 

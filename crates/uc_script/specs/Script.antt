@@ -118,7 +118,7 @@ call_after ops (asking.Change op) = None
 call_after ops asking.Feed = Some (Feed ops)
 call_after ops (asking.Ask call) = Some call
 
--- The changes that are gathered after it.
+-- The changes that are collected after it.
 abbrev pub ops_after : List Op → CallLine → List Op
 ops_after ops asking.Skipped = ops
 ops_after ops (asking.Change op) = ops ++ op ∷ []

@@ -48,7 +48,7 @@ pub record IsPicked (t : Turning) (pin : Moment) (s : Stretch) : Type 0 where
 abbrev pub last_seen : Turning → Stored
 last_seen t = fold after t.base t.new
 
--- the claim is refused because another compactor was faster
+-- the claim fails because another compactor was faster
 abbrev pub IsOutrun : ClaimError → Type 0
 IsOutrun refused.OutOfRange = ⊥
 IsOutrun refused.TooNarrow = ⊥
@@ -77,7 +77,7 @@ IsUninstalled t error =
 abbrev pub FailedFor : Turning → InstallError → Type 0
 FailedFor t error = IsOwnRefusal error × (error ≢ Memory → IsUninstalled t error)
 
--- what a refused claim makes of a turn
+-- the result of a turn whose claim fails
 abbrev pub refused_turn : ClaimError → Result Turn InstallError
 refused_turn refused.OutOfRange = Ok (Late refused.OutOfRange)
 refused_turn refused.TooNarrow = Ok (Late refused.TooNarrow)

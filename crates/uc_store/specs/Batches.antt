@@ -18,7 +18,7 @@ IsNext v ops = FitsBatch (v.last + 1) ops
 abbrev pub next_writes : Stored → List Op → List Write
 next_writes v ops = numbered (v.last + 1) ops
 
--- Why they aren't fed. Want of memory may be told before a refusal of the store is known.
+-- Why they aren't fed. `Memory` may be returned before the store finds another error.
 abbrev pub IsNotFed : Stored → List Op → FeedBatchError → Type 0
 IsNotFed v ops DoesNotFit = ¬ IsNext v ops
 IsNotFed v ops (NotFed error) = IsNext v ops × ((error ≡ Memory) ⊎ (feed_refusal v (next_writes v ops) ≡ Some error))

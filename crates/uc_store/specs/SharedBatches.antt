@@ -31,7 +31,7 @@ pub record IsRefusedNext (base : Stored) (ops : List Op) (old new : List Event) 
   pub fits : IsNext (fold after base looked) ops
   pub refused : feed_refusal (fold after base new) (next_writes (fold after base looked) ops) ≡ Some error
 
--- Why they aren't fed. Want of memory may be told in place of another refusal.
+-- Why they aren't fed. `Memory` may be returned in place of another error.
 abbrev pub IsNotFedNext : Stored → List Op → List Event → List Event → FeedBatchError → Type 0
 IsNotFedNext base ops old new DoesNotFit = ¬ IsNext (fold after base new) ops
 IsNotFedNext base ops old new (NotFed error) = error ≢ Memory → IsRefusedNext base ops old new error

@@ -55,7 +55,7 @@ module _ (m : Operation) (all : Compactions) (left : ℕ) (here : Owner) (old no
     nothing_picked taken = ap (λ (n : ℕ). compactions m n here) more ∙ taken (compactions m rest)
 
     module _ (line : Vec ℕ) where
-      -- a refusal ends them
+      -- an error ends them
       module _ (taken : IsStep m here (step.Last line) next) where
         last_is : compactions m left here ≡ last_line line.items next
         last_is = ap (λ (n : ℕ). compactions m n here) more ∙ taken (compactions m rest)

@@ -20,7 +20,7 @@ use Rattle.uc_tool_io.specs.declared.input.TheConstants.{INPUT_LIMIT}
 use Rattle.uc_tool_opening.specs.Opening.{FitsLog}
 use Rattle.uc_tool.specs.Play.{FitLogs}
 
--- the result of judging a script
+-- the result of validating a script
 abbrev pub Judges : List ℕ → Result Preamble ScriptError → Type 0
 Judges input result = Gives (λ (preamble : Preamble). script_with preamble (drop preamble.size input)) result (script_of input)
 

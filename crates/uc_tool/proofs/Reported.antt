@@ -70,7 +70,7 @@ module _ (m : Operation) (version : Stored) (options : Options) (start : Owner) 
 
 -- ---- the opening
 
--- what isn't refused has good options
+-- an opening that doesn't fail has valid options
 good_of : (good : Bool) (ahead : Option ℕ) (few : Bool) → first_refusal good ahead few ≡ None → good ≡ true
 good_of true ahead few e = refl
 good_of false ahead few e = absurd cc

@@ -7,7 +7,7 @@ use Rattle.uc_tool_io.specs.declared.run_error.RunError.{RunError}
 use Rattle.uc_tool_io.specs.declared.run_error.RunError.TheVariants as run_error
 use Rattle.uc_tool_io.proofs.Known.{appends_none, appends_more}
 
--- a front of one text is a front of that text and more
+-- a prefix of one byte string is a prefix of that and more
 pub front_of_first : (a b : Option (List ℕ)) (first rest : List ℕ) → AppendsFront a b first → AppendsFront a b (first ++ rest)
 front_of_first a b first rest f = (f.0, (f.1.0 ++ rest, sym (append_assoc f.0 f.1.0 rest) ∙ ap (λ (l : List ℕ). l ++ rest) f.1.1), f.2)
 

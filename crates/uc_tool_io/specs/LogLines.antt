@@ -51,7 +51,7 @@ batch_words (batch.Cut offset) = codes " cut " ++ decimal offset
 batch_words (batch.BadVarint offset) = codes " bad varint " ++ decimal offset
 batch_words (batch.OtherFamily id) = codes " other family " ++ decimal id
 batch_words batch.WrongCount = codes " wrong count"
--- no log is refused so
+-- no log is rejected with this
 batch_words batch.Memory = codes " out of memory"
 
 -- the line that says how far the log was read

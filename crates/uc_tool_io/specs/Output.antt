@@ -15,7 +15,7 @@ pub record Output : Type 0 where
   pub replies : List (List ℕ)
   pub done : Done
 
--- a run that was refused with one line
+-- a run that failed with one line
 abbrev pub refused : List ℕ → Output
 refused line = record { replies = line ∷ []; done = Refused }
 
@@ -31,8 +31,8 @@ text_of output = joined output.replies
 abbrev pub without_memory : Output → ℕ → List ℕ
 without_memory output n = joined (take n output.replies) ++ out_of_memory
 
--- Replies as far as they went out before an error: where memory ran out, some whole first ones; where the
--- writer failed, a front of their text.
+-- Replies as far as they were written before an error: if memory ran out, some first ones whole; if the writer failed, a prefix of
+-- their bytes.
 abbrev pub Stops : List (List ℕ) → Option (List ℕ) → Option (List ℕ) → RunError → Type 0
 Stops replies old new run_error.Memory = (n : ℕ) × Appends old new (joined (take n replies))
 Stops replies old new run_error.Device = AppendsFront old new (joined replies)
@@ -50,7 +50,7 @@ MayPrint output input whole =
     ⊎ (whole ≡ read_fault)
     ⊎ ((INPUT_LIMIT < length input) × (whole ≡ input_too_long))
 
--- the whole text went out, of an input within the limit
+-- all bytes were written, of an input within the limit
 abbrev pub PrintsAll : Output → List ℕ → Option (List ℕ) → Option (List ℕ) → Done → Type 0
 PrintsAll output input old new done = (output.done ≡ done) × (length input ≤ INPUT_LIMIT) × Appends old new (text_of output)
 

@@ -1,4 +1,4 @@
--- Claims go on to hold their runs when writes are fed.
+-- Claims continue to hold their runs when writes are fed.
 use Rattle.std.proofs.Common.{◌≡◌, ℕ, true, zero, suc, ◌+◌, ◌<◌, ◌≤◌, List, [], ◌∷◌, ◌++◌, Option, Some, None, length, length-append, map, get_or, take, drop, refl, sym, ap, ◌∙◌, subst, arith}
 use Rattle.std.specs.Prelude.{◌^◌, Result, Ok, Err, OnOk, OnErr, IfSome}
 use Rattle.std.specs.List.{AllByRecursion, flat_map}

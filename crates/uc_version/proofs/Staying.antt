@@ -38,7 +38,7 @@ use Rattle.uc_version.proofs.Legal.{is_legal, is_replaced}
 there : (n : ℕ) → 0 < n → ltb 0 n ≡ true
 there n lt = grind (arith, nat_tests)
 
--- a claim that isn't refused is in range, and finds no run that is claimed
+-- a claim that doesn't fail is in range, and has no run that is claimed
 pub fine_parts : (range : Option ClaimError) (busy : Option ℕ) → option_or range (option_map Busy busy) ≡ None → (range ≡ None) × (busy ≡ None)
 fine_parts None None e = (refl, refl)
 fine_parts None (Some slot) e = absurd cc

@@ -54,6 +54,6 @@ pub record IsOwner (o : Owner) : Type 0 where
   -- no run is in two claims
   pub apart : AreDistinct (claimed_slots o)
 
--- an owner who has claimed nothing
+-- an owner that has claimed nothing
 abbrev pub unclaimed : Stored → Options → Owner
 unclaimed v options = record { version = v; options = options; claims = replicate MOST_CLAIMS None }

@@ -86,7 +86,7 @@ module _ (limit : ℕ) where
         ∙ ap (behind p) (flushing_grown (q ∷ ps) w)
         ∙ flushing_behind p (grown_parts (q ∷ ps) w) (grown_some (q ∷ ps) w)
 
-    -- as many runs as parts, but for the newest
+    -- as many runs as parts, without the newest part
     runs_count : (ps : List (List Write)) → ps ≢ [] → length ps ≡ suc (length (flushing_of ps).runs)
     runs_count [] some = absurd (some refl)
     runs_count (p ∷ []) some = refl

@@ -11,7 +11,7 @@ install i = record { ids = i.ids.items; keeps = i.keeps.items; oldest = i.oldest
 
 -- Invariant of every install.
 pub record IsInstall (i : Install) : Type 0 where
-  -- an install of a single run would replace a run by itself
+  -- an install of a single run would replace a run by a copy of it
   pub two : 2 ≤ length i.ids
   pub keeps_rise : IsStrictlySortedBy nat_cmp i.keeps
 
