@@ -20,10 +20,14 @@ BEGIN = "begin with a verb or a noun"
 
 # Beginnings of a page's headings, paragraphs, items, bold words and cells.
 PAGE_OPENING = re.compile(r"(?:\n[ \t]*\n(?:#+ |[-*] |\d+\. |\*\*)?|\n(?:#+ |[ \t]*[-*] |\d+\. |\*\*)|\| ?)" + OPENINGS)
-COMMENT_OPENING = re.compile(r"[/*#\"\s]*" + OPENINGS)
+COMMENT_OPENING = re.compile(r"[/*#!\"\s-]*" + OPENINGS)
 COMMENT = re.compile(r"/\*.*?\*/", re.DOTALL)
+# Lines of comments of Antt that follow each other.
+ANTT_COMMENT = re.compile(r"(?:^ *|(?<=[ ;)]))--.*(?:\n *--.*)*", re.MULTILINE)
 # Lines of comments that follow each other, but for those of an example.
 RUST_COMMENT = re.compile(r"(?:(?<=[\n{};,)(] )|(?<=\n)) *//[/!]?.*(?:\n *//[/!]?.*)*")
+# The comment at the head of a file.
+HEAD_COMMENT = re.compile(r"(?://[/!]?.*\n)+")
 RUST_EXAMPLE = re.compile(r"//[/!] ```.*?//[/!] ```", re.DOTALL)
 CONTRACTION = re.compile(r"\b\w+n't\b|\b(?:it|that|there)'s\b", re.I)
 
@@ -47,11 +51,15 @@ def contractions(text):
 
 
 def comments_of(file):
-    """The comments of a file of C or Rust, or the comments and docstrings of one of Python, with their offsets."""
+    """The comments of a file of C, Rust, Rattle or Antt, or the comments and docstrings of one of Python, with their offsets."""
     text = file.read_text()
-    if file.suffix == ".rs":
+    if file.suffix == ".antt":
+        return [(at.start(), at.group()) for at in ANTT_COMMENT.finditer(text)]
+    if file.suffix in (".rs", ".rt"):
         text = RUST_EXAMPLE.sub(lambda example: re.sub(r"[^\n]", " ", example.group()), text)
-        return [(at.start(), at.group()) for at in RUST_COMMENT.finditer(text)]
+        head = HEAD_COMMENT.match(text)
+        comments = [(0, head.group())] if head else []
+        return comments + [(at.start(), at.group()) for at in RUST_COMMENT.finditer(text, head.end() if head else 0)]
     if file.suffix != ".py":
         return [(at.start(), at.group()) for at in COMMENT.finditer(text)]
     starts = [0]

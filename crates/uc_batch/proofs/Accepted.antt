@@ -1,4 +1,4 @@
--- What the grammar relates is read so.
+-- The reader returns the batch that the grammar relates to the bytes.
 use Rattle.std.proofs.Common.{◌≡◌, ℕ, zero, suc, ◌+◌, ◌-◌, ◌*◌, ◌^◌, ◌<◌, ◌≤◌, Bool, true, false, ltb, List, [], ◌∷◌, ◌++◌, length, take, drop, Option, Some, option_to_list, Ok, refl, ap, sym, ◌∙◌, append_assoc, lt-ltb, eq-eqb, arith, inl, inr}
 use Rattle.std.specs.List.{flat_map, AllByRecursion}
 use Rattle.std.specs.Int.{w32, w64, to_le_bytes, from_le_bytes}

@@ -1,4 +1,4 @@
--- What the writer wrote is read again.
+-- Reading returns what the writer wrote.
 use Rattle.std.proofs.Common.{◌≡◌, ℕ, zero, suc, ◌+◌, ◌-◌, ◌*◌, ◌/◌, ◌%◌, ◌^◌, ◌<◌, ◌≤◌, false, ltb, List, [], ◌∷◌, ◌++◌, length, take, drop, Some, Ok, refl, ap, ◌∙◌, append_assoc, lt-ltb, eq-eqb, arith, inl, inr}
 use Rattle.std.specs.List.{flat_map, All, AllByRecursion}
 use Rattle.std.specs.Int.{w32, w64, to_le_bytes, from_le_bytes}
@@ -105,6 +105,6 @@ accepted_again last seq ops small few strings fine =
     text_again last seq ops few
     ∙ rw (from_le_bytes-to_le_bytes_8 seq small, fine) (counted_again seq (length (batch_text seq ops)) ops (recursion_from_All FitsOp ops strings))
 
--- What was written is read again, after any sequence below its own.
+-- Reading returns the batch that was written, after any sequence number below its own.
 pub batch_again : (last seq : ℕ) (ops : List Op) → FitsBatch seq ops → (0 < length ops → last < seq) → batch_of last (batch_text seq ops) ≡ Ok (numbered seq ops)
 batch_again last seq ops fits above = accepted_again last seq ops (omega (arith, fits.begins)) fits.few fits.strings (judged_again last seq (length ops) above fits.ends)

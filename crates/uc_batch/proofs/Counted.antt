@@ -71,7 +71,7 @@ module _ (total : ℕ) (body : List ℕ) (counted : ℕ) (rest after : List ℕ)
   next_whole : (o : Option Op) → record_at total rest ≡ Ok (o, after) → with_front (so_far.ops ++ option_to_list o) (operations total after) ≡ operations total body
   next_whole o e = sym (ap (with_front so_far.ops) (one_record total rest (o, after) some e) ∙ regroup so_far.ops (option_to_list o) (operations total after)) ∙ so_far.whole
 
-  -- behind a record that isn't counted, and one that is
+  -- after a record that isn't counted, and after one that is
   pub passes : record_at total rest ≡ Ok (None, after) → ReadsOn total body counted after
   passes e = record {
     ops = so_far.ops;
@@ -130,7 +130,7 @@ pub counted_is : (sequence count total : ℕ) (body : List ℕ) → AreCounted c
 unfolding counted_of
 counted_is sequence count total body c = rw c.fine (rw (eq-eqb (length (ops_in total body)) count (sym c.counted)) refl)
 
--- ---- records that were judged, one after the other
+-- ---- validated records, one after the other
 
 -- the first record of some that have no fault, and the others
 pub first_judged : (total : ℕ) (rest after : List ℕ) (o : Option Op) → 0 < length rest → operations total rest ≡ Ok (ops_in total rest) → record_at total rest ≡ Ok (o, after)

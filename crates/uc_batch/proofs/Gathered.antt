@@ -1,4 +1,4 @@
--- Operations that are gathered as the bytes of a batch.
+-- Operations encoded as the bytes of a batch.
 use Rattle.std.proofs.Common.{◌≡◌, ℕ, ◌+◌, ◌^◌, ◌<◌, ◌≤◌, List, [], ◌∷◌, ◌++◌, length, take, drop, refl, ap, sym, ◌∙◌, subst, append_assoc, arith}
 use Rattle.std.specs.List.{flat_map}
 use Rattle.std.specs.Int.{w32, w64, to_le_bytes}
@@ -14,7 +14,7 @@ use Rattle.uc_batch.proofs.Again.{operations_again}
 abbrev header : ℕ → List ℕ
 header count = to_le_bytes w64 0 ++ to_le_bytes w32 count
 
--- the operations are those that the bytes spell
+-- the operations are those that the bytes encode
 pub gathered : (count : ℕ) (bytes : List ℕ) (ops : List Op) → AreGathered count bytes ops → gathered_ops bytes ≡ ops
 gathered count bytes ops are =
     let body : drop 12 bytes ≡ flat_map op_text ops = ap (drop 12) are.text ∙ drop_at (header (length ops)) (flat_map op_text ops) 12 refl in
@@ -53,6 +53,6 @@ cleared count ops old mid new are cut counted =
     let whole : mid ≡ header (length ops) ++ [] = cut ∙ ap (take 12) are.text ∙ take_at (header (length ops)) (flat_map op_text ops) 12 refl ∙ sym (append-nil (header (length ops))) in
     none_gathered new (counted ∙ recounted mid [] (length ops) 0 whole)
 
--- there is room for a header
+-- the bytes contain a header
 pub long : (count : ℕ) (ops : List Op) (bytes : List ℕ) → AreGathered count bytes ops → 12 ≤ length bytes
 long count ops bytes are = rw are.text (omega (arith, length-append (header (length ops)) (flat_map op_text ops)))

@@ -17,7 +17,7 @@ pub record JoinsOn (all : WriteLog) (position : BatchPosition) (writes : List Wr
 pub begins : (all : WriteLog) (position : BatchPosition) → position.ahead ≡ all → position.last ≡ 0 → JoinsOn all position []
 begins all position ahead last = record { whole = sym ahead; last_is = last; rising = tt }
 
--- behind a batch more
+-- after one more batch
 pub joins : (all : WriteLog) (old new : BatchPosition) (writes : List Write) → JoinsOn all old writes → BatchComesFirst old new → JoinsOn all new (writes ++ new.batch)
 joins all old new writes so_far comes = record {
   whole = so_far.whole ∙ (ap (with_batch writes) comes.first ∙ ap (λ (ws : List Write). record { list = ws; ended = new.ahead.ended }) (sym (append_assoc writes new.batch new.ahead.list)));

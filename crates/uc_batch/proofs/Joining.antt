@@ -56,7 +56,7 @@ module _ {T E : Type 0} where
 
 -- ---- some bytes moved
 
--- the first bytes of the first piece, behind others
+-- the first bytes of the first piece, appended to others
 pub moved_part : (ps : List (Vec ℕ)) (first : Vec ℕ) (old new left front : List ℕ) (most : ℕ) → 0 < length ps → first ≡ get_or ps 0 first → most ≤ length first.items → front ≡ take most first.items → new ≡ old ++ front → left ≡ drop most (bytes_of ps) → new ++ left ≡ old ++ bytes_of ps
 moved_part [] first old new left front most some read le e f g = absurd (omega arith)
 moved_part (p ∷ ps) first old new left front most some read le e f g =
@@ -73,7 +73,7 @@ drop_past front behind left le =
     ∙ drop-drop (left - length front) (length front) (front ++ behind)
     ∙ ap (λ (n : ℕ). drop n (front ++ behind)) whole
 
--- what is left to pass over behind the end of a piece of this size
+-- the number of bytes left to skip after the end of a piece of this size
 pub next_passed : (piece rest next behind all : List ℕ) (size at left : ℕ) → size ≡ length piece → size - at < left → rest ≡ next ++ behind → drop left (drop at piece ++ rest) ≡ all → drop (left - (size - at)) (next ++ behind) ≡ all
 next_passed piece rest next behind all size at left long lt is same =
     let front = drop at piece in

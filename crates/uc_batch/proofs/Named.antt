@@ -141,7 +141,7 @@ ended_named (Some refused) ending n p = λ h.
     let fault : refused.1 ≡ faults.Memory = cc in
     p (ap (λ (k : ℕ). Some (k, refused.1)) number ∙ ap (λ (e : BatchError). Some (n, e)) fault)
 
--- no log is refused for want of memory
+-- no log is rejected because of a failed allocation
 pub log_named : (log : List ℕ) (ended : Ended) (number : ℕ) (fault : BatchError) → ended ≡ (log_writes log).ended → ended ≡ ends.BatchFault number fault → fault ≢ faults.Memory
 log_named log ended number fault e f = λ h.
     ended_named (batches_of 0 1 (payloads_of log)).refused (ending_of log) number (refused_named (payloads_of log) 0 1 number) (sym e ∙ f ∙ ap (ends.BatchFault number) h)

@@ -7,7 +7,7 @@ use Rattle.uc_batch.specs.declared.payload.Payload.{Payload}
 use Rattle.uc_batch.specs.declared.payload.Payload.TheVariants as payloads
 use Rattle.uc_batch.specs.PiecePosition.{payload_in, Passes, PassesOver}
 
--- the text, and what is left behind it
+-- the payload, and what is left after it
 text_there : (piece more : List ℕ) (at size : ℕ) → drop at piece ++ more ≡ take size (drop at piece) ++ (drop (at + size) piece ++ more)
 text_there piece more at size =
     ap (λ (l : List ℕ). l ++ more) (sym (take-append-drop size (drop at piece)))
@@ -24,11 +24,11 @@ passes_by payload piece behind at place after stands more =
     ∙ stands.3 (drop (at + size) piece ++ more)
     ∙ ap (λ (n : ℕ). with_payload payload (ahead_at n (drop (at + size) piece ++ more))) there
 
--- its text lies in the piece
+-- its bytes are in the piece
 pub text_within : (payload piece behind : List ℕ) (at place after : ℕ) → at ≤ length piece → StandsBetween payload place (drop at piece) after behind → at + (after - place) ≤ length piece
 text_within payload piece behind at place after le stands = omega (arith, stands.1, stands.2, length-drop at piece)
 
--- the last bytes of a text, in the piece
+-- the last bytes of a payload, in the piece
 pub last_lies : (payload piece : List ℕ) (at size : ℕ) → at + size ≤ length piece → payload ≡ drop (length (take size (drop at piece)) - length payload) (take size (drop at piece))
     → take ((at + size) - ((at + size) - length payload)) (drop ((at + size) - length payload) piece) ≡ payload
 last_lies payload piece at size le last =

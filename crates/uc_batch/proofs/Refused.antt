@@ -1,4 +1,4 @@
--- What stands where a batch is refused.
+-- The fault of a batch that isn't valid.
 use Rattle.std.proofs.Common.{◌≡◌, ◌≢◌, ℕ, zero, suc, ◌+◌, ◌-◌, ◌*◌, ◌^◌, ◌<◌, ◌≤◌, ◌⊎◌, Bool, true, false, cond, ltb, leb, eqb, List, [], ◌∷◌, ◌++◌, length, take, drop, Option, Some, None, option_to_list, Result, Ok, Err, refl, ap, sym, ◌∙◌, subst, append_assoc, eq-eqb, arith, inl, inr}
 use Rattle.std.proofs.lemmas.Bool.{ltb-false, ltb-true, leb-false, leb-true, lt-ltb}
 use Rattle.std.proofs.lemmas.List.{length-append, length-drop}
@@ -125,7 +125,7 @@ first_field start place field fields bytes e f = record {
   there = subst (λ (p : ℕ). FieldFault start p bytes field e) (omega arith) f;
 }
 
--- or one behind it
+-- or one after it
 later_field : (start place next : ℕ) (field : Field) (fields : List Field) (bytes front rest : List ℕ) (e : BatchError) → IsField field front → bytes ≡ front ++ rest → next ≡ place + length front → FaultAmong start next fields rest e → FaultAmong start place (field ∷ fields) bytes e
 later_field start place next field fields bytes front rest e is whole at f = record {
   before = field ∷ f.before;
@@ -139,14 +139,14 @@ later_field start place next field fields bytes front rest e is whole at f = rec
   there = subst (λ (p : ℕ). FieldFault start p f.left f.field e) (omega (arith, at, length-append front f.front)) f.there;
 }
 
--- the place behind a field
+-- the place after a field
 place_behind : (total : ℕ) (bytes front rest : List ℕ) → length bytes ≤ total → bytes ≡ front ++ rest → total - length rest ≡ total - length bytes + length front
 place_behind total bytes front rest within whole = omega (arith, ap length whole, length-append front rest)
 
 rest_within : (total : ℕ) (bytes front rest : List ℕ) → length bytes ≤ total → bytes ≡ front ++ rest → length rest ≤ total
 rest_within total bytes front rest within whole = omega (arith, ap length whole, length-append front rest)
 
--- one text, and two
+-- one byte string, and two
 of_text : {B : Type 0} (make : List ℕ × List ℕ → B) (total start : ℕ) (bytes : List ℕ) (e : BatchError) → (string_at total start bytes >>= λ one. Ok (make one)) ≡ Err e → FaultAmong start (total - length bytes) (Text ∷ []) bytes e
 of_text make total start bytes e h = first_field start (total - length bytes) Text [] bytes e (text_fault total start bytes e (only_first (string_at total start bytes) make e h))
 
@@ -249,7 +249,7 @@ records_fault (suc most) total (b ∷ bytes) e enough within h =
 
 -- ---- a batch
 
--- a test that names a fault, or what comes behind it
+-- a test that names a fault, or the result after it
 either_fault : {A : Type 0} (b : Bool) (d : BatchError) (r : Result A BatchError) (e : BatchError) → cond b (Err d) r ≡ Err e → ((b ≡ true) × (d ≡ e)) ⊎ ((b ≡ false) × (r ≡ Err e))
 either_fault true d r e h = inl (refl, same_fault d e h)
 either_fault false d r e h = inr (refl, h)
@@ -296,7 +296,7 @@ refused_body : (last seq count : ℕ) (bytes body : List ℕ) (e : BatchError) �
 refused_body last seq count bytes body e header follows at (inl stops) = faulty last seq count bytes body e header follows (subst (λ (p : ℕ). StopsAt p body e) at stops)
 refused_body last seq count bytes body e header follows at (inr (ops, records, other, is)) = subst (λ (x : BatchError). IsRefused last bytes x) is (wrong_count last seq count bytes body ops header follows records other)
 
--- what a batch is refused for stands there
+-- the error of a batch is its fault by the grammar
 pub batch_refused : (last : ℕ) (bytes : List ℕ) (e : BatchError) → IsBytes bytes → batch_of last bytes ≡ Err e → IsRefused last bytes e
 unfolding batch_of
 batch_refused last bytes e fits h =

@@ -1,4 +1,4 @@
--- Gathered operations that get a sequence.
+-- Encoded operations that get a sequence number.
 use Rattle.std.proofs.Common.{◌≡◌, ℕ, ◌+◌, ◌^◌, ◌<◌, ◌≤◌, List, [], ◌∷◌, ◌++◌, length, drop, Ok, Err, refl, ap, sym, ◌∙◌, append_assoc, arith}
 use Rattle.std.specs.List.{flat_map, AllByRecursion}
 use Rattle.std.specs.Int.{w32, w64, to_le_bytes, from_le_bytes}
@@ -17,7 +17,7 @@ use Rattle.uc_batch.proofs.Again.{accepted_again, counted_again, judged_again, t
 use Rattle.uc_batch.proofs.Found.{judged_found}
 use Rattle.uc_batch.proofs.Steps.{bind_ok, ok_is}
 
--- the text has the sequence
+-- the bytes have the sequence number
 pub renumbered : (seq : ℕ) (ops : List Op) → numbered_text seq ops ≡ batch_text seq ops
 renumbered seq ops =
     let n = to_le_bytes w32 (length ops) in
@@ -55,7 +55,7 @@ by_header last seq total ops writes strings e =
     let same : Ok writes ≡ Ok (numbered j.0 ops) = sym j.2 ∙ counted_again j.0 total ops strings in
     (ok_is writes (numbered j.0 ops) same ∙ ap (λ (s : ℕ). numbered s ops) fine.0, fine.1, fine.2)
 
--- the sequence that the header tells is the one behind the last, if it may follow
+-- the sequence number in the header is the one after the last, if it may follow
 told : (last seq : ℕ) (ops : List Op) (writes : List Write) → seq ≡ from_le_bytes w64 (to_le_bytes w64 (last + 1)) → (writes ≡ numbered seq ops) × (0 < length ops → last < seq) × (0 < length ops → seq + length ops ≤ 2 ^ 56)
     → (writes ≡ numbered (last + 1) ops) × (0 < length ops → last + length ops < 2 ^ 56)
 told last seq [] writes e found = (found.0, λ h. omega arith)

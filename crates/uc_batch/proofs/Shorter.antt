@@ -1,4 +1,4 @@
--- What is behind a record is shorter than the record and it.
+-- The bytes after a record are fewer than those with the record.
 use Rattle.std.proofs.Common.{◌≡◌, ℕ, zero, suc, ◌+◌, ◌-◌, ◌*◌, ◌<◌, ◌≤◌, Bool, true, false, cond, ltb, eqb, List, [], ◌∷◌, length, take, drop, Option, Some, None, Result, Ok, Err, ap, arith, length-drop}
 use Rattle.uc_bytes.specs.declared.op.Op.{Op}
 use Rattle.uc_bytes.specs.declared.op.Op.TheVariants as op

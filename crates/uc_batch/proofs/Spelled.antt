@@ -1,4 +1,4 @@
--- The text that the writer gives a batch is spelled by the grammar.
+-- The bytes that the writer writes for a batch are one by the grammar.
 use Rattle.std.proofs.Common.{ℕ, zero, suc, ◌/◌, ◌^◌, ◌<◌, List, [], ◌∷◌, ◌++◌, length, Some, refl, ap, append_assoc, lt-ltb, arith, inl, inr, false}
 use Rattle.std.specs.List.{flat_map, AllByRecursion}
 use Rattle.std.specs.Int.{w32, w64, to_le_bytes}

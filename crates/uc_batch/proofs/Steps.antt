@@ -1,4 +1,4 @@
--- What a step that did not fail shows.
+-- Facts that follow from a step that did not fail.
 use Rattle.std.proofs.Common.{◌≡◌, Bool, true, false, cond, Result, Ok, Err, refl}
 use Rattle.uc_batch.specs.declared.error.BatchError.{BatchError}
 use Rattle.uc_batch.specs.Reads.{◌>>=◌}

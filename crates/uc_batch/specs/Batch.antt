@@ -26,7 +26,7 @@ ops_in total rest = read_ops (operations total rest)
 abbrev pub last_numbered : ℕ → ℕ → ℕ → ℕ
 last_numbered last seq count = if count == 0 then last else seq + (count - 1)
 
--- the writes of a batch whose records are judged, if the first has this sequence
+-- the writes of a batch with valid records, if the first has this sequence number
 abbrev pub writes_in : ℕ → List ℕ → List Write
 writes_in seq bytes = numbered seq (ops_in (length bytes) (drop 12 bytes))
 

@@ -1,5 +1,4 @@
--- Operations that are gathered as the bytes of a batch without a sequence, as a program builds one (RocksDB,
--- `write_batch.cc`).
+-- Operations encoded as the bytes of a batch without a sequence number, as a program builds one (RocksDB, `write_batch.cc`).
 use Rattle.std.specs.Prelude.{◌≡◌, ℕ, ◌+◌, ◌^◌, ◌<◌, List, ◌++◌, length, drop, All}
 use Rattle.std.specs.Int.{w64, to_le_bytes}
 use Rattle.uc_bytes.specs.declared.op.Op.{Op}
@@ -17,7 +16,7 @@ pub record FitTogether (ops : List Op) : Type 0 where
   pub few : length ops < 2 ^ 32
   pub strings : All FitsOp ops
 
--- These bytes are the batch of so many operations, with the sequence 0.
+-- The bytes encode a batch of `count` operations, with the sequence number 0.
 pub record AreGathered (count : ℕ) (bytes : List ℕ) (ops : List Op) : Type 0 where
   pub text : bytes ≡ batch_text 0 ops
   pub counted : count ≡ length ops

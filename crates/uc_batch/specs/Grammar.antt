@@ -1,5 +1,5 @@
--- Which bytes are a batch of which operations. It is a relation, since a number may be spelled in several ways and some
--- records aren't counted (RocksDB, `write_batch.cc`, and `coding.h` for the numbers).
+-- Grammar of batches: the operations that bytes encode. It is a relation, since a number has several encodings and some records
+-- aren't counted (RocksDB, `write_batch.cc`, and `coding.h` for the numbers).
 use Rattle.std.specs.Prelude.{◌≡◌, ℕ, zero, suc, ◌+◌, ◌*◌, ◌^◌, ◌<◌, ◌≤◌, ◌⊎◌, Bool, true, false, List, [], ◌∷◌, ◌++◌, length, Option, Some, None, option_to_list}
 use Rattle.std.specs.List.{flat_map, AllByRecursion}
 use Rattle.std.specs.Int.{w32, w64, to_le_bytes}
@@ -12,14 +12,14 @@ use Rattle.uc_batch.specs.declared.tag.Layout.{Layout}
 use Rattle.uc_batch.specs.Tag.{layout_at}
 use Rattle.uc_batch.specs.Batch.{numbered}
 
--- The bytes, one and at most `more` others, spell n: each has seven bits, low ones first, and the high bit
--- says that another follows. The last of five has four bits.
+-- The bytes, one and at most `more` others, encode n: each has seven bits, low ones first, and the high bit says that another
+-- follows. The last of five has four bits.
 abbrev pub Spells : ℕ → List ℕ → ℕ → Type 0
 Spells more [] n = ⊥
 Spells zero (b ∷ bs) n = (b < 16) × (bs ≡ []) × (n ≡ b)
 Spells (suc more) (b ∷ bs) n = ((b < 128) × (bs ≡ []) × (n ≡ b)) ⊎ ((high : ℕ) × (128 ≤ b) × Spells more bs high × (n + 128 ≡ b + 128 * high))
 
--- a length, in any spelling, and that many bytes
+-- a length, in any encoding, and that many bytes
 abbrev pub IsString : List ℕ → List ℕ → Type 0
 IsString bytes text = (size : List ℕ) × Spells 4 size (length text) × (bytes ≡ size ++ text)
 
@@ -27,7 +27,7 @@ IsString bytes text = (size : List ℕ) × Spells 4 size (length text) × (bytes
 abbrev pub AreStrings : List ℕ → List ℕ → List ℕ → Type 0
 AreStrings bytes a b = (x y : List ℕ) × IsString x a × IsString y b × (bytes ≡ x ++ y)
 
--- the default family's number in any spelling, or nothing if there is no family
+-- the default family's number in any encoding, or nothing if there is no family
 abbrev pub IsFamily : Bool → List ℕ → Type 0
 IsFamily true bytes = Spells 4 bytes 0
 IsFamily false bytes = bytes ≡ []

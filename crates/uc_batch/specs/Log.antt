@@ -15,7 +15,7 @@ use Rattle.uc_batch.specs.Batch.{batch_of}
 use Rattle.uc_batch.specs.Rising.{last_of}
 use Rattle.uc_batch.specs.WriteLog.{WriteLog}
 
--- the writes of some payloads, and the number and the fault of the first that is refused
+-- the writes of some payloads, and the number and the fault of the first invalid one
 pub record Batches : Type 0 where
   pub writes : List Write
   pub refused : Option (ℕ × BatchError)
@@ -32,13 +32,13 @@ abbrev pub batches_of : ℕ → ℕ → List (List ℕ) → Batches
 batches_of last number [] = record { writes = []; refused = None }
 batches_of last number (payload ∷ payloads) = after_batch (λ used. batches_of used (number + 1) payloads) last number (batch_of last payload)
 
--- how far a log was read, if no payload is refused
+-- how far a log was read, if all payloads are valid
 abbrev pub ended_by : Ending → Ended
 ended_by ending.Clean = ended.Clean
 ended_by (ending.Torn offset) = ended.Torn offset
 ended_by (ending.Fault fault offset) = ended.LogFault fault offset
 
--- it is read to the first refused payload, or else to its ending
+-- it is read to the first invalid payload, or else to its ending
 abbrev pub ended_at : Option (ℕ × BatchError) → Ending → Ended
 ended_at None ending = ended_by ending
 ended_at (Some refused) ending = ended.BatchFault refused.0 refused.1
@@ -66,7 +66,7 @@ accepted TornTail batches ending = unless_faulty batches ending batches.refused
 abbrev pub writes_of : Mode → List ℕ → Result WriteLog ReadError
 writes_of mode log = accepted mode (batches_of 0 1 (payloads_of log)) (ending_of log)
 
--- an error is the refusal that is there, unless memory ran out
+-- an error is that of reading, unless allocation failed
 abbrev pub Refuses : ReadError → Result WriteLog ReadError → Type 0
 Refuses errors.Memory read = Unit {0}
 Refuses (errors.Batch number fault) read = read ≡ Err (errors.Batch number fault)

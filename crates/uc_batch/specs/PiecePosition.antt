@@ -27,16 +27,15 @@ LiesIn payload.Joined piece = Unit {0}
 
 -- ---- in one piece
 
--- A payload's text of this size is at a place of the log, and at an offset of the piece. Whatever follows the piece, the
--- payload is read, and then what follows.
+-- A payload takes `size` bytes at a place of the log, and at an offset of the piece. Whatever follows the piece, the payload is
+-- read, and then what follows.
 pub record Passes (payload : Payload) (size : ℕ) (joined piece : List ℕ) (at place : ℕ) : Type 0 where
   pub some : 0 < size
   pub within : at + size ≤ length piece
   pub lies : LiesIn payload piece
   pub comes : (more : List ℕ) → ahead_at place (drop at piece ++ more) ≡ with_payload (payload_in payload piece joined) (ahead_at (place + size) (drop (at + size) piece ++ more))
 
--- A payload is the first that is read of all these bytes, and then what is read behind its text of this size. It is in
--- the buffer.
+-- The first payload that is read of all these bytes, followed by what is read after its `size` bytes. It is in the buffer.
 pub record PassesOver (size : ℕ) (joined : List ℕ) (place : ℕ) (all : List ℕ) : Type 0 where
   pub some : 0 < size
   pub within : size ≤ length all
@@ -49,14 +48,14 @@ ReadsIn (read.Ended ending) joined piece at place = ahead_at place (drop at piec
 
 -- ---- in all pieces
 
--- a payload's text of this size is the first that is ahead
+-- a payload of this size is the first that is ahead
 pub record Leads (payload : Payload) (size : ℕ) (joined : List ℕ) (place : ℕ) (old new : Unread) : Type 0 where
   pub some : 0 < size
   pub fits : length (bytes_ahead old) ≡ size + length (bytes_ahead new)
   pub lies : LiesIn payload new.piece.items
   pub comes : ahead_at place (bytes_ahead old) ≡ with_payload (payload_in payload new.piece.items joined) (ahead_at (place + size) (bytes_ahead new))
 
--- what is read at a place of the log, and the bytes that are ahead before it and behind it
+-- the result of a read at a place of the log, and the bytes ahead before it and after it
 abbrev pub ReadsFrom : Read → List ℕ → ℕ → Unread → Unread → Type 0
 ReadsFrom (read.Payload payload size) joined place old new = Leads payload size joined place old new
 ReadsFrom (read.Ended ending) joined place old new = (ahead_at place (bytes_ahead old) ≡ ended ending) × (bytes_ahead new ≡ bytes_ahead old)
@@ -68,12 +67,12 @@ pub record PiecePosition : Type 0 where
   pub log : Position
   pub piece : List ℕ
 
--- What comes next at a position, and the position after it: the first payload ahead, or the ending if none is ahead.
+-- The next result at a position, and the position after it: the first payload ahead, or the ending if none is ahead.
 abbrev pub Comes : Next → List ℕ → PiecePosition → PiecePosition → Type 0
 Comes (next.Payload payload) joined old new = ComesFirst (payload_in payload new.piece joined) old.log new.log × LiesIn payload new.piece
 Comes (next.Ended ending) joined old new = (old.log.ahead ≡ ended ending) × (new.log ≡ old.log)
 
--- What was found of the payloads ahead: a batch that may follow, or how far the log is read.
+-- The next valid batch among the payloads ahead, or how far the log is read.
 abbrev pub Finds : Found → List ℕ → ℕ → PiecePosition → PiecePosition → Type 0
 Finds (found.Batch payload header) joined last old new =
     let bytes = payload_in payload new.piece joined in

@@ -17,7 +17,7 @@ abbrev pub AreFilled : List (Vec ℕ) → Type 0
 AreFilled [] = Unit {0}
 AreFilled (piece ∷ pieces) = (0 < length piece.items) × AreFilled pieces
 
--- the pieces have so many bytes, and none is empty
+-- the pieces have `size` bytes together, and none is empty
 pub record ArePieces (pieces : List (Vec ℕ)) (size : ℕ) : Type 0 where
   pub filled : AreFilled pieces
   pub counted : size ≡ length (bytes_of pieces)

@@ -45,7 +45,7 @@ pub record BatchComesFirst (old new : BatchPosition) : Type 0 where
   pub last : new.last ≡ last_of old.last new.batch
   pub fewer : new.left < old.left
 
--- What comes next at a position, and the position after it: a batch, or if none is ahead, how far the log was read.
+-- The next result at a position, and the position after it: a batch, or if none is ahead, how far the log was read.
 abbrev pub Advances : Advance → BatchPosition → BatchPosition → Type 0
 Advances advance.Batch old new = BatchComesFirst old new
 Advances (advance.Ended ended) old new = (old.ahead ≡ nothing_ahead ended) × (new.ahead ≡ old.ahead) × (new.last ≡ old.last)
@@ -68,12 +68,12 @@ abbrev pub ahead_unless : Option Ended → WriteLog → WriteLog
 ahead_unless None ahead = ahead
 ahead_unless (Some ended) ahead = nothing_ahead ended
 
--- The header is that of a batch that was judged whole.
+-- The header is that of a validated batch.
 pub record IsJudged (header : Header) (bytes : List ℕ) : Type 0 where
   pub counted : AreCounted header.count (length bytes) (drop 12 bytes)
   pub room : 0 < header.count → header.sequence + header.count ≤ 2 ^ 56
 
--- What was found of the payloads ahead: a batch that may follow, or how far the log is read.
+-- The next valid batch among the payloads ahead, or how far the log is read.
 abbrev pub Finds : Found → List ℕ → ℕ → Position → Position → Type 0
 Finds (found.Batch payload header) joined last old new =
     let bytes = payload_bytes payload joined in

@@ -1,4 +1,4 @@
--- What a reader of part of a batch returns: a value, or the first fault.
+-- The result of reading part of a batch: a value, or the first fault.
 use Rattle.std.specs.Prelude.{◌≡◌, Result, Ok, Err}
 use Rattle.uc_batch.specs.declared.error.BatchError.{BatchError}
 use Rattle.uc_batch.specs.declared.error.BatchError.TheVariants as faults
@@ -14,12 +14,12 @@ abbrev pub Fails : {Y : Type 0} → BatchError → Result Y BatchError → Type 
 Fails faults.Memory read = Unit {0}
 Fails e read = read ≡ Err e
 
--- What a function returned, seen by view, is what reading returns, unless memory ran out.
+-- A function's result, seen by view, is the result of reading, unless allocation failed.
 abbrev pub Gives : {X Y : Type 0} → (X → Y) → Result X BatchError → Result Y BatchError → Type 0
 Gives view (Ok x) read = read ≡ Ok (view x)
 Gives view (Err e) read = Fails e read
 
--- What a function that doesn't allocate returned, seen by view, is what reading returns.
+-- The result of a function that doesn't allocate, seen by view, is the result of reading.
 abbrev pub Exactly : {X Y : Type 0} → (X → Y) → Result X BatchError → Result Y BatchError → Type 0
 Exactly view (Ok x) read = read ≡ Ok (view x)
 Exactly view (Err e) read = read ≡ Err e

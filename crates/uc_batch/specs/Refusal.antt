@@ -1,4 +1,4 @@
--- Why a batch is refused, in the words of the grammar (RocksDB, `write_batch.cc`, and `coding.h` for the numbers).
+-- Errors of a batch, in terms of the grammar (RocksDB, `write_batch.cc`, and `coding.h` for the numbers).
 use Rattle.std.specs.Prelude.{◌≡◌, ◌≢◌, ℕ, zero, suc, ◌+◌, ◌^◌, ◌<◌, ◌≤◌, true, false, List, [], ◌∷◌, ◌++◌, length, Some, None}
 use Rattle.std.specs.Int.{w32, w64, to_le_bytes}
 use Rattle.uc_bytes.specs.declared.op.Op.{Op}
@@ -25,7 +25,7 @@ NumberIsLong (suc more) (b ∷ bs) = (128 ≤ b) × NumberIsLong more bs
 
 -- ---- the fields after a tag
 
--- the number of a column family, and a text with its length before it
+-- the number of a column family, or a byte string with its length before it
 pub data Field : Type 0 where
   Family : Field
   Text : Field
@@ -45,7 +45,7 @@ with_family fields = Family ∷ fields
 abbrev pub fields_of : Layout → List Field
 fields_of layout = elim layout.has_family [ true ↦ with_family (texts_of layout.form) | false ↦ texts_of layout.form ]
 
--- the bytes are a field: the default family's number, or a text, with numbers in any spelling
+-- the bytes are a field: the default family's number, or a byte string, with numbers in any encoding
 abbrev pub IsField : Field → List ℕ → Type 0
 IsField Family bytes = Spells 4 bytes 0
 IsField Text bytes = (text : List ℕ) × IsString bytes text
@@ -55,11 +55,11 @@ abbrev pub AreFields : List Field → List ℕ → Type 0
 AreFields [] bytes = bytes ≡ []
 AreFields (field ∷ fields) bytes = (front others : List ℕ) × IsField field front × AreFields fields others × (bytes ≡ front ++ others)
 
--- What is wrong with a field at `place`, if the batch has these bytes left. The tag of its record is at `start`.
+-- The fault of a field at `place`, if the batch has these bytes left. The tag of its record is at `start`.
 pub data FieldFault : ℕ → ℕ → List ℕ → Field → BatchError → Type 0 where
   -- the batch ends within its number
   number_cut : (start place : ℕ) (bytes : List ℕ) (field : Field) → NumberIsCut 4 bytes → FieldFault start place bytes field (faults.Cut start)
-  -- or within the text, whose number announces more bytes
+  -- or within the byte string, whose length announces more bytes
   text_cut : (start place : ℕ) (bytes size behind : List ℕ) (n : ℕ) → Spells 4 size n → bytes ≡ size ++ behind → length behind < n → FieldFault start place bytes Text (faults.Cut start)
   -- its number doesn't fit 32 bits
   number_long : (start place : ℕ) (bytes : List ℕ) (field : Field) → NumberIsLong 4 bytes → FieldFault start place bytes field (faults.BadVarint place)
@@ -78,7 +78,7 @@ pub record FaultAmong (start place : ℕ) (fields : List Field) (bytes : List �
   pub whole : bytes ≡ front ++ left
   pub there : FieldFault start (place + length front) left field fault
 
--- What is wrong with a record whose tag is at `start`, if the batch has these bytes left.
+-- The fault of a record whose tag is at `start`, if the batch has these bytes left.
 pub data RecordFault : ℕ → List ℕ → BatchError → Type 0 where
   -- no record begins with the tag
   bad_tag : (start tag : ℕ) (rest : List ℕ) → layout_at tag ≡ None → RecordFault start (tag ∷ rest) (faults.BadTag tag start)
@@ -107,8 +107,8 @@ pub record MayFollow (last seq count : ℕ) : Type 0 where
   pub above : 0 < count → last < seq
   pub below : 0 < count → seq + count ≤ 2 ^ 56
 
--- Why a batch that comes after the sequence `last` is refused, in this order. The records' first fault from the left
--- comes before their count.
+-- Why a batch that comes after the sequence number `last` isn't valid, in this order. The records' first fault from the left comes
+-- before their count.
 pub data IsRefused : ℕ → List ℕ → BatchError → Type 0 where
   too_short : (last : ℕ) (bytes : List ℕ) → length bytes < 12 → IsRefused last bytes faults.TooShort
   sequence_back : (last seq count : ℕ) (bytes body : List ℕ) → HasHeader bytes seq count body → 0 < count → seq ≤ last → IsRefused last bytes (faults.SequenceBack last)

@@ -1,4 +1,4 @@
--- The one text that the writer writes for a batch: plain tags and the shortest numbers.
+-- The unique encoding that the writer produces for a batch: plain tags and the shortest numbers.
 use Rattle.std.specs.Prelude.{ℕ, zero, suc, List, [], ◌∷◌, ◌++◌, length, ◌+◌, ◌/◌, ◌%◌, ◌^◌, ◌<◌, ◌≤◌, nat_lt, All, if◌then◌else◌}
 use Rattle.std.specs.List.{flat_map}
 use Rattle.std.specs.Int.{w32, w64, to_le_bytes}

@@ -32,20 +32,20 @@ pub(crate) enum Payload<'a> {
     Joined,
 }
 
-/// A batch that was judged, or how far the log was read.
+/// A validated batch, or how far the log was read.
 #[derive(Clone, Copy)]
 pub(crate) enum Found<'a> {
     Batch(Payload<'a>, Header),
     Ended(Ended),
 }
 
-/// Goes through a log's batches, front to back, and returns borrowed writes of one at a time.
+/// Iterates over a log's batches, front to back, and returns borrowed writes of one at a time.
 ///
-/// A batch is judged whole, by its header, its records and its count, before it returns the first write. Batches end at
-/// the first fault of the log or of a batch. It allocates only one buffer, for a payload of several pieces in the log.
+/// The header, the records and the count of a batch are validated before its first write is returned. Batches end at the first
+/// fault of the log or of a batch. It allocates only one buffer, for a payload of several pieces in the log.
 ///
-/// Contracts see the last sequence used, the current batch, and what is ahead: the writes of the other batches, and how
-/// far the log is read.
+/// Contracts see the last sequence number used, the current batch, and what is ahead: the writes of the other batches, and how far
+/// the log is read.
 #[derive(Drop)]
 pub struct BatchReader<'a> {
     log: LogReader<'a>,
@@ -141,7 +141,7 @@ fn bytes_of<'a>(payload: Payload<'a>, joined: &'a [u8]) -> &'a [u8]
     }
 }
 
-/// Judges the next payload, if there is one.
+/// Validates the next payload, if there is one.
 fn find_batch<'a>(
     log: &mut LogReader<'a>,
     joined: &mut Vec<u8>,

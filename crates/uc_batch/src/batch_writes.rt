@@ -13,9 +13,9 @@ use crate::records::read_record;
 use std::marker::Model;
 use uc_bytes::{OpRef, WriteRef};
 
-/// The remaining writes of a batch that was judged whole before, the first one first.
+/// The remaining writes, in order, of a batch that was validated before.
 ///
-/// A contract sees them as a list. It doesn't allocate: each write borrows its texts from the batch.
+/// A contract sees them as a list. Iteration doesn't allocate: each write borrows its key and value from the batch.
 #[derive(Drop)]
 pub struct BatchWrites<'a> {
     // The sequence of the next one, and how many there are.
@@ -37,7 +37,7 @@ impl<'a> Model for BatchWrites<'a> {
         × (0 < w.count → w.sequence + w.count ≤ 2 ^ 56) };
 }
 
-/// Reads all records, and refuses the first fault or a wrong count.
+/// Reads all records, and returns the first fault or `WrongCount`.
 fn judge_records(mut batch: Cursor<'_>, count: u32) -> Result<(), BatchError>
     ensures ok { OnOk result (AreCounted count batch.entry.total batch.entry.rest.now) }
     ensures err { IfErr result (λ e.
@@ -55,7 +55,7 @@ fn judge_records(mut batch: Cursor<'_>, count: u32) -> Result<(), BatchError>
     Ok(())
 }
 
-/// The next operation of records that were judged, if there is one.
+/// The next operation of validated records, if there is one.
 fn next_op<'a>(batch: &mut Cursor<'a>) -> Option<OpRef<'a>>
     requires { operations batch.old.total batch.old.rest.now ≡ Ok (ops_in batch.old.total batch.old.rest.now) }
     ensures fine { operations batch.new.total batch.new.rest.now ≡ Ok (ops_in batch.new.total batch.new.rest.now) }
@@ -73,8 +73,8 @@ fn next_op<'a>(batch: &mut Cursor<'a>) -> Option<OpRef<'a>>
     None
 }
 
-/// Judges a batch that comes after the sequence `last`, as [`BatchWrites::read`] does, and returns its header. A reader that
-/// holds the bytes keeps it, and makes the writes by [`BatchWrites::judged`] when they are wanted.
+/// Validates a batch that comes after the sequence number `last`, as [`BatchWrites::read`] does, and returns its header. A reader
+/// that holds the bytes keeps the header, and makes the writes by [`BatchWrites::judged`] when they are needed.
 #[tactic(auto, unfolding(crate::specs::Batch::batch_of))]
 pub fn judge_batch(bytes: &[u8], last: u64) -> Result<Header, BatchError>
     ensures value { Exactly (λ header. writes_in header.sequence bytes.now) result (batch_of last bytes.now) }
@@ -90,8 +90,8 @@ pub fn judge_batch(bytes: &[u8], last: u64) -> Result<Header, BatchError>
 }
 
 impl<'a> BatchWrites<'a> {
-    /// Judges a batch that comes after the sequence `last` (0 if no sequence was used before), and returns its borrowed
-    /// writes with their sequences. See [`BatchError`] for the refusals and their order; none of them is `Memory`.
+    /// Validates a batch that comes after the sequence number `last` (0 if none was used before), and returns its borrowed writes
+    /// with their sequence numbers. See [`BatchError`] for the errors and their order; none of them is `Memory`.
     pub fn read(bytes: &'a [u8], last: u64) -> Result<BatchWrites<'a>, BatchError>
         ensures { Exactly (λ writes. writes) result (batch_of last bytes.now) }
     {

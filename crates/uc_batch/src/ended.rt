@@ -19,7 +19,7 @@ pub enum Ended {
     BatchFault(u64, BatchError),
 }
 
-/// Where the log ended, if none of its payloads is refused.
+/// Where the log ended, if all its payloads are valid.
 impl From<Ending> for Ended {
     ghost from_gives = { λ ending ended. ended ≡ ended_by ending };
 

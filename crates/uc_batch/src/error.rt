@@ -1,14 +1,14 @@
-//! Why a batch is refused.
+//! Errors of a batch.
 ghost use Rattle.std.specs.Prelude.{◌≡◌};
 ghost use Rattle.uc_batch.specs.declared.error.BatchError.TheVariants.{Memory};
 
 use std::alloc::{AllocError, AllocFailed};
 use thiserror::Error;
 
-/// Why a batch was refused. Offsets are bytes from the batch's start.
+/// Why a batch isn't valid. Offsets are bytes from the batch's start.
 ///
-/// The first three are judged in this order, before any record; then the records are read from
-/// left to right, and the first fault among them is named; `WrongCount` comes last.
+/// The first three are checked in this order, before any record. Then the records are read from left to right, and the first fault
+/// among them is returned; `WrongCount` comes last.
 #[derive(Clone, Copy, Debug, PartialEq, Eq, Error)]
 pub enum BatchError {
     /// There are fewer than the 12 bytes of a header.

@@ -1,4 +1,4 @@
-//! [`WriteBatch`]: operations that are gathered as the bytes of a batch.
+//! [`WriteBatch`]: operations encoded as the bytes of a batch.
 ghost use Rattle.std.specs.Prelude.{◌≡◌, ◌≤◌, ◌++◌, ◌∷◌, [], ◌↔◌, length, take, drop, IsTrue, IfOk, IfErr, OnOk};
 ghost use Rattle.std.specs.Int.{w32, to_le_bytes};
 ghost use Rattle.uc_batch.specs.Gathering.{FitTogether, RefusesOp};
@@ -14,8 +14,8 @@ use uc_bytes::OpRef;
 /// Where a batch's header has the count, after the sequence.
 const COUNT_PLACE: usize = 8;
 
-/// Operations that are gathered as the bytes of a batch without a sequence: it is 0, as in a batch that a program
-/// builds with RocksDB's class of this name. Whoever takes the batch numbers them.
+/// Operations encoded as the bytes of a batch. Its sequence number is 0, as in a batch that a program builds with RocksDB's class
+/// of this name. The store that writes the batch numbers it.
 ///
 /// A contract sees it as the list of the operations.
 #[derive(Drop)]

@@ -42,8 +42,8 @@ impl Header {
         Some((Header { sequence, count }, body))
     }
 
-    /// Refuses a sequence that isn't above the last one used, or that has too little room above it for the operations.
-    /// The sequence of a batch without operations is ignored.
+    /// Rejects a sequence number that isn't above the last one used, or that leaves too few numbers for the operations. The
+    /// sequence number of a batch without operations is ignored.
     #[tactic(auto, unfolding(crate::specs::Batch::judged))]
     pub(crate) fn judge(self, last: u64) -> Result<(), BatchError>
         ensures value { Exactly (λ _. self.sequence) result (judged last self.sequence self.count) }

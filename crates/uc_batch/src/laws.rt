@@ -17,20 +17,20 @@ pub fn written_batch_is_read()
         batch_of last (batch_text seq ops) ≡ Ok (numbered seq ops) }
 {}
 
-/// The text that the writer writes for operations is a batch of them by the grammar.
+/// The bytes that the writer writes for operations are a batch of them by the grammar.
 pub fn written_batch_is_spelled()
     ensures { (seq : ℕ) (ops : List Operation) → FitsBatch seq ops → IsBatch (batch_text seq ops) seq (length ops) ops }
 {}
 
-/// A refused batch has the fault it is refused for. It is in the sequence, or in the first faulty record from the left;
-/// if all records are right, in their number.
+/// A rejected batch has the fault that is returned. It is in the sequence number, or in the first faulty record from the left; if
+/// all records are right, in their number.
 pub fn refusal_stands_in_batch()
     ensures { (last : ℕ) (bytes : List ℕ) (fault : Fault) → AreBytes bytes →
         batch_of last bytes ≡ Err fault → IsRefused last bytes fault }
 {}
 
-/// Operations that were gathered as a batch without a sequence are read with those after the last one, if this many are
-/// left. Else they are refused for that.
+/// Operations that were encoded as a batch without a sequence number are read with the numbers after the last one, if enough are
+/// left. Otherwise the batch is rejected for that.
 pub fn gathered_batch_is_read()
     ensures text { (seq : ℕ) (ops : List Operation) → numbered_text seq ops ≡ batch_text seq ops }
     ensures read { (last : ℕ) (ops : List Operation) → FitTogether ops → last + length ops < 2 ^ 56 →

@@ -1,13 +1,12 @@
 //! Write batches, and the plain writes of a log.
 //!
-//! A batch is the payload of one log record: a sequence number, a count, and that many operations (RocksDB,
-//! `write_batch.cc`). Read `error.rt` and `tag.rt` for what a batch may hold, then `records.rt`, `batch_writes.rt` and
-//! `writing.rt`. [`WriteBatch`] gathers operations as the bytes of a batch. [`BatchReader`] goes through a log batch by
-//! batch and returns borrowed writes.
+//! A batch is the payload of one log record: a sequence number, a count, and that many operations (RocksDB, `write_batch.cc`). Read
+//! `error.rt` and `tag.rt` for what a batch may hold, then `records.rt`, `batch_writes.rt` and `writing.rt`. [`WriteBatch`] encodes
+//! operations as the bytes of a batch. [`BatchReader`] iterates over the batches of a log and returns borrowed writes.
 //!
-//! [`Pieces`] takes the bytes of a log as they come from a file or a pipe, a MiB to a piece. [`PieceReader`] goes through
-//! them batch by batch, with the clauses of [`BatchReader`], and lets go of each piece as soon as its batches were read. So a
-//! store opens from a log without holding all of it beside the store. Read `pieces.rt`, then `piece_reader.rt`.
+//! [`Pieces`] holds the bytes of a log as they are read from a file or a pipe, in pieces of 1 MiB. [`PieceReader`] iterates over
+//! their batches, with the clauses of [`BatchReader`], and frees each piece as soon as its batches are read. So opening a store
+//! doesn't hold the whole log and the whole store in memory. Read `pieces.rt`, then `piece_reader.rt`.
 //!
 //! An `Err(AllocError)`, or a variant `Memory`, comes only if an allocation fails.
 //!

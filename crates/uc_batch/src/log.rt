@@ -30,10 +30,10 @@ fn copy_writes(alloc: Global, bytes: &[u8]) -> Result<(Vec<Write>, Ended), Alloc
     }
 }
 
-/// The plain writes of a log: the operations of its batches in order, with their sequences.
+/// The plain writes of a log: the operations of its batches in order, with their sequence numbers.
 ///
-/// `Mode::TornTail` refuses a log with a fault or a refused batch; `Mode::PointInTime` keeps what comes before it
-/// (RocksDB, `WALRecoveryMode`).
+/// `Mode::TornTail` rejects a log with a fault or an invalid batch; `Mode::PointInTime` keeps what comes before it (RocksDB,
+/// `WALRecoveryMode`).
 pub fn read_writes(alloc: Global, bytes: &[u8], mode: Mode) -> Result<Writes, ReadError>
     ensures ok { IfOk result (λ writes. writes_of mode bytes.now ≡ Ok writes) }
     ensures err { IfErr result (λ e. Refuses e (writes_of mode bytes.now)) }

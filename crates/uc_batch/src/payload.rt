@@ -19,7 +19,7 @@ pub(crate) enum Payload {
 /// The outcome of reading at a place of the log.
 #[derive(Clone, Copy)]
 pub(crate) enum Read {
-    /// A payload, and the bytes that its text takes.
+    /// A payload, and the number of bytes that it takes in the log.
     Payload(Payload, usize),
     /// The end of the bytes.
     Ended(Ending),
@@ -53,8 +53,8 @@ impl Payload {
     }
 }
 
-/// Reads a payload that begins in a piece and ends in a front of the next one, if there is one there. It is put into the
-/// buffer. Returns the bytes that its text takes.
+/// Reads a payload that begins in a piece and ends in the next one, if there is one there, and copies it to the buffer. Returns the
+/// number of bytes that it takes in the log.
 pub(crate) fn read_over(
     alloc: Global,
     unread: &Unread,

@@ -11,7 +11,7 @@ use crate::{Advance, BatchWrites, Ended, Header, judge_batch};
 use std::alloc::{AllocError, Global};
 use std::marker::Model;
 
-/// A batch that was judged, or how far the log was read.
+/// A validated batch, or how far the log was read.
 #[derive(Clone, Copy)]
 pub(crate) enum Found {
     Batch(Payload, Header),
@@ -68,9 +68,10 @@ impl PieceReader {
         }
     }
 
-    /// Goes to the next batch. After the last one it returns how far the log was read, again at each further call.
+    /// Advances to the next batch. After the last one it returns how far the log was read, and returns the same at each further
+    /// call.
     ///
-    /// After an `Err` nothing is passed over. A piece is let go of when the reader leaves it.
+    /// An `Err` skips nothing. A piece is freed when the reader leaves it.
     pub fn advance(&mut self) -> Result<Advance, AllocError>
         ensures ok { IfOk result (λ advance. Advances advance self.old self.new) }
         ensures err { OnErr result (StaysAt self.old self.new) }
@@ -110,7 +111,7 @@ impl PieceReader {
     }
 }
 
-/// Judges the next payload, if there is one.
+/// Validates the next payload, if there is one.
 fn find_batch(log: &mut PayloadReader, joined: &mut Vec<u8>, last: u64) -> Result<Found, AllocError>
     ensures ok { IfOk result (λ found. Finds found joined.new.items last log.old log.new) }
     ensures err { OnErr result (log.new.log ≡ log.old.log) }

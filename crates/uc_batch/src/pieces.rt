@@ -82,7 +82,7 @@ impl Pieces {
         Ok(())
     }
 
-    /// All bytes in one piece. Each piece is let go of when it is copied; one alone is handed out as it is.
+    /// All bytes in one piece. Each piece is freed once it is copied. A single piece is returned without a copy.
     pub fn into_vec(mut self, alloc: Global) -> Result<Vec<u8>, AllocError>
         ensures { IfOk result (λ bytes. bytes.items ≡ self) }
     {
@@ -90,7 +90,7 @@ impl Pieces {
         self.split_front(alloc, size)
     }
 
-    /// Takes the first bytes out. Pieces that they fill are let go of.
+    /// Removes the first `size` bytes and returns them. Frees the pieces that end within them.
     pub fn split_front(&mut self, alloc: Global, size: usize) -> Result<Vec<u8>, AllocError>
         requires { size ≤ length self.old }
         ensures front { IfOk result (λ front. front.items ≡ take size self.old) }
@@ -163,7 +163,7 @@ impl Pieces {
         }
     }
 
-    /// Moves the first piece after other bytes, and lets go of it. After an `Err` nothing was moved.
+    /// Appends the first piece to `target` and frees it. An `Err` moves nothing.
     pub(crate) fn move_first(&mut self, target: &mut Vec<u8>) -> Result<(), AllocError>
         ensures same { target.new.items ++ self.new ≡ target.old.items ++ self.old }
         ensures moved { OnOk result (0 < length self.old → length self.new < length self.old) }

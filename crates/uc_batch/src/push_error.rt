@@ -8,7 +8,7 @@ use thiserror::Error;
 /// Why a batch takes no other operation.
 #[derive(Clone, Copy, Debug, PartialEq, Eq, Error)]
 pub enum PushError {
-    /// A text has 2^32 bytes or more.
+    /// A key or value has 2^32 bytes or more.
     #[error("a text has 2^32 bytes or more")]
     TooLong,
     /// There are 2^32 - 1 operations, as many as a batch counts.

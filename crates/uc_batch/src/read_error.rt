@@ -10,7 +10,7 @@ use uc_logrec::LogFault;
 /// Why a log returns no writes.
 #[derive(Clone, Copy, Debug, PartialEq, Eq, Error)]
 pub enum ReadError {
-    /// The first refused payload, by its number from 1. It never says that memory ran out.
+    /// The first invalid payload, by its number from 1. The error is never `Memory`.
     #[error("payload {0}: {1}")]
     Batch(u64, BatchError),
     /// A fault at this offset in the log, after payloads that are all accepted.

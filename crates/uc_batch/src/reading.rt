@@ -10,7 +10,7 @@ use crate::error::BatchError;
 use std::alloc::{AllocError, Global};
 use uc_bytes::Write;
 
-/// Adds copies of writes, with their texts.
+/// Adds copies of writes, with their keys and values.
 pub(crate) fn push_copies(
     alloc: Global,
     list: &mut Vec<Write>,
@@ -34,11 +34,10 @@ fn copy_batch(alloc: Global, bytes: &[u8], last: u64) -> Result<Vec<Write>, Batc
     Ok(list)
 }
 
-/// Reads a batch that comes after the sequence `last` (0 if no sequence was used before), and returns its writes with
-/// their sequences.
+/// Reads a batch that comes after the sequence number `last` (0 if none was used before), and returns its writes with their
+/// sequence numbers.
 ///
-/// Every spelling of a number is accepted (RocksDB, `write_batch.cc`). See [`BatchError`] for the refusals and their
-/// order.
+/// Every encoding of a number is accepted (RocksDB, `write_batch.cc`). See [`BatchError`] for the errors and their order.
 pub fn read_batch(alloc: Global, bytes: &[u8], last: u64) -> Result<Vec<Write>, BatchError>
     // An accepted batch is a batch of these writes.
     ensures sound { IfOk result (λ writes. Accepts last bytes.now writes.items) }

@@ -28,7 +28,7 @@ pub(crate) enum Form {
     Value,
     /// A key and an operand.
     Merge,
-    /// A text for the log alone, which isn't counted.
+    /// Bytes for the log alone, which aren't counted.
     LogData,
     /// Nothing, which isn't counted.
     Noop,

@@ -52,7 +52,7 @@ impl Unread {
         Ok(Some(border))
     }
 
-    /// Passes over bytes, and lets go of the pieces that end with them or before.
+    /// Skips `size` bytes, and frees the pieces that end within them.
     pub(crate) fn skip(&mut self, size: usize)
         requires within { self.old.at ≤ length self.old.piece.items }
         requires ahead { size ≤ length (bytes_ahead self.old) }
@@ -71,8 +71,8 @@ impl Unread {
         self.at += left;
     }
 
-    /// Goes on to a larger piece: the bytes that are left of this one, and pieces after them, so that it has four times as many.
-    /// If none are left, the next piece is taken as it is. Returns `false` if there is none.
+    /// Replaces the piece by a larger one: the bytes that are left of this one, and pieces after them, so that it has four times as
+    /// many. If none are left, the next piece is taken as it is. Returns `false` if there is none.
     ///
     /// After an `Err` the bytes that are ahead are the same.
     pub(crate) fn enlarge(&mut self, alloc: Global) -> Result<bool, AllocError>

@@ -10,8 +10,8 @@ pub(crate) const MORE_BYTES: u32 = 4;
 
 /// Reads a number of one byte and at most `more` others, low seven bits first, and returns the bytes after it too.
 ///
-/// The high bit of a byte says that another follows; the last of five bytes has room for four bits (RocksDB,
-/// `coding.h`, `GetVarint32`). For the faults, `start` is the offset of the record's tag and `here` that of the number.
+/// The high bit of a byte says that another follows; the last of five bytes holds four bits (RocksDB, `coding.h`, `GetVarint32`).
+/// For the faults, `start` is the offset of the record's tag and `here` that of the number.
 #[tactic(auto, unfolding(crate::specs::Varint::varint_from))]
 pub(crate) fn read_varint(
     bytes: &[u8],

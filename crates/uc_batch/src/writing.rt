@@ -1,4 +1,4 @@
-//! From operations to the text of a batch.
+//! Encodes operations as the bytes of a batch.
 ghost use Rattle.std.specs.Prelude.{◌≡◌, ◌<◌, ◌≤◌, ◌^◌, ◌∷◌, ◌++◌, ◌↔◌, length, IsTrue, IfOk, OnOk};
 ghost use Rattle.uc_logrec.specs.Log.{Extends};
 ghost use Rattle.uc_batch.specs.Tag.{byte_of};
@@ -94,8 +94,8 @@ pub fn fits_batch(seq: u64, ops: &[Op]) -> bool
         && ops.iter().all(|op| fits_op(&OpRef::of(op)))
 }
 
-/// The text of a batch: the sequence of its first operation, how many there are, and each one's record, with plain tags
-/// and the shortest numbers.
+/// The bytes of a batch: the sequence number of its first operation, the number of operations, and each one's record, with plain
+/// tags and the shortest numbers.
 pub fn write_batch(alloc: Global, seq: u64, ops: &[Op]) -> Result<Vec<u8>, AllocError>
     requires { FitsBatch seq ops.now }
     ensures { IfOk result (λ text. text.items ≡ batch_text seq ops.now) }

@@ -22,7 +22,7 @@ module _ (payload : List ℕ) (header : Header) (counted : AreCounted header.cou
   pub count_is : length (writes_in header.sequence payload) ≡ header.count
   count_is = as_many header.sequence (ops_in (length payload) (drop 12 payload)) ∙ sym counted.counted
 
-  -- the batch that was judged comes next
+  -- the validated batch comes next
   pub comes_next : (log : List ℕ) (place : CLogPlace) (behind last : ℕ) → LiesIn payload log place.offset behind → batch_of place.last payload ≡ Ok (writes_in header.sequence payload)
       → last ≡ last_numbered place.last header.sequence header.count
       → ComesNext (writes_in header.sequence payload) log place (record { offset = behind; last = last; batches = place.batches + 1 })

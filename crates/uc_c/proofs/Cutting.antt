@@ -1,4 +1,4 @@
--- Keys that stand one behind the other, one by one.
+-- Concatenated keys, one by one.
 use Rattle.std.proofs.Common.{◌≡◌, ℕ, suc, ◌+◌, ◌<◌, List, [], ◌∷◌, ◌++◌, length, get_or, take, drop, map, refl, ap, sym, ◌∙◌}
 use Rattle.std.specs.Prelude.{sum, Option}
 use Rattle.std.proofs.lemmas.Grind.{flat_map-append}
@@ -6,14 +6,14 @@ use Rattle.std.proofs.lemmas.List.{append-nil, drop-drop, map-append, take_more}
 use Rattle.std.proofs.lemmas.List.Sums.{sum_by-cons, sum_by_more}
 use Rattle.uc_c.specs.Many.{cut_keys, values_of, length_told, value_bytes, values_bytes}
 
--- the key behind the others
+-- the key after the others
 cut_more : (lengths : List ℕ) (n : ℕ) (keys : List ℕ) → cut_keys (lengths ++ n ∷ []) keys ≡ cut_keys lengths keys ++ take n (drop (sum lengths) keys) ∷ []
 cut_more [] n keys = refl
 cut_more (m ∷ lengths) n keys =
     ap (λ (ks : List (List ℕ)). take m keys ∷ ks) (cut_more lengths n (drop m keys))
     ∙ rw (drop-drop (sum lengths) m keys, sum_by-cons (λ (x : ℕ). x) m lengths) refl
 
--- what is behind a key, and what is found when it is looked up
+-- the bytes after a key, and the result of its lookup
 pub found_more : (f : List ℕ → Option (List ℕ)) (lengths : List ℕ) (i : ℕ) (keys : List ℕ) → i < length lengths
     → let before = take i lengths in
     let value = f (take (get_or lengths i 0) (drop (sum before) keys)) in
@@ -34,7 +34,7 @@ found_more f lengths i keys lt =
       ap values_bytes values ∙ flat_map-append value_bytes (values_of f before keys) (value ∷ []) ∙ ap (λ (l : List ℕ). values_bytes (values_of f before keys) ++ l) (append-nil (value_bytes value)),
     )
 
--- a length is told for each key
+-- a length is stored for each key
 pub as_many : (f : List ℕ → Option (List ℕ)) (lengths keys : List ℕ) → length (map length_told (values_of f lengths keys)) ≡ length lengths
 as_many f [] keys = refl
 as_many f (n ∷ lengths) keys = ap suc (as_many f lengths (drop n keys))

@@ -1,4 +1,4 @@
--- Gathered operations that a store takes as a batch.
+-- Collected operations that a store takes as a batch.
 use Rattle.std.proofs.Common.{◌≡◌, ◌+◌, ◌^◌, ◌<◌, ◌≤◌, ℕ, List, length, Ok, Err, ap, sym, ◌∙◌, subst, inl, inr}
 use Rattle.std.specs.Prelude.{ℤ}
 use Rattle.std.proofs.lemmas.Bool.{cases_lt}
@@ -20,14 +20,14 @@ use Rattle.uc_c.specs.Statuses.{GatheredSays}
 use Rattle.uc_c.specs.Writing.{DeclinesBatch, IsTold}
 use Rattle.uc_c.specs.declared.status.TheConstants.{OK, ROOM}
 
--- what the laws of gathered batches say of these operations
+-- consequences of the laws of collected batches for these operations
 abbrev pub AreRead : List Op → Type 0
 AreRead ops = (at : ℕ) → at + length ops < 2 ^ 56 → batch_of at (numbered_text (at + 1) ops) ≡ Ok (numbered (at + 1) ops)
 
 abbrev pub AreReadSo : List Op → Type 0
 AreReadSo ops = (at : ℕ) (writes : List Write) → batch_of at (numbered_text (at + 1) ops) ≡ Ok writes → (writes ≡ numbered (at + 1) ops) × (0 < length ops → at + length ops < 2 ^ 56)
 
--- the batch without a sequence gets the one behind the last
+-- the batch without a sequence number gets the one after the last
 next_is : (at : ℕ) (bytes : List ℕ) (ops : List Op) → bytes ≡ batch_text 0 ops → next_batch at bytes ≡ batch_of at (numbered_text (at + 1) ops)
 next_is at bytes ops text = ap (next_batch at) text
 
@@ -64,7 +64,7 @@ module _ (bytes : List ℕ) (ops : List Op) (e e' : Engined) where
   declined TooLong status text read d says = absurd d.0
   declined (NoRoom error) status text read d says = (d.1, inr (error, says, d.0))
 
-  -- what is told of the bytes is told of the operations
+  -- the result for the bytes is that for the operations
   pub told : (status : ℤ) (len : ℕ) (room room' : List ℕ) (size' : ℕ) → bytes ≡ batch_text 0 ops → AreReadSo ops → IsTold status len bytes room room' size' e e'
       → IsTold status len (batch_text 0 ops) room room' size' e e' × ((status ≡ OK) → ArePrepared ops e e')
   told status len room room' size' text only is = (

@@ -1,4 +1,4 @@
--- Batches that C holds, and what the store behind a handle does with their operations.
+-- Batches that C holds, and the effect of their operations on the handle's store.
 use Rattle.std.specs.Prelude.{◌≡◌, ◌⊎◌, ◌+◌, ◌^◌, ◌<◌, ◌≤◌, [], ◌∷◌, ◌++◌, ℕ, ℤ, List, Option, Some, None, length}
 use Rattle.uc_bytes.specs.declared.op.Op.{Op}
 use Rattle.uc_batch.specs.Batch.{numbered}
@@ -15,12 +15,12 @@ use Rattle.uc_c.specs.Replies.{Becomes, Names}
 use Rattle.uc_c.specs.Statuses.{PushSays, RoomSays}
 use Rattle.uc_c.specs.Writing.{IsTold, StaysUnwritten}
 
--- the operations of a batch that C holds; none behind zeros
+-- the operations of a batch that C holds; none if it is zeros
 abbrev pub ops_held : Option (List Op) → List Op
 ops_held None = []
 ops_held (Some ops) = ops
 
--- The operation stands behind the others; or the status says why not, and the batch has those that it had.
+-- The operation is appended; or the status says why not, and the batch is unchanged.
 abbrev pub Gathers : ℤ → Option (List Op) → Option (List Op) → Op → Type 0
 Gathers status old new op =
     ((status ≡ OK) × (ops_held new ≡ ops_held old ++ op ∷ []))
@@ -30,7 +30,7 @@ Gathers status old new op =
 abbrev pub AreLeft : List Op → Engined → Type 0
 AreLeft ops e = 0 < length ops → last e.live + length ops < 2 ^ 56
 
--- The engine took the operations, with the sequences behind the last one.
+-- The engine took the operations, with the sequence numbers after the last one.
 pub record AreTaken (ops : List Op) (e e' : Engined) : Type 0 where
   pub left : AreLeft ops e
   pub kind : e'.kind ≡ e.kind
@@ -45,7 +45,7 @@ pub record ArePrepared (ops : List Op) (e e' : Engined) : Type 0 where
   pub prepares : Prepares (meaning_of e.kind) e.live e'.live (numbered (last e.live + 1) ops)
   pub room : HasRoom e'.live
 
--- The status says that too few sequences are left, or why there is no room. No operation is taken.
+-- The status says that too few sequence numbers are left, or why a run can't be added. No operation is taken.
 abbrev pub DeclinesOps : ℤ → List Op → Engined → Engined → Type 0
 DeclinesOps status ops e e' =
     StaysUnwritten e e'
@@ -61,8 +61,8 @@ abbrev pub WritesOps : ℤ → Option Engined → Option Engined → List Op →
 WritesOps status old new ops = Becomes status old new (TakesOps status ops)
 
 module _ (status : ℤ) (len : ℕ) (ops : List Op) (room room' : List ℕ) (size' : ℕ) where
-  -- The operations wait, and their record is in the room; or it doesn't fit, and nothing waits; or the status says why
-  -- they aren't taken.
+  -- The operations are prepared, and their record is in the buffer; or it doesn't fit, and nothing is prepared; or the status says
+  -- why they aren't taken.
   pub record TellsOps (e e' : Engined) : Type 0 where
     pub tells :
         (IsTold status len (batch_text 0 ops) room room' size' e e' × ((status ≡ OK) → ArePrepared ops e e'))

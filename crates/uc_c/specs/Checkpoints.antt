@@ -23,7 +23,7 @@ Begins status view old new =
     (λ v. ((status ≡ OK) × (new ≡ Some (begun v))) ⊎ ((status ≡ OUT_OF_MEMORY) × (new ≡ old))))
     (λ _. (status ≡ HAS_CHECKPOINT) × (new ≡ old))
 
--- what is told of a piece of so many bytes that was to go into a room of so many, or of none
+-- the values that are stored for a piece of some size and a buffer of `room` bytes, or for no piece
 abbrev pub TellsPiece : ℤ → Option ℕ → ℕ → ℕ → Bool → Type 0
 TellsPiece status None room size done = (status ≡ OK) × (size ≡ 0) × (done ≡ true)
 TellsPiece status (Some length) room size done =
@@ -31,7 +31,7 @@ TellsPiece status (Some length) room size done =
     × (((length ≤ room) × (status ≡ OK) × (done ≡ false)) ⊎ ((room < length) × (status ≡ ROOM)))
 
 module _ (status : ℤ) (len most : ℕ) (room room' : List ℕ) (size' : ℕ) (done' : Bool) where
-  -- The next piece is in the room; or it doesn't fit, or no row is left, and nothing changed.
+  -- The next piece is in the buffer; or it doesn't fit, or no row is left, and nothing changed.
   pub record IsLaidNext (c c' : EngineProgress) : Type 0 where
     pub laid : Option ℕ
     pub lays : LaysInto (meaning_of c.kind) len most laid room room' c.progress c'.progress

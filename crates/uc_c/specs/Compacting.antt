@@ -1,4 +1,4 @@
--- What flushes, compactions and snapshots do to the store behind a handle.
+-- Effects of flushes, compactions and snapshots on the handle's store.
 use Rattle.std.specs.Prelude.{◌≡◌, [], ℕ, ℤ, Bool, Option}
 use Rattle.uc_live.specs.Compacting.{next_stretch, HasNoRoom, IsCompacted}
 use Rattle.uc_live.specs.Going.{GoesOn}
@@ -9,12 +9,12 @@ use Rattle.uc_c.specs.Replies.{Tries}
 use Rattle.uc_c.specs.Statuses.{RoomSays}
 use Rattle.uc_c.specs.Writing.{StaysUnwritten}
 
--- The store took no write. What was gathered may have become a run.
+-- The store took no write. Its memtables may have been flushed.
 abbrev pub Settles : Engined → Engined → Type 0
 Settles e e' = (e'.kind ≡ e.kind) × Prepares (meaning_of e.kind) e.live e'.live e.live.prepared
 
 module _ (status : ℤ) (old new : Option Engined) where
-  -- what is gathered becomes a run, or the status says why not
+  -- the memtables are flushed, or the status says why not
   abbrev pub Flushes : Type 0
   Flushes = Tries RoomSays status old new
       (λ e e'. StaysUnwritten e e' × (e'.live.gathered ≡ []))

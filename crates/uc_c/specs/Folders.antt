@@ -9,7 +9,7 @@ use Rattle.uc_folder.specs.Listing.{AreFound, IsLacking}
 use Rattle.uc_folder.specs.States.{machine_of}
 use Rattle.uc_c.specs.declared.status.TheConstants.{OK, LOG_MISSING, NO_FOLDER}
 
--- the files that an opening reads are told, or the number of a log that is missing
+-- the files that opening reads are stored, or the number of a missing log
 abbrev pub FindsFiles : ℤ → List Base → List Listed → Found → ℕ → Type 0
 FindsFiles status bases logs found missing = ((status ≡ OK) × AreFound bases logs found) ⊎ ((status ≡ LOG_MISSING) × IsLacking bases logs missing)
 

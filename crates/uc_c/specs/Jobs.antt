@@ -134,6 +134,6 @@ RunsJob status old new =
     (λ t. ((status ≡ JOB_ENDED) × HasEnded t.job × (new ≡ old))
     ⊎ (¬ HasEnded t.job × (((status ≡ OK) × (new ≡ Some (store_jobs.run t))) ⊎ ((status ≡ OUT_OF_MEMORY) × (new ≡ old)))))
 
--- the size of what a job compacts is told, if there is one
+-- the size of the job's inputs is stored, if there is a job
 abbrev pub TellsSize : ℤ → Option StoreJob → Option StoreJob → ℕ → Type 0
 TellsSize status old new bytes = IsRead NO_JOB status old new (λ t. (status ≡ OK) × (bytes ≡ store_jobs.input_size t))

@@ -1,4 +1,4 @@
--- What a step found in a log.
+-- Results of a step through a log.
 use Rattle.std.specs.Prelude.{◌≡◌, ℕ, List, length}
 use Rattle.uc_bytes.specs.declared.write.Write.{Write}
 use Rattle.uc_c.specs.declared.c_log_place.CLogPlace.{CLogPlace}
@@ -8,7 +8,7 @@ use Rattle.uc_c.specs.declared.log_step.LaidWrites.{LaidWrites}
 use Rattle.uc_c.specs.LogWalk.{ComesNext, EndsAt}
 use Rattle.uc_c.specs.LogWrites.{writes_bytes}
 
--- The next batch was laid out, and leads to the place behind it.
+-- The next batch was encoded, and leads to the place after it.
 pub record IsLaid (laid : LaidWrites) (log : List ℕ) (place behind : CLogPlace) : Type 0 where
   pub writes : List Write
   pub next : ComesNext writes log place behind

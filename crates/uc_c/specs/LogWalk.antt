@@ -22,7 +22,7 @@ ahead_of log place = log_ahead place.last (place.batches + 1) (ahead_in log plac
 abbrev pub start : CLogPlace
 start = record { offset = 0; batches = 0; last = 0 }
 
--- The next payload is a batch of these writes, and the others are ahead of the place behind it.
+-- The next payload is a batch of these writes, and the others are ahead of the place after it.
 pub record ComesNext (writes : List Write) (log : List ℕ) (place behind : CLogPlace) : Type 0 where
   pub payload : List ℕ
   pub lies : LiesIn payload log place.offset behind.offset
@@ -36,7 +36,7 @@ abbrev pub EndsAt : Ended → List ℕ → CLogPlace → Type 0
 EndsAt ended log place = ahead_of log place ≡ nothing_ahead ended
 
 module _ (status : ℤ) (log : List ℕ) (old new : CLogPlace) (room room' : List ℕ) (size count : ℕ) (ended : CEnded) where
-  -- The next batch is in the room, and the place is behind it.
+  -- The next batch is in the buffer, and the place is after it.
   pub record Goes : Type 0 where
     pub writes : List Write
     pub next : ComesNext writes log old new
@@ -46,7 +46,7 @@ module _ (status : ℤ) (log : List ℕ) (old new : CLogPlace) (room room' : Lis
     pub size_is : size ≡ length (writes_bytes writes)
     pub count_is : count ≡ length writes
 
-  -- The next batch doesn't fit the room, and it is told how much room it needs.
+  -- The next batch doesn't fit the buffer, and the size that it needs is stored.
   pub record LacksRoom : Type 0 where
     pub writes : List Write
     pub behind : CLogPlace
@@ -55,7 +55,7 @@ module _ (status : ℤ) (log : List ℕ) (old new : CLogPlace) (room room' : Lis
     pub above : length room < length (writes_bytes writes)
     pub size_is : size ≡ length (writes_bytes writes)
 
-  -- No batch is ahead, and it is told how far the log was read.
+  -- No batch is ahead, and how far the log was read is stored.
   pub record Stops : Type 0 where
     pub found : Ended
     pub there : old.offset ≤ length log
@@ -63,8 +63,7 @@ module _ (status : ℤ) (log : List ℕ) (old new : CLogPlace) (room room' : Lis
     pub told : status ≡ LOG_ENDS
     pub ended_is : ended ≡ ended_in found
 
-  -- Memory was refused, or no walk leads to the place: there are more batches than bytes before it, or it is past the
-  -- log.
+  -- Allocation failed, or no walk leads to the place: there are more batches than bytes before it, or it is past the log.
   abbrev pub IsRefused : Type 0
   IsRefused = (status ≡ OUT_OF_MEMORY) ⊎ ((status ≡ BAD_PLACE) × ((old.offset < old.batches) ⊎ (length log < old.offset)))
 

@@ -1,4 +1,4 @@
--- The writes of a log that are laid out in the room that C gives.
+-- The writes of a log that are encoded into the caller's buffer.
 use Rattle.std.specs.Prelude.{ℕ, List, [], ◌∷◌, ◌++◌}
 use Rattle.std.specs.Int.{w64, to_le_bytes}
 use Rattle.std.specs.List.{flat_map}
@@ -16,7 +16,7 @@ tag_of kinds.Put = 1
 tag_of kinds.Merge = 2
 tag_of kinds.DeleteRange = 15
 
--- an operation: its tag and its two texts, of which the second is empty if it has only one
+-- an operation: its tag and two byte strings, the second of which is empty if the operation has only one
 abbrev pub op_bytes : Op → List ℕ
 op_bytes (Put key value) = tag_of kinds.Put ∷ text_bytes key ++ text_bytes value
 op_bytes (Delete key) = tag_of kinds.Delete ∷ text_bytes key ++ text_bytes []
@@ -27,6 +27,6 @@ op_bytes (DeleteRange begin end) = tag_of kinds.DeleteRange ∷ text_bytes begin
 abbrev pub write_bytes : Write → List ℕ
 write_bytes w = to_le_bytes w64 w.seq ++ op_bytes w.op
 
--- writes, one behind the other
+-- the concatenated bytes of writes
 abbrev pub writes_bytes : List Write → List ℕ
 writes_bytes writes = flat_map write_bytes writes

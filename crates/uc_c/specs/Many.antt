@@ -1,4 +1,4 @@
--- The values of many keys that stand one behind the other.
+-- The values of many keys, whose bytes are concatenated.
 use Rattle.std.specs.Prelude.{◌≡◌, ◌⊎◌, ◌-◌, ◌^◌, ℕ, ℤ, List, [], ◌∷◌, length, take, drop, sum, map, Option, Some, None}
 use Rattle.std.specs.List.{flat_map}
 use Rattle.uc_c.specs.declared.status.TheConstants.{OK, OUT_OF_MEMORY, BAD_KEYS}
@@ -27,17 +27,17 @@ abbrev pub value_bytes : Option (List ℕ) → List ℕ
 value_bytes None = []
 value_bytes (Some value) = value
 
--- those of the values that are there, one behind the other
+-- the concatenated bytes of the values that exist
 abbrev pub values_bytes : List (Option (List ℕ)) → List ℕ
 values_bytes values = flat_map value_bytes values
 
--- The values' lengths are told, and as many of their bytes are in the room as fit it, and how many these are.
+-- The values' lengths are stored, as many of their bytes are in the buffer as fit it, and their total size is stored.
 pub record AreTold (values : List (Option (List ℕ))) (lengths' room room' : List ℕ) (size' : ℕ) : Type 0 where
   pub lengths : lengths' ≡ map length_told values
   pub bytes : room' ≡ filled (values_bytes values) room
   pub size : size' ≡ length (values_bytes values)
 
--- the values are told, or the status says that memory was refused
+-- the values are stored, or the status says that allocation failed
 abbrev pub TellsMany : ℤ → List (Option (List ℕ)) → List ℕ → List ℕ → List ℕ → ℕ → Type 0
 TellsMany status values lengths' room room' size' = ((status ≡ OK) × AreTold values lengths' room room' size') ⊎ (status ≡ OUT_OF_MEMORY)
 

@@ -50,7 +50,7 @@ report_in r = record {
   last = r.last;
 }
 
--- it is told, unless the report's size isn't the one that is known
+-- the report is stored, unless its size isn't the one that is known
 abbrev pub Reports : ℤ → EngineReport → CReport → CReport → Type 0
 Reports status report old new =
     ((old.size ≡ REPORT_SIZE) × (status ≡ OK) × (new ≡ report_in report))

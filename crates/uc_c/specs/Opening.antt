@@ -1,4 +1,4 @@
--- What an opening puts behind a handle.
+-- The engine that an opening puts into a handle.
 use Rattle.std.specs.Prelude.{◌≡◌, ◌≢◌, [], ℕ, ℤ, Bool, List, true, false, Option, ◌⊎◌, MatchOption, IsSomeAnd}
 use Rattle.uc_batch.specs.Log.{log_writes}
 use Rattle.uc_live.specs.Going.{GoesOn}
@@ -20,7 +20,7 @@ use Rattle.uc_c.specs.Replies.{Names}
 abbrev pub are_fine : COptions → Bool
 are_fine c = are_good (options_in c 0)
 
--- Why a store isn't created: its options aren't good, or memory is refused.
+-- Why a store isn't created: its options aren't valid, or allocation failed.
 abbrev pub IsUncreated : COptions → LiveOpenError → Type 0
 IsUncreated c BadOption = are_fine c ≡ false
 IsUncreated c (NoRoom IdsSpent) = ⊥

@@ -1,11 +1,11 @@
--- What a look-up writes into the room that C gives.
+-- The bytes that a lookup writes into the caller's buffer.
 use Rattle.std.specs.Prelude.{◌≡◌, ℕ, ℤ, List, length, Option, Some, None}
 use Rattle.uc_query_read.specs.declared.answer.Answer.{Answer}
 use Rattle.uc_query_read.specs.declared.answer.Answer.TheVariants.{Value, Rows, NotProtected}
 use Rattle.uc_c.specs.declared.status.TheConstants.{OK, NOT_FOUND, NOT_PROTECTED}
 use Rattle.uc_c.specs.Room.{filled}
 
--- the value of a key, if it has one: it is in the room, and its size is told
+-- the value of a key, if it has one: it is in the buffer, and its size is stored
 abbrev pub Found : ℤ → Option (List ℕ) → List ℕ → List ℕ → ℕ → Type 0
 Found status (Some value) room room' size' = (status ≡ OK) × (room' ≡ filled value room) × (size' ≡ length value)
 Found status None room room' size' = status ≡ NOT_FOUND

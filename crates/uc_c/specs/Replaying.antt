@@ -28,8 +28,8 @@ abbrev pub TookNone : Engined → Engined → Type 0
 TookNone e e' = (e' ≡ e) ⊎ Took [] e e'
 
 module _ (log : List ℕ) (place : CLogPlace) (may_skip : Bool) (e e' : Engined) where
-  -- The next batch was taken, behind fewer writes than fill the memtables, and leads to the place behind it. It has the sequence behind the last one, unless it may skip
-  -- some.
+  -- The next batch was taken, while fewer writes than fill the memtables were prepared, and leads to the place after it. It has the
+  -- sequence number after the last one, unless it may skip some.
   pub record IsReplayed (behind : CLogPlace) : Type 0 where
     pub writes : List Write
     pub next : ComesNext writes log place behind
@@ -53,7 +53,7 @@ module _ (log : List ℕ) (place : CLogPlace) (may_skip : Bool) (e e' : Engined)
   Replays (replayed.Ended ended) = EndsAt ended log place × (e' ≡ e)
 
 module _ (status : ℤ) (log : List ℕ) (old new : CLogPlace) (may_skip : Bool) (ended ended' : CEnded) (e e' : Engined) where
-  -- No batch is ahead, and it is told how far the log was read.
+  -- No batch is ahead, and how far the log was read is stored.
   pub record StopsThere : Type 0 where
     pub found : Ended
     pub there : old.offset ≤ length log
@@ -61,8 +61,8 @@ module _ (status : ℤ) (log : List ℕ) (old new : CLogPlace) (may_skip : Bool)
     pub told : status ≡ LOG_ENDS
     pub ended_is : ended' ≡ ended_in found
 
-  -- It is told of some places that no walk leads to, or not to one of this store: there are more batches than bytes before
-  -- it, it is past the log, or its last sequence isn't the store's. Of one within a record it isn't.
+  -- The status of some places that no walk of this store leads to: there are more batches than bytes before the place, it is past
+  -- the log, or its last sequence number isn't the store's. A place within a record isn't detected.
   abbrev pub IsElsewhere : Type 0
   IsElsewhere = (status ≡ BAD_PLACE) × ((old.offset < old.batches) ⊎ ((length log < old.offset) ⊎ (old.last ≢ last e.live)))
 
@@ -71,7 +71,7 @@ module _ (status : ℤ) (log : List ℕ) (old new : CLogPlace) (may_skip : Bool)
   WhyNot = ((status ≡ SEQUENCE_GAP) × LeavesGap log old may_skip e e')
       ⊎ (StopsThere ⊎ (IsElsewhere ⊎ Names RoomSays status (λ error. HasNoRoom error e'.live)))
 
-  -- The next batch is written, and the place is behind it; or the place stays, no write is taken, and the status says why.
+  -- The next batch is written, and the place is after it; or the place stays, no write is taken, and the status says why.
   abbrev pub ReplaysNext : Type 0
   ReplaysNext = ((status ≡ OK) × IsReplayed log old may_skip e e' new)
       ⊎ ((new ≡ old) × TookNone e e' × WhyNot)

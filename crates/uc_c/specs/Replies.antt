@@ -1,5 +1,4 @@
--- What the functions answer, and what is behind the handle before and after. E is what an engine is to a contract, or a
--- view.
+-- Results of the functions, and the handle's contents before and after. E is the engine or the view as a contract sees it.
 use Rattle.std.specs.Prelude.{◌≡◌, ℤ, Option, None, ◌⊎◌, MatchOption, IsSomeAnd}
 use Rattle.uc_c.specs.declared.status.TheConstants.{OK, NO_STORE}
 
@@ -34,7 +33,7 @@ abbrev pub Names : {X : Type 0} → (X → ℤ → Type 0) → ℤ → (X → Ty
 Names {X} Says status P = (error : X) × Says error status × P error
 
 module _ {E X : Type 0} (Says : X → ℤ → Type 0) (status : ℤ) (old new : Option E) where
-  -- It is done, and Done holds of the store before and after; or it is refused for an error that the status says, for
-  -- which Fails holds.
+  -- It succeeds, and Done holds of the store before and after; or it fails with an error that the status says, for which Fails
+  -- holds.
   abbrev pub Tries : (E → E → Type 0) → (E → E → X → Type 0) → Type 0
   Tries Done Fails = Becomes status old new (λ e e'. ((status ≡ OK) × Done e e') ⊎ Names Says status (Fails e e'))

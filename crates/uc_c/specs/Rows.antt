@@ -1,4 +1,4 @@
--- The rows that a scan writes into the room that C gives.
+-- The rows that a scan writes into the caller's buffer.
 use Rattle.std.specs.Prelude.{◌≡◌, ℕ, ℤ, List, length, take}
 use Rattle.uc_rows.specs.RowBytes.{rows_bytes}
 use Rattle.uc_rows.specs.Fitting.{AreFitting}
@@ -7,7 +7,7 @@ use Rattle.uc_query_read.specs.declared.answer.Answer.TheVariants.{Value, Rows, 
 use Rattle.uc_c.specs.declared.status.TheConstants.{OK, NOT_PROTECTED}
 use Rattle.uc_c.specs.Room.{filled}
 
--- The rows that fit the room are in it, and their number and the size of all rows are told.
+-- The rows that fit the buffer are in it, and their number and the size of all rows are stored.
 pub record AreShown (rows : List (List ℕ × List ℕ)) (room room' : List ℕ) (size count : ℕ) : Type 0 where
   pub fitting : AreFitting rows (length room) count
   pub written : room' ≡ filled (rows_bytes (take count rows)) room

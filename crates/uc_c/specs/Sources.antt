@@ -10,6 +10,6 @@ number_of sources.Memtable = MEMTABLE
 number_of sources.Filters = FILTERS
 number_of sources.Runs = RUNS
 
--- it is told, or memory is refused
+-- the source is stored, or allocation failed
 abbrev pub TellsSource : ℤ → LookupSource → ℕ → Type 0
 TellsSource status source number = (status ≡ OUT_OF_MEMORY) ⊎ ((status ≡ OK) × (number ≡ number_of source))

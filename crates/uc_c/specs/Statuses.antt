@@ -31,7 +31,7 @@ WriteSays writes.SequencesSpent status = status ≡ SEQUENCES_SPENT
 WriteSays writes.TooLong status = status ≡ TOO_LONG
 WriteSays (writes.NoRoom error) status = RoomSays error status
 
--- Operations that were gathered spell a batch, so it is refused only where too few sequences are left.
+-- Collected operations are a valid batch, so the write fails only if too few sequence numbers are left.
 abbrev pub GatheredSays : WriteError → ℤ → Type 0
 GatheredSays (writes.NoRoom error) status = RoomSays error status
 GatheredSays error status = status ≡ SEQUENCES_SPENT

@@ -1,10 +1,10 @@
--- What is put behind the handle of a view.
+-- The contents of a view's handle.
 use Rattle.std.specs.Prelude.{◌≡◌, ◌⊎◌, ℤ, Option, Some, MatchOption}
 use Rattle.uc_engine.specs.EngineViews.{Viewed}
 use Rattle.uc_c.specs.declared.status.TheConstants.{OK, OUT_OF_MEMORY, HAS_VIEW}
 
 module _ {X : Type 0} (lack : ℤ) (taken : X → Viewed) (from : Option X) (status : ℤ) (old new : Option Viewed) where
-  -- The view that is taken of something is there, or memory was refused.
+  -- The view is there, or allocation failed.
   abbrev pub HoldsTaken : X → Type 0
   HoldsTaken x = ((status ≡ OK) × (new ≡ Some (taken x))) ⊎ ((status ≡ OUT_OF_MEMORY) × (new ≡ old))
 

@@ -1,4 +1,4 @@
--- What writes do to the store behind a handle.
+-- Effects of writes on the handle's store.
 use Rattle.std.specs.Prelude.{◌≡◌, ◌⊎◌, ◌≤◌, ◌<◌, [], ℕ, ℤ, List, Option, length}
 use Rattle.uc_bytes.specs.declared.op.Op.{Op}
 use Rattle.uc_live.specs.Lives.{last}
@@ -24,17 +24,17 @@ abbrev pub DeclinesBatch : List ℕ → Engined → Engined → WriteError → T
 DeclinesBatch batch e e' error = RefusesBatch (next_batch (last e.live) batch) e'.live error × StaysUnwritten e e'
 
 module _ (status : ℤ) (old new : Option Engined) where
-  -- the operation is written, or refused
+  -- the operation is written, or the write fails
   abbrev pub Writes : Op → Type 0
   Writes op = Tries WriteSays status old new (Takes op) (λ e e' error. Refuses op e.live e'.live error × StaysUnwritten e e')
 
-  -- the writes of the batch are written, or refused
+  -- the writes of the batch are written, or the write fails
   abbrev pub WritesBatch : List ℕ → Type 0
   WritesBatch batch = Tries WriteSays status old new
       (λ e e'. (e'.kind ≡ e.kind) × IsBatchWritten (meaning_of e.kind) batch e.live e'.live)
       (DeclinesBatch batch)
 
--- The writes of the batch wait, and its record is in the room; or the record doesn't fit, and nothing waits.
+-- The writes of the batch are prepared, and its record is in the buffer; or the record doesn't fit, and nothing is prepared.
 module _ (status : ℤ) (len : ℕ) (batch room room' : List ℕ) (size' : ℕ) where
   pub record IsTold (e e' : Engined) : Type 0 where
     pub bytes : List ℕ

@@ -1,4 +1,4 @@
-//! Batches that C holds: operations are gathered in them, and no store sees them before they are written.
+//! Batches that C holds: operations are collected in them, and no store sees them before they are written.
 ghost use Rattle.std.specs.Prelude.{◌≡◌, None, [], IfOk, length, option_map};
 ghost use Rattle.uc_bytes.specs.declared.op.Op.TheVariants as ops;
 ghost use Rattle.uc_batch.specs.Gathering.{FitTogether};
@@ -48,8 +48,8 @@ fn new_batch(alloc: Global) -> Result<Box<WriteBatch>, AllocError>
     }
 }
 
-/// Adds an operation after the others. It is refused if a text has 2^32 bytes or more, if the batch has 2^32 - 1
-/// operations, and for want of memory.
+/// Appends an operation. Fails if a key or value has 2^32 bytes or more, if the batch has 2^32 - 1 operations, or if allocation
+/// fails.
 fn push(alloc: Global, batch: &mut BatchHandle, op: OpRef<'_>) -> i32
     ensures { Gathers result batch.old.held batch.new.held op.entry }
 {
@@ -68,8 +68,8 @@ fn push(alloc: Global, batch: &mut BatchHandle, op: OpRef<'_>) -> i32
     }
 }
 
-/// Adds that a key is set to a value. It is refused if a text has 2^32 bytes or more, if the batch has 2^32 - 1
-/// operations, and for want of memory.
+/// Appends the operation that sets a key to a value. Fails if either has 2^32 bytes or more, if the batch has 2^32 - 1 operations,
+/// or if allocation fails.
 #[unsafe(no_mangle)]
 pub extern "C" fn ucstore_batch_put(
     alloc: Global,
@@ -82,7 +82,7 @@ pub extern "C" fn ucstore_batch_put(
     push(alloc, batch, OpRef::put(key, value))
 }
 
-/// Adds that a key is combined with an operand. It is refused as `ucstore_batch_put` is.
+/// Appends the operation that merges an operand into a key. Fails as `ucstore_batch_put` does.
 #[unsafe(no_mangle)]
 pub extern "C" fn ucstore_batch_merge(
     alloc: Global,
@@ -95,7 +95,7 @@ pub extern "C" fn ucstore_batch_merge(
     push(alloc, batch, OpRef::merge(key, operand))
 }
 
-/// Adds that a key is removed. It is refused as `ucstore_batch_put` is.
+/// Appends the operation that deletes a key. Fails as `ucstore_batch_put` does.
 #[unsafe(no_mangle)]
 pub extern "C" fn ucstore_batch_delete(alloc: Global, batch: &mut BatchHandle, key: &[u8]) -> i32
     ensures { Gathers result batch.old.held batch.new.held (ops.Delete key.now) }
@@ -103,7 +103,7 @@ pub extern "C" fn ucstore_batch_delete(alloc: Global, batch: &mut BatchHandle, k
     push(alloc, batch, OpRef::delete(key))
 }
 
-/// Adds that each key from `begin` to below `end` is removed. It is refused as `ucstore_batch_put` is.
+/// Appends the operation that deletes each key from `begin` to below `end`. Fails as `ucstore_batch_put` does.
 #[unsafe(no_mangle)]
 pub extern "C" fn ucstore_batch_delete_range(
     alloc: Global,
@@ -156,8 +156,7 @@ fn count_of(held: &Option<Box<WriteBatch>>) -> u64
     }
 }
 
-/// Copies the bytes of the batch, whose sequence is 0, as many of them as there is room for, and says how many there
-/// are.
+/// Copies the bytes of the batch, whose sequence number is 0, as many of them as the buffer holds, and stores their number.
 #[unsafe(no_mangle)]
 pub extern "C" fn ucstore_batch_bytes(
     alloc: Global,

@@ -31,7 +31,7 @@ pub struct COptions {
     pub max_merge_width: u32,
     /// Not 0 if the store compacts after a flush.
     pub compacts_itself: u32,
-    /// The most memtables that it gathers.
+    /// The most memtables, full ones included.
     pub max_write_buffer_number: u32,
 }
 
@@ -62,8 +62,8 @@ impl COptions {
     }
 }
 
-/// Fills in the default options and their size: memtables of 4 MiB, 4 runs, stops from 36 runs on, 1 percent, 200
-/// percent, at least 2 runs and no limit to them, a store that compacts by itself, and one memtable.
+/// Fills in the default options and their size: memtables of 4 MiB, 4 runs, stops at 36 runs, 1 percent, 200 percent, at least 2
+/// runs and no limit to them, automatic compaction, and one memtable.
 #[unsafe(no_mangle)]
 pub extern "C" fn ucstore_options_init(options: &mut COptions) -> i32
     ensures status { result ≡ OK }

@@ -30,7 +30,7 @@ pub struct CReport {
     pub fragments: u64,
     /// Bytes of all runs, with 8 for each sequence.
     pub bytes: u64,
-    /// The number of gathered writes, which no run has yet.
+    /// The number of writes in memtables, which no run has yet.
     pub gathered: u64,
     /// The last sequence; 0 if nothing was written.
     pub last: u64,
@@ -58,8 +58,8 @@ impl CReport {
     }
 }
 
-/// Tells what the store holds, in numbers. It looks at each run once, and at no point. It is refused if the report's
-/// size isn't the one that this library knows.
+/// Stores the store's contents in numbers. It reads each run's totals once, and no point. Fails if the report's size isn't the one
+/// that this library knows.
 #[unsafe(no_mangle)]
 pub extern "C" fn ucstore_report(alloc: Global, handle: &mut Handle, report: &mut CReport) -> i32
     ensures reports { Answers result handle.old.held handle.new.held (λ e.
@@ -74,7 +74,7 @@ pub extern "C" fn ucstore_report(alloc: Global, handle: &mut Handle, report: &mu
     tell(found, report)
 }
 
-/// Tells what the view holds, in numbers, as `ucstore_report` does.
+/// Stores the view's contents in numbers, as `ucstore_report` does.
 #[unsafe(no_mangle)]
 pub extern "C" fn ucstore_view_report(
     alloc: Global,
@@ -93,7 +93,7 @@ pub extern "C" fn ucstore_view_report(
     tell(found, report)
 }
 
-/// Tells a report, if C knows its size.
+/// Stores a report, if C knows its size.
 fn tell(found: EngineReport, report: &mut CReport) -> i32
     ensures reports { Reports result found report.old report.new }
     ensures untold { (result ≡ OK) ⊎ (report.new ≡ report.old) }

@@ -11,8 +11,8 @@ use std::alloc::{AllocError, Global};
 use uc_engine::{CheckpointError, EngineCheckpoint};
 use uc_handle::{CheckpointHandle, ViewHandle};
 
-/// Puts a checkpoint of the view into its handle, of which nothing is laid out yet. The view stays. It is refused if the
-/// handle has a checkpoint, and for want of memory.
+/// Puts a checkpoint of the view into its handle. No row of it is encoded yet, and the view stays. Fails if the handle has a
+/// checkpoint, or if allocation fails.
 #[unsafe(no_mangle)]
 pub extern "C" fn ucstore_checkpoint(
     alloc: Global,
@@ -56,9 +56,9 @@ fn hold(
     }
 }
 
-/// Copies what a log of this many bytes gets for the next rows, at most `most` of them, into the room, if there is room for it, and
-/// says how many bytes that is. If there is too little room, no row is laid out. It says too whether no row was left. It is
-/// refused if a row has a text of 2^32 bytes or more, and for want of memory.
+/// Encodes the next rows, at most `most` of them, as the bytes that a log of this length gets for them. Copies these bytes into the
+/// buffer if they fit, and stores their number. If the buffer is too small, no row is passed over. Also stores whether no row was
+/// left. Fails if a row has a key or value of 2^32 bytes or more, or if allocation fails.
 #[unsafe(no_mangle)]
 pub extern "C" fn ucstore_checkpoint_next(
     alloc: Global,
@@ -85,7 +85,7 @@ pub extern "C" fn ucstore_checkpoint_next(
     }
 }
 
-/// Tells of a piece of this many bytes that was to go into a room of this many, or that no row was left.
+/// Stores the size of a piece for a buffer of this size, or that no row was left.
 fn tell(laid: Option<usize>, room: usize, size: &mut usize, done: &mut bool) -> i32
     ensures tells { TellsPiece result laid room size.new done.new }
     ensures untold { (result ≡ OK) ⊎ ((result ≡ ROOM) × (done.new ≡ done.old)) }

@@ -7,7 +7,7 @@ use crate::status::{NO_STORE, OK, room_status};
 use std::alloc::Global;
 use uc_handle::Handle;
 
-/// Makes a run of what is gathered. It is refused if no id is left for the run, and for want of memory.
+/// Flushes the memtable. Fails if run IDs are exhausted, or if allocation fails.
 #[unsafe(no_mangle)]
 pub extern "C" fn ucstore_flush(alloc: Global, handle: &mut Handle) -> i32
     ensures { Flushes result handle.old.held handle.new.held }
@@ -23,8 +23,8 @@ pub extern "C" fn ucstore_flush(alloc: Global, handle: &mut Handle) -> i32
     }
 }
 
-/// Compacts the runs that are picked next, if there are any, and says whether there were. The calling thread does all
-/// of it. It is refused if no id is left for the new run, and for want of memory.
+/// Compacts the runs that are picked next, if any, and stores whether there were any. The calling thread does all the work. Fails
+/// if run IDs are exhausted, or if allocation fails.
 #[unsafe(no_mangle)]
 pub extern "C" fn ucstore_compact(alloc: Global, handle: &mut Handle, compacted: &mut bool) -> i32
     ensures compacts { Compacts result handle.old.held handle.new.held compacted.new }

@@ -1,5 +1,5 @@
-//! Folders of databases, whose files C keeps: which of them an opening reads, and the machine that says which file operation comes
-//! next. C holds that as a [`State`] of numbers, does what a [`Step`] says, and tells how it went.
+//! Directories of databases, whose files C keeps: the files that opening reads, and the state machine that determines the next file
+//! operation. C holds the machine as a [`State`] of numbers, executes each [`Step`], and reports whether it succeeded.
 ghost use Rattle.std.specs.Prelude.{◌≡◌, ◌⊎◌};
 ghost use Rattle.uc_folder.specs.States.{state_of, step_of};
 ghost use Rattle.uc_folder.specs.Steps.{
@@ -25,8 +25,8 @@ ghost use Rattle.uc_c.specs.Folders.{FindsFiles, IfMachine};
 use crate::status::{LOG_MISSING, NO_FOLDER, OK};
 use uc_folder::{Base, Found, Listed, Machine, Missing, State, Step, found_in};
 
-/// Tells which files an opening reads of a folder that lists some bases and logs, in any order. Logs in the order of their numbers are each
-/// looked at once. Where a log is missing between the newest base and the last log, its number is told.
+/// Stores the files that opening reads of a directory with these bases and logs, in any order. Logs in the order of their numbers
+/// are each visited once. If a log is missing between the newest base and the last log, stores its number instead.
 #[unsafe(no_mangle)]
 pub extern "C" fn ucstore_folder_find(
     bases: &[Base],
@@ -50,8 +50,8 @@ pub extern "C" fn ucstore_folder_find(
     }
 }
 
-/// Opens the machine of a folder in which an opening found some files, and so many batches in the log that goes on. That is sealed if all
-/// that was read of it is on the device: then it isn't copied.
+/// Opens the machine of a directory in which opening found these files and `count` batches in the current log. The log is sealed if
+/// all that was read of it is durable. A sealed log isn't copied.
 #[unsafe(no_mangle)]
 pub extern "C" fn ucstore_folder_open(
     found: &Found,
@@ -66,7 +66,7 @@ pub extern "C" fn ucstore_folder_open(
     OK
 }
 
-/// Tells the writer's next operation.
+/// Stores the writer's next operation.
 #[unsafe(no_mangle)]
 pub extern "C" fn ucstore_folder_next_write(state: &State, step: &mut Step) -> i32
     ensures told { IfMachine result state.now (λ m. step.new ≡ step_of (next_write m.writer m.log m.count m.synced)) }
@@ -79,7 +79,7 @@ pub extern "C" fn ucstore_folder_next_write(state: &State, step: &mut Step) -> i
     OK
 }
 
-/// Tells the operation by which the next log is made, while batches are appended to this one.
+/// Stores the operation that creates the next log, while batches are appended to this one.
 #[unsafe(no_mangle)]
 pub extern "C" fn ucstore_folder_next_make(state: &State, step: &mut Step) -> i32
     ensures told { IfMachine result state.now (λ m. step.new ≡ step_of (next_make m.next m.log)) }
@@ -92,7 +92,7 @@ pub extern "C" fn ucstore_folder_next_make(state: &State, step: &mut Step) -> i3
     OK
 }
 
-/// Tells the sync of the log that is under way. A batch may be appended beside it.
+/// Stores the sync of the log that is due. A batch may be appended while it runs.
 #[unsafe(no_mangle)]
 pub extern "C" fn ucstore_folder_next_sync(state: &State, step: &mut Step) -> i32
     ensures told { IfMachine result state.now (λ m. step.new ≡ step_of (next_sync m.writer m.log)) }
@@ -105,7 +105,7 @@ pub extern "C" fn ucstore_folder_next_sync(state: &State, step: &mut Step) -> i3
     OK
 }
 
-/// Tells the checkpointer's next operation.
+/// Stores the checkpointer's next operation.
 #[unsafe(no_mangle)]
 pub extern "C" fn ucstore_folder_next_checkpoint(state: &State, step: &mut Step) -> i32
     ensures told { IfMachine result state.now (λ m. step.new ≡ step_of (next_checkpoint m.checkpointer)) }
@@ -118,7 +118,7 @@ pub extern "C" fn ucstore_folder_next_checkpoint(state: &State, step: &mut Step)
     OK
 }
 
-/// Learns how the writer's operation went: done, or refused in any way.
+/// Records whether the writer's operation succeeded.
 #[unsafe(no_mangle)]
 pub extern "C" fn ucstore_folder_told_write(state: &mut State, is_done: bool) -> i32
     ensures told { IfMachine result state.old (λ m. state.new ≡ state_of (told_write m is_done)) }
@@ -132,7 +132,7 @@ pub extern "C" fn ucstore_folder_told_write(state: &mut State, is_done: bool) ->
     OK
 }
 
-/// Learns how the making of the next log went.
+/// Records whether the creation of the next log succeeded.
 #[unsafe(no_mangle)]
 pub extern "C" fn ucstore_folder_told_make(state: &mut State, is_done: bool) -> i32
     ensures told { IfMachine result state.old (λ m. state.new ≡ state_of (told_make m is_done)) }
@@ -146,7 +146,7 @@ pub extern "C" fn ucstore_folder_told_make(state: &mut State, is_done: bool) -> 
     OK
 }
 
-/// Learns how the sync of the log went.
+/// Records whether the sync of the log succeeded.
 #[unsafe(no_mangle)]
 pub extern "C" fn ucstore_folder_told_sync(state: &mut State, is_done: bool) -> i32
     ensures told { IfMachine result state.old (λ m. state.new ≡ state_of (told_sync m is_done)) }
@@ -160,7 +160,7 @@ pub extern "C" fn ucstore_folder_told_sync(state: &mut State, is_done: bool) -> 
     OK
 }
 
-/// Learns how the checkpointer's operation went.
+/// Records whether the checkpointer's operation succeeded.
 #[unsafe(no_mangle)]
 pub extern "C" fn ucstore_folder_told_checkpoint(state: &mut State, is_done: bool) -> i32
     ensures told { IfMachine result state.old (λ m. state.new ≡ state_of (told_checkpoint m is_done)) }
@@ -174,7 +174,7 @@ pub extern "C" fn ucstore_folder_told_checkpoint(state: &mut State, is_done: boo
     OK
 }
 
-/// A batch is submitted: it is what the writer appends next. Nothing changes unless the writer may take it.
+/// Submits a batch, which the writer appends next. Changes nothing unless the writer may take it.
 #[unsafe(no_mangle)]
 pub extern "C" fn ucstore_folder_submit(state: &mut State) -> i32
     ensures asked { IfMachine result state.old (λ m. state.new ≡ state_of (record m { writer = submitting m.writer })) }
@@ -188,7 +188,7 @@ pub extern "C" fn ucstore_folder_submit(state: &mut State) -> i32
     OK
 }
 
-/// All that was appended is to be on the device. Nothing changes while a sync is under way.
+/// Requests a sync of all that was appended. Changes nothing while a sync is running.
 #[unsafe(no_mangle)]
 pub extern "C" fn ucstore_folder_ask_sync(state: &mut State) -> i32
     ensures asked { IfMachine result state.old (λ m. state.new ≡ state_of (record m { writer = syncing m.writer m.count })) }
@@ -202,7 +202,7 @@ pub extern "C" fn ucstore_folder_ask_sync(state: &mut State) -> i32
     OK
 }
 
-/// The next log is to be made. Nothing changes unless the folder is open, and none is made.
+/// Requests the next log. Changes nothing unless the directory is open, and no next log is being created.
 #[unsafe(no_mangle)]
 pub extern "C" fn ucstore_folder_ask_next(state: &mut State) -> i32
     ensures asked { IfMachine result state.old (λ m. state.new ≡ state_of (record m { next = asking_next m.writer m.next })) }
@@ -216,7 +216,7 @@ pub extern "C" fn ucstore_folder_ask_next(state: &mut State) -> i32
     OK
 }
 
-/// The next log is to go on. Nothing changes unless it is there and the writer is ready.
+/// Requests the switch to the next log. Changes nothing unless it exists and the writer is ready.
 #[unsafe(no_mangle)]
 pub extern "C" fn ucstore_folder_ask_switch(state: &mut State) -> i32
     ensures asked { IfMachine result state.old (λ m. state.new ≡ state_of (record m { writer = switching m.writer m.next })) }
@@ -230,8 +230,8 @@ pub extern "C" fn ucstore_folder_ask_switch(state: &mut State) -> i32
     OK
 }
 
-/// A base is to be made of the logs before a number, and of some batches of the log of that number. Nothing changes unless the folder
-/// is open, no base is under way, none has as much, and all of it is in older logs.
+/// Requests a base made of the logs before a number, and of some batches of the log of that number. Changes nothing unless the
+/// directory is open, no base is being written, none has as much, and all of it is in older logs.
 #[unsafe(no_mangle)]
 pub extern "C" fn ucstore_folder_ask_checkpoint(state: &mut State, number: u64, past: u64) -> i32
     ensures asked { IfMachine result state.old (λ m. state.new ≡ state_of (record m {

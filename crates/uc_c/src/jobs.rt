@@ -16,9 +16,9 @@ use uc_handle::{Handle, JobHandle};
 use uc_oper::Counter;
 use uc_version::{claimable_stretches_can_be_compacted, claims_are_held};
 
-/// Takes a job out of the store, puts it into its handle, and says whether there was one: the flush of what is gathered,
-/// if that is left to jobs and a memtable is full, or else the compaction of what is picked next. Until the job ends, the
-/// store doesn't compact its runs. It is refused if the handle has a job, and for want of memory.
+/// Takes a job out of the store, puts it into its handle, and stores whether there was one. The job is the flush of the memtables,
+/// if flushes are left to jobs and a memtable is full, or else the compaction that is picked next. Until the job ends, the store
+/// doesn't compact its runs. Fails if the handle has a job, or if allocation fails.
 #[unsafe(no_mangle)]
 pub extern "C" fn ucstore_job(
     alloc: Global,
@@ -98,8 +98,8 @@ fn is_ended(job: &StoreJob) -> bool
     matches!(job.stage(), JobStage::Ended)
 }
 
-/// Does the job, unless that is done. The calling thread does all of it, and touches no store. It is refused if the job has
-/// ended, and for want of memory.
+/// Runs the job, unless it was run before. The calling thread does all the work, and accesses no store. Fails if the job has ended,
+/// or if allocation fails.
 #[unsafe(no_mangle)]
 pub extern "C" fn ucstore_job_run(alloc: Global, job: &mut JobHandle) -> i32
     ensures { RunsJob result job.old.held job.new.held }
@@ -119,12 +119,12 @@ pub extern "C" fn ucstore_job_run(alloc: Global, job: &mut JobHandle) -> i32
     }
 }
 
-/// Ends a job that was taken from the store: puts its run there, if it was run and isn't refused, which `installed`
-/// says, and lets the store flush its writes or compact its runs again. It frees no run and no memtable: the job keeps what it had until
-/// it is closed. It is refused if the job has ended, and if it was taken from another store.
+/// Ends a job that was taken from the store: installs its run, if it was run and can be installed, and stores in `installed`
+/// whether it did. The store may then flush its writes or compact its runs again. Frees no run and no memtable: the job keeps its
+/// own until it is closed. Fails if the job has ended, or if it was taken from another store.
 ///
-/// It requires that a job with the store's id is the store's own, as `taken_jobs_are_own` says of those that were taken
-/// from it. Each store has a number of its own, so C owes nothing for it.
+/// Requires that a job with the store's id is the store's own, which `taken_jobs_are_own` says of each job that was taken from it.
+/// Each store has its own number, so C need not do anything for it.
 #[unsafe(no_mangle)]
 pub extern "C" fn ucstore_job_end(
     alloc: Global,
@@ -167,7 +167,7 @@ fn end_held(alloc: Global, handle: &mut Handle, job: &mut StoreJob, installed: &
     }
 }
 
-/// Ends a job that hasn't ended. Tells whether its run was installed, or nothing if it was taken from another store.
+/// Ends a job that hasn't ended. Returns whether its run was installed, or `None` if it was taken from another store.
 fn end(alloc: Global, engine: &mut Engine, job: &mut StoreJob) -> Option<bool>
     requires lasts { ¬ jobs.HasEnded job.old.job }
     requires own { IsOf engine.old job.old → jobs.IsOwn engine.old job.old.job }
@@ -179,7 +179,7 @@ fn end(alloc: Global, engine: &mut Engine, job: &mut StoreJob) -> Option<bool>
     end_own(alloc, engine, &mut job.job)
 }
 
-/// Ends a job of the engine that hasn't ended. Tells whether its run was installed, or nothing if the engine doesn't hold its
+/// Ends a job of the engine that hasn't ended. Returns whether its run was installed, or `None` if the engine doesn't hold its
 /// claim.
 fn end_own(alloc: Global, engine: &mut Engine, job: &mut TakenJob) -> Option<bool>
     requires lasts { ¬ jobs.HasEnded job.old }
@@ -192,7 +192,7 @@ fn end_own(alloc: Global, engine: &mut Engine, job: &mut TakenJob) -> Option<boo
     }
 }
 
-/// Ends a flush job. Tells whether its run was installed.
+/// Ends a flush job. Returns whether its run was installed.
 fn end_flush(alloc: Global, engine: &mut Engine, job: &mut FlushJob) -> bool
     requires lasts { ¬ jobs.HasEnded (kinds.Flush job.old) }
     requires own { jobs.IsOwn engine.old (kinds.Flush job.old) }
@@ -209,7 +209,7 @@ fn is_flushed(end: &FlushEnd) -> bool
     matches!(end, FlushEnd::Installed(_))
 }
 
-/// Ends a compaction job, if the engine holds its claim. Tells whether its run was installed.
+/// Ends a compaction job, if the engine holds its claim. Returns whether its run was installed.
 fn end_compaction(engine: &mut Engine, job: &mut EngineJob) -> Option<bool>
     requires lasts { ¬ jobs.HasEnded (kinds.Compaction job.old) }
     requires own { jobs.IsOwn engine.old (kinds.Compaction job.old) }
@@ -229,8 +229,8 @@ fn is_installed(end: &JobEnd) -> bool
     matches!(end, JobEnd::Installed(_))
 }
 
-/// Tells how many bytes the runs have together that the job compacts, as `ucstore_report` counts them: 0 for a flush. So what the
-/// store's bytes change by when the job ends tells those of the run that was made.
+/// Stores the total size in bytes of the runs that the job compacts, as `ucstore_report` counts them: 0 for a flush. So the change
+/// of the store's size when the job ends shows the size of the new run.
 #[unsafe(no_mangle)]
 pub extern "C" fn ucstore_job_input_bytes(
     alloc: Global,

@@ -1,33 +1,28 @@
 //! An embedded store for programs in C, and for languages that call C.
 //!
-//! C holds a store in a [`Handle`](uc_handle::Handle), a struct of one address, and passes its address to each
-//! function. `bindings/c/ucstore.h` declares them:
+//! C holds a store in a [`Handle`](uc_handle::Handle), a struct of one address, and passes its address to each function.
+//! `bindings/c/ucstore.h` declares them:
 //!
-//! ```c
-//! struct ucstore store = {0};
-//! struct ucstore_options options;
-//! ucstore_options_init(&options);
-//! int32_t status = ucstore_create(&store, UCSTORE_COUNTER, &options);
+//! ```c struct ucstore store = {0}; struct ucstore_options options; ucstore_options_init(&options); int32_t status =
+//! ucstore_create(&store, UCSTORE_COUNTER, &options);
 //! ```
 //!
-//! Each function of a store is a thin export over a method of [`Engine`](uc_engine::Engine): it takes the engine out of
-//! the handle, calls it, puts it back, and answers a status. What is written through an address is written only if the
-//! status is `OK`.
+//! Each function of a store is a thin export over a method of [`Engine`](uc_engine::Engine): it takes the engine out of the handle,
+//! calls it, puts it back, and returns a status. Results are written through pointers only if the status is `OK`.
 //!
-//! C gathers operations in a [`BatchHandle`](uc_handle::BatchHandle), which is held in the same way. So is a view, in a
-//! [`ViewHandle`](uc_handle::ViewHandle), a checkpoint, in a [`CheckpointHandle`](uc_handle::CheckpointHandle), and a job, in
-//! a [`JobHandle`](uc_handle::JobHandle). Stores and views are read by the same functions, over
-//! [`Readable`](readable::Readable).
+//! C collects operations in a [`BatchHandle`](uc_handle::BatchHandle), which is held in the same way. So is a view, in a
+//! [`ViewHandle`](uc_handle::ViewHandle), a checkpoint, in a [`CheckpointHandle`](uc_handle::CheckpointHandle), and a job, in a
+//! [`JobHandle`](uc_handle::JobHandle). Stores and views are read by the same functions, over [`Readable`](readable::Readable).
 //!
-//! The functions of `logs.rt` need no handle: C keeps a log in a file of its own, appends what they lay out, and walks
-//! over it. `replaying.rt` writes the batches of such a walk to a store. Where a walk stops, it tells why through an address.
-//! `folders.rt` finds the files of a database's folder that an opening reads, and says which file operation comes next; C holds its
-//! machine in a struct of numbers.
+//! The functions of `logs.rt` need no handle: C keeps a log in its own file, appends the bytes that they encode, and walks over it.
+//! `replaying.rt` writes the batches of such a walk to a store. If a walk stops, it stores the reason through a pointer.
+//! `folders.rt` finds the files of a database's directory that opening reads, and determines the next file operation; C holds its
+//! state machine in a struct of numbers.
 //!
-//! Read `status.rt` and `specs/Replies.antt` first, for what the functions answer, then `opening.rt`, `batches.rt`,
+//! Read `status.rt` and `specs/Replies.antt` first, for the results of the functions, then `opening.rt`, `batches.rt`,
 //! `writing.rt`, `snapshots.rt`, `readable.rt`, `reading.rt`, `many.rt`, `scanning.rt`, `views.rt`, `view_reading.rt`,
-//! `sources.rt`, `checkpoints.rt`, `compacting.rt`, `jobs.rt`, `job_laws.rt`, `c_report.rt`, with `specs/LogWalk.antt`, `logs.rt` and
-//! `replaying.rt`, and `folders.rt`.
+//! `sources.rt`, `checkpoints.rt`, `compacting.rt`, `jobs.rt`, `job_laws.rt`, `c_report.rt`, with `specs/LogWalk.antt`, `logs.rt`
+//! and `replaying.rt`, and `folders.rt`.
 //!
 //! Tests: `bindings/c/worked.c`, `bindings/c/test.c`.
 #![tactic(auto)]

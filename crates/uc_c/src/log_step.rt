@@ -48,7 +48,7 @@ pub(crate) fn step_from(alloc: Global, log: &[u8], place: CLogPlace) -> Result<L
     }
 }
 
-/// The payload between a place and an offset, judged as a batch.
+/// The payload between a place and an offset, validated as a batch.
 fn batch_step(
     alloc: Global,
     payload: &[u8],
@@ -117,7 +117,7 @@ fn push_op(bytes: &mut Vec<u8>, op: &OpRef<'_>) -> Result<(), AllocError>
     }
 }
 
-/// Writes a tag and two texts at the end.
+/// Appends a tag and two byte strings.
 fn push_texts(bytes: &mut Vec<u8>, tag: u8, first: &[u8], second: &[u8]) -> Result<(), AllocError>
     ensures { OnOk result (bytes.new.items ≡
         bytes.old.items ++ (tag ∷ text_bytes first.now ++ text_bytes second.now)) }

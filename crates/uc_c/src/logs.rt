@@ -12,13 +12,13 @@ use crate::room::fill;
 use crate::status::{BAD_PLACE, LOG_ENDS, OK, OUT_OF_MEMORY, ROOM};
 use std::alloc::Global;
 
-/// Goes from a place in a log to after the next batch, and lays its writes out in the room one after the other: each
-/// as 8 bytes for the sequence, low byte first, 1 for the tag of the operation, 8 for the length of the first text, the
-/// text, 8 for the length of the second text, and that text. It says how many these are, and how many bytes.
+/// Advances a position in a log past the next batch, and encodes its writes into the buffer, one after the other: 8 bytes for the
+/// sequence number, low byte first, 1 for the tag of the operation, 8 for the length of the first byte string, its bytes, 8 for the
+/// length of the second, and its bytes. Stores the number of writes and the number of bytes.
 ///
-/// If they don't fit the room, the place stays, and only the size is told. Where the log ends, or the batch may not
-/// follow, the place stays too, and it is told how far the log was read. It is refused if the place has more batches
-/// than bytes before it or lies past the log, and for want of memory.
+/// If they don't fit the buffer, the position stays, and only the size is stored. If the log ends there, or the next batch isn't
+/// valid, the position stays too, and how far the log was read is stored. Fails if the position has more batches than bytes before
+/// it or is past the end of the log, or if allocation fails.
 #[unsafe(no_mangle)]
 pub extern "C" fn ucstore_log_next(
     alloc: Global,
@@ -50,7 +50,7 @@ pub extern "C" fn ucstore_log_next(
     }
 }
 
-/// Puts bytes into the room, if they fit, and tells how many they are.
+/// Copies bytes into the buffer, if they fit, and stores their number.
 fn lay(bytes: &[u8], room: &mut [u8], size: &mut usize) -> i32
     ensures size { size.new ≡ length bytes.now }
     ensures fits { length bytes.now ≤ length room.old →
@@ -65,7 +65,7 @@ fn lay(bytes: &[u8], room: &mut [u8], size: &mut usize) -> i32
     OK
 }
 
-/// Puts writes into the room, and moves the place after them, if they fit.
+/// Encodes writes into the buffer, and moves the place after them, if they fit.
 fn show(
     laid: &LaidWrites,
     behind: CLogPlace,

@@ -13,7 +13,7 @@ use std::alloc::{AllocError, Global};
 use uc_engine::ValueRef;
 use uc_handle::Handle;
 
-/// The length that is told of a key without a value.
+/// The length that is stored for a key without a value.
 const NO_VALUE: u64 = u64::MAX;
 
 /// The values found for many keys.
@@ -24,10 +24,10 @@ struct Found {
     bytes: Vec<u8>,
 }
 
-/// Looks keys up at the last sequence, which stand one after the other, in any order. It tells the length of each
-/// key's value, the greatest number if it has none, copies the values that are there one after the other, as much of
-/// them as there is room for, and says how many bytes they have. It is refused if the keys' lengths don't add up to
-/// their bytes, if there aren't as many places for answers, and for want of memory.
+/// Looks up keys at the last sequence number. The keys are concatenated, in any order. Stores the length of each key's value, or
+/// the greatest number if it has none, copies the concatenated values, as many of their bytes as the buffer holds, and stores their
+/// total size. Fails if the keys' lengths don't add up to their bytes, if there aren't as many places for answers, or if allocation
+/// fails.
 #[unsafe(no_mangle)]
 pub extern "C" fn ucstore_get_many(
     alloc: Global,

@@ -26,11 +26,10 @@ fn boxed(alloc: Global, engine: Engine) -> Result<Box<Engine>, LiveOpenError>
     }
 }
 
-/// Puts an empty store into the handle, whose operator is 0 for texts joined by commas, 1 for sums, 2 for the greater
-/// text or 3 for the last four bytes. It has no snapshot. By its number it knows its jobs: `bindings/c/ids.c` gives each store of
-/// a process another one. It is refused if the handle has a store, if the options' size
-/// isn't the one that this library knows, if no operator has the number, if an option is out of its range, and for want
-/// of memory.
+/// Puts an empty store into the handle. Its operator is 0 for byte strings joined by commas, 1 for sums, 2 for the greater byte
+/// string or 3 for the last four bytes. It has no snapshot. It recognizes its jobs by its number: `bindings/c/ids.c` gives each
+/// store of a process a different one. Fails if the handle has a store, if the options' size isn't the one that this library knows,
+/// if no operator has the number, if an option is out of range, or if allocation fails.
 #[unsafe(no_mangle)]
 pub extern "C" fn numbered_ucstore_create(
     alloc: Global,
@@ -64,10 +63,9 @@ pub extern "C" fn numbered_ucstore_create(
     }
 }
 
-/// Puts a store into the handle that is opened from the bytes of a write-ahead log: it has the writes before the
-/// log's first fault, and `ended` says whether there was one. It has no snapshot. It is refused as
-/// `numbered_ucstore_create` is,
-/// and if no id is left for a run.
+/// Puts a store into the handle that is opened from the bytes of a write-ahead log: it has the writes before the log's first fault,
+/// and `ended` says whether there was one. It has no snapshot. Fails as `numbered_ucstore_create` does, and if run IDs are
+/// exhausted.
 #[unsafe(no_mangle)]
 pub extern "C" fn numbered_ucstore_open(
     alloc: Global,

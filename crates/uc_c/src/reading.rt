@@ -15,8 +15,8 @@ use std::alloc::Global;
 use uc_engine::Answer;
 use uc_handle::Handle;
 
-/// Looks a key up at the last sequence, copies its value into the room, as much of it as there is room for, and says
-/// how long it is. It is refused for want of memory.
+/// Looks up a key at the last sequence number, copies its value, as many of its bytes as the buffer holds, and stores its size.
+/// Fails if allocation fails.
 #[unsafe(no_mangle)]
 pub extern "C" fn ucstore_get(
     alloc: Global,
@@ -37,8 +37,8 @@ pub extern "C" fn ucstore_get(
     status
 }
 
-/// Looks a key up at a sequence, and copies its value as `ucstore_get` does. It is refused if no snapshot is at the
-/// sequence, and for want of memory.
+/// Looks up a key at a sequence number, and copies its value as `ucstore_get` does. Fails if no snapshot is at that number, or if
+/// allocation fails.
 #[unsafe(no_mangle)]
 pub extern "C" fn ucstore_get_at(
     alloc: Global,
@@ -102,7 +102,7 @@ pub fn look_up_at<R: Readable>(
     }
 }
 
-/// Copies a value, as much of it as there is room for, and says how long it is.
+/// Copies a value, as many of its bytes as the buffer holds, and stores its size.
 fn tell_value(value: &[u8], room: &mut [u8], size: &mut usize)
     ensures room { room.new ≡ filled value.now room.old }
     ensures size { size.new ≡ length value.now }

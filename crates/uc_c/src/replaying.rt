@@ -90,7 +90,7 @@ fn replay_at(
     }
 }
 
-/// Writes the next batch at a place of a log to an engine, and tells what was done.
+/// Writes the next batch at a place of a log to an engine, and returns what was done.
 fn replay_next(
     alloc: Global,
     engine: &mut Engine,
@@ -122,13 +122,13 @@ fn replay_next(
     }
 }
 
-/// Writes the next batch at a place of a log to the store, with the sequences that it has, and goes to the place after it. A
-/// walk begins where the offset and the batches are zero, and the last sequence is the store's. A batch that is prepared is
-/// given up.
+/// Writes the next batch at a place of a log to the store, with its own sequence numbers, and moves the place after it. A walk
+/// begins where the offset and the batches are zero, and the last sequence number is the store's. A prepared batch is discarded.
 ///
-/// Where the log ends, or the batch may not follow, nothing is written, the place stays, and it is told how far the log was
-/// read. Nor is a batch written that begins later than right after the last sequence, unless it may skip some, nor for want
-/// of memory or of ids. It is refused if no walk over the log leads to the place, or its last sequence isn't the store's.
+/// If the log ends there, or the next batch isn't valid, nothing is written, the place stays, and how far the log was read is
+/// stored. A batch isn't written either if its sequence number isn't directly after the last one, unless it may skip some, or if
+/// allocation fails or run IDs are exhausted. Fails if no walk over the log leads to the place, or its last sequence number isn't
+/// the store's.
 #[unsafe(no_mangle)]
 pub extern "C" fn ucstore_replay(
     alloc: Global,

@@ -15,7 +15,7 @@ use std::alloc::{AllocError, Global};
 use uc_engine::{Answer, Bytes, EngineView, Query, RowBuffer, Rows};
 use uc_handle::Handle;
 
-/// The most gathered writes that a scan sorts: if there are more, they become a run first.
+/// The most writes in memtables that a scan sorts: if there are more, they are flushed first.
 const MOST_SORTED: usize = 256;
 
 /// The end of a scan, if it is bounded.
@@ -29,11 +29,10 @@ fn bound(alloc: Global, high: &[u8], bounded: bool) -> Result<Option<Bytes>, All
     }
 }
 
-/// Scans the first rows, at most `limit`, of the keys from `low` to below `high`, or to the last one if they aren't
-/// bounded, at the last sequence. It writes the rows that fit the room one after the other, each as 8 bytes for the
-/// key's length, low byte first, the key, 8 bytes for the value's length, and the value. It tells how many these are,
-/// and the size of all rows. Many gathered writes are flushed first, unless a batch is prepared. It is refused for want
-/// of memory.
+/// Scans the first rows, at most `limit`, of the keys from `low` to below `high`, or to the last one if they aren't bounded, at the
+/// last sequence number. Writes the rows that fit the buffer one after the other, each as 8 bytes for the key's length, low byte
+/// first, the key, 8 bytes for the value's length, and the value. Stores their number, and the size of all rows. If memtables hold
+/// many writes, they are flushed first, unless a batch is prepared. Fails if allocation fails.
 #[unsafe(no_mangle)]
 pub extern "C" fn ucstore_scan(
     alloc: Global,
@@ -63,8 +62,7 @@ pub extern "C" fn ucstore_scan(
     status
 }
 
-/// Scans as `ucstore_scan` does, at a sequence. It is refused if no snapshot is at the sequence, and for want of
-/// memory.
+/// Scans as `ucstore_scan` does, at a sequence number. Fails if no snapshot is at that number, or if allocation fails.
 #[unsafe(no_mangle)]
 pub extern "C" fn ucstore_scan_at(
     alloc: Global,
@@ -229,7 +227,7 @@ fn answer_to<R: Readable>(
     source.answer(alloc, &query)
 }
 
-/// Writes the rows that fit the buffer, and tells how many these are, and the size of all.
+/// Writes the rows that fit the buffer, and stores their number, and the size of all.
 fn show_rows(rows: &RowBuffer, room: &mut [u8], size: &mut usize, count: &mut u64)
     ensures { AreShown rows.now room.old room.new size.new count.new }
 {
@@ -239,7 +237,7 @@ fn show_rows(rows: &RowBuffer, room: &mut [u8], size: &mut usize, count: &mut u6
     *count = fit as u64;
 }
 
-/// Writes the rows of an answer that fit the room.
+/// Writes the rows of an answer that fit the buffer.
 fn show(answer: &Answer, room: &mut [u8], size: &mut usize, count: &mut u64) -> i32
     requires { IsScanned answer.now }
     ensures scanned { Scanned result answer.now room.old room.new size.new count.new }

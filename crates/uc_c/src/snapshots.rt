@@ -13,8 +13,8 @@ use crate::status::{NO_STORE, NOT_PROTECTED, OK, room_status};
 use std::alloc::Global;
 use uc_handle::Handle;
 
-/// Takes a snapshot at the last sequence, and tells that. Snapshots are counted: one that is taken twice is released
-/// twice. It is refused if no id is left for a run, and for want of memory.
+/// Takes a snapshot at the last sequence number, and stores that number. Snapshots are counted: one that is taken twice must be
+/// released twice. Fails if run IDs are exhausted, or if allocation fails.
 #[unsafe(no_mangle)]
 pub extern "C" fn ucstore_snapshot(alloc: Global, handle: &mut Handle, seq: &mut u64) -> i32
     ensures takes { TakesOne result handle.old.held handle.new.held seq.new }
@@ -34,7 +34,7 @@ pub extern "C" fn ucstore_snapshot(alloc: Global, handle: &mut Handle, seq: &mut
     }
 }
 
-/// Releases a snapshot. It is refused if none was taken at the sequence that isn't released.
+/// Releases a snapshot. Fails if the store has no snapshot at the sequence number.
 #[unsafe(no_mangle)]
 pub extern "C" fn ucstore_release(alloc: Global, handle: &mut Handle, seq: u64) -> i32
     ensures { IfHeld result handle.old.held handle.new.held (λ e.
@@ -53,7 +53,7 @@ pub extern "C" fn ucstore_release(alloc: Global, handle: &mut Handle, seq: u64) 
     }
 }
 
-/// Copies the sequences of the snapshots, which rise, each once, as many as there is room for, and says how many there
+/// Copies the sequence numbers of the snapshots, in rising order, each once, as many as the buffer holds, and stores how many there
 /// are.
 #[unsafe(no_mangle)]
 pub extern "C" fn ucstore_snapshots(
@@ -77,7 +77,7 @@ pub extern "C" fn ucstore_snapshots(
     OK
 }
 
-/// Copies the sequences, as many as there is room for. Returns how many there are.
+/// Copies the sequence numbers, as many as the buffer holds. Returns how many there are.
 fn show_keeps(keeps: &[u64], room: &mut [u64]) -> usize
     ensures room { room.new ≡ filled keeps.now room.old }
     ensures count { result ≡ length keeps.now }

@@ -13,7 +13,7 @@ use std::alloc::Global;
 use uc_engine::LookupSource;
 use uc_handle::{Handle, ViewHandle};
 
-/// One of the gathered writes puts or deletes the key.
+/// A write in the memtables puts or deletes the key.
 pub const MEMTABLE: u32 = 0;
 
 /// None of them does, and no write of a run touches the key.
@@ -27,7 +27,7 @@ pub fn sources_are_numbered()
     ensures { numbers.MEMTABLE ∷ numbers.FILTERS ∷ numbers.RUNS ∷ [] ≡ 0 ∷ 1 ∷ 2 ∷ [] }
 {}
 
-/// Tells where a look-up of a key at the last sequence is answered. It is refused for want of memory.
+/// Stores which part of the store answers a lookup of a key at the last sequence number. Fails if allocation fails.
 #[unsafe(no_mangle)]
 pub extern "C" fn ucstore_source(
     alloc: Global,
@@ -47,7 +47,7 @@ pub extern "C" fn ucstore_source(
     status
 }
 
-/// Tells where a look-up of a key in a view is answered, as `ucstore_source` does of a store.
+/// Stores which part of a view answers a lookup of a key, as `ucstore_source` does for a store.
 #[unsafe(no_mangle)]
 pub extern "C" fn ucstore_view_source(
     alloc: Global,
@@ -67,7 +67,7 @@ pub extern "C" fn ucstore_view_source(
     status
 }
 
-/// Tells where a look-up is answered, as `ucstore_source` does.
+/// Stores which part answers a lookup, as `ucstore_source` does.
 fn tell_source<R: Readable>(alloc: Global, readable: &R, key: &[u8], source: &mut u32) -> i32
     ensures told { TellsSource result (source_of (R.viewed readable.now).seen key.now) source.new }
     ensures untold { (result ≡ OK) ⊎ (source.new ≡ source.old) }

@@ -9,7 +9,7 @@ use uc_engine::{BatchError, LiveOpenError, RoomError, WriteError};
 /// It did what it was asked.
 pub const OK: i32 = 0;
 
-/// Memory was refused.
+/// Allocation failed.
 pub const OUT_OF_MEMORY: i32 = 1;
 
 /// The handle has no store.
@@ -39,7 +39,7 @@ pub const IDS_SPENT: i32 = 9;
 /// Too few sequences are left.
 pub const SEQUENCES_SPENT: i32 = 10;
 
-/// A text has 2^32 bytes or more.
+/// A key or value has 2^32 bytes or more.
 pub const TOO_LONG: i32 = 11;
 
 /// The bytes aren't a write batch.
@@ -48,7 +48,7 @@ pub const NOT_A_BATCH: i32 = 12;
 /// No walk over a log leads to the place.
 pub const BAD_PLACE: i32 = 13;
 
-/// The room is too small.
+/// The buffer is too small.
 pub const ROOM: i32 = 14;
 
 /// No batch comes next in the log.
@@ -116,7 +116,7 @@ pub fn statuses_are_numbered()
     ensures logs { statuses.SEQUENCE_GAP ∷ statuses.LOG_MISSING ∷ statuses.NO_FOLDER ∷ [] ≡ pos 28 ∷ pos 29 ∷ pos 30 ∷ [] }
 {}
 
-/// The status where there is no room for a run.
+/// The status if a run can't be added.
 pub fn room_status(error: RoomError) -> i32
     ensures { RoomSays error result }
 {
@@ -127,7 +127,7 @@ pub fn room_status(error: RoomError) -> i32
     }
 }
 
-/// The status for an opening that is refused.
+/// The status for an opening that fails.
 pub fn open_status(error: LiveOpenError) -> i32
     ensures { OpenSays error result }
 {
@@ -147,7 +147,7 @@ fn batch_status(fault: BatchError) -> i32
     }
 }
 
-/// The status for a write that is refused.
+/// The status for a write that fails.
 pub fn write_status(error: WriteError) -> i32
     ensures { WriteSays error result }
 {
@@ -159,8 +159,8 @@ pub fn write_status(error: WriteError) -> i32
     }
 }
 
-/// The status for gathered operations that are refused. Their bytes are a batch, so if they aren't taken for what they
-/// are, too few sequences are left.
+/// The status for a batch of collected operations that fails. Its bytes are a batch, so `Unread` can only mean that too few
+/// sequence numbers are left.
 pub fn gathered_status(error: WriteError) -> i32
     ensures { GatheredSays error result }
 {

@@ -84,8 +84,8 @@ pub extern "C" fn ucstore_view_get_many(
     status
 }
 
-/// Scans a view, as `ucstore_scan` does a store. The first scan of a view sorts what was gathered, for all of its
-/// handles that are made after it.
+/// Scans a view, as `ucstore_scan` does a store. The first scan of a view sorts the writes in its memtables, for all of its handles
+/// that are made after it.
 #[unsafe(no_mangle)]
 pub extern "C" fn ucstore_view_scan(
     alloc: Global,

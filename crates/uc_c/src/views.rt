@@ -1,4 +1,4 @@
-//! Views that C holds: what a store held at a moment.
+//! Views that C holds: the contents of a store at one point in time.
 ghost use Rattle.std.specs.Prelude.{◌≡◌, ◌⊎◌, None, Some, IsOkAnd};
 ghost use Rattle.uc_live.specs.Views as views;
 ghost use Rattle.uc_engine.specs.EngineViews.{viewed_in};
@@ -11,8 +11,8 @@ use std::alloc::{AllocError, Global};
 use uc_engine::EngineView;
 use uc_handle::{Handle, ViewHandle};
 
-/// Puts a view into its handle that shows what the store holds now. What is prepared isn't in it. It is refused if
-/// the handle has a view, and for want of memory.
+/// Puts a view of the store's present contents into its handle. It doesn't show a prepared batch. Fails if the handle has a view,
+/// or if allocation fails.
 #[unsafe(no_mangle)]
 pub extern "C" fn ucstore_view(alloc: Global, handle: &mut Handle, view: &mut ViewHandle) -> i32
     ensures puts { PutsTaken NO_STORE viewed_in handle.old.held result view.old.held view.new.held }
@@ -30,8 +30,7 @@ pub extern "C" fn ucstore_view(alloc: Global, handle: &mut Handle, view: &mut Vi
     hold(alloc, view, taken)
 }
 
-/// Puts the view into another handle too, for another thread. It is refused if that has a view, and for want of
-/// memory.
+/// Puts the view into another handle too, for another thread. Fails if that handle has a view, or if allocation fails.
 #[unsafe(no_mangle)]
 pub extern "C" fn ucstore_view_again(
     alloc: Global,

@@ -16,10 +16,10 @@ use uc_batch::{WriteBatch, gathered_batch_is_read};
 use uc_engine::{Engine, OpRef, WriteError};
 use uc_handle::{BatchHandle, Handle};
 
-/// Writes a batch, given as the bytes that RocksDB writes: 8 bytes for a sequence, 4 for a count, and as many records.
-/// The operations get the batch's sequence and those after it; if it is 0, those after the last one. It is refused if
-/// the bytes aren't a batch, if its sequence is neither 0 nor above the last one, if too few sequences are left, if no
-/// id is left for a run, and for want of memory.
+/// Writes a batch, given as the bytes that RocksDB writes: 8 bytes for a sequence number, 4 for a count, and as many records. The
+/// operations get the batch's sequence number and those after it, or if it is 0, those after the last one. Fails if the bytes
+/// aren't a batch, if its sequence number is neither 0 nor above the last one, if too few sequence numbers are left, if run IDs are
+/// exhausted, or if allocation fails.
 #[unsafe(no_mangle)]
 pub extern "C" fn ucstore_write_bytes(alloc: Global, handle: &mut Handle, batch: &[u8]) -> i32
     ensures { WritesBatch result handle.old.held handle.new.held batch.now }
@@ -35,8 +35,8 @@ pub extern "C" fn ucstore_write_bytes(alloc: Global, handle: &mut Handle, batch:
     }
 }
 
-/// Writes the operations of a batch: they get the sequences after the last one. It is refused if too few sequences are
-/// left, if no id is left for a run, and for want of memory. The batch stays as it was.
+/// Writes the operations of a batch. They get the sequence numbers after the last one, and the batch is unchanged. Fails if too few
+/// sequence numbers are left, if run IDs are exhausted, or if allocation fails.
 #[unsafe(no_mangle)]
 pub extern "C" fn ucstore_write(alloc: Global, handle: &mut Handle, batch: &mut BatchHandle) -> i32
     ensures writes { WritesOps result handle.old.held handle.new.held (ops_held batch.old.held) }
@@ -78,8 +78,8 @@ fn write(alloc: Global, handle: &mut Handle, op: OpRef<'_>) -> i32
     }
 }
 
-/// Sets a key to a value. It is refused if no sequence is left, if a text has 2^32 bytes or more, if no id is left for
-/// a run, and for want of memory.
+/// Sets a key to a value. Fails if no sequence number is left, if either has 2^32 bytes or more, if run IDs are exhausted, or if
+/// allocation fails.
 #[unsafe(no_mangle)]
 pub extern "C" fn ucstore_put(alloc: Global, handle: &mut Handle, key: &[u8], value: &[u8]) -> i32
     ensures { Writes result handle.old.held handle.new.held (ops.Put key.now value.now) }
@@ -87,7 +87,7 @@ pub extern "C" fn ucstore_put(alloc: Global, handle: &mut Handle, key: &[u8], va
     write(alloc, handle, OpRef::put(key, value))
 }
 
-/// Removes a key. It is refused as `ucstore_put` is.
+/// Deletes a key. Fails as `ucstore_put` does.
 #[unsafe(no_mangle)]
 pub extern "C" fn ucstore_delete(alloc: Global, handle: &mut Handle, key: &[u8]) -> i32
     ensures { Writes result handle.old.held handle.new.held (ops.Delete key.now) }
@@ -95,7 +95,7 @@ pub extern "C" fn ucstore_delete(alloc: Global, handle: &mut Handle, key: &[u8])
     write(alloc, handle, OpRef::delete(key))
 }
 
-/// Combines a key with an operand. It is refused as `ucstore_put` is.
+/// Merges an operand into a key. Fails as `ucstore_put` does.
 #[unsafe(no_mangle)]
 pub extern "C" fn ucstore_merge(
     alloc: Global,
@@ -108,7 +108,7 @@ pub extern "C" fn ucstore_merge(
     write(alloc, handle, OpRef::merge(key, operand))
 }
 
-/// Removes each key from `begin` to below `end`, none if `begin` isn't below `end`. It is refused as `ucstore_put` is.
+/// Deletes each key from `begin` to below `end`, none if `begin` isn't below `end`. Fails as `ucstore_put` does.
 #[unsafe(no_mangle)]
 pub extern "C" fn ucstore_delete_range(
     alloc: Global,
@@ -121,9 +121,8 @@ pub extern "C" fn ucstore_delete_range(
     write(alloc, handle, OpRef::delete_range(begin, end))
 }
 
-/// Prepares a batch, and copies the record that it adds to a log of this many bytes, if there is room for it, and says
-/// how long that is. If there is too little room, nothing is prepared. Returns the status, or why the batch isn't
-/// taken.
+/// Prepares a batch, copies the record that it adds to a log of this many bytes, if it fits the buffer, and stores the record's
+/// size. If the buffer is too small, nothing is prepared. Returns the status.
 fn prepare(
     alloc: Global,
     engine: &mut Engine,
@@ -148,10 +147,9 @@ fn prepare(
     Ok(OK)
 }
 
-/// Prepares the operations of a batch, so that `ucstore_commit` can take them, with the sequences after the last one,
-/// and copies the bytes that they add to a log of this many bytes, if there is room for them. It says how many these are.
-/// If there is too little room, nothing is prepared. It is refused as `ucstore_write` would be. The batch stays as it
-/// was.
+/// Prepares the operations of a batch, so that `ucstore_commit` can take them, with the sequence numbers after the last one, and
+/// copies the bytes that they add to a log of this many bytes, if they fit the buffer. Stores the number of these bytes. If the
+/// buffer is too small, nothing is prepared. Fails as `ucstore_write` does. The batch is unchanged.
 #[unsafe(no_mangle)]
 pub extern "C" fn ucstore_prepare(
     alloc: Global,
@@ -198,7 +196,7 @@ fn prepare_ops(
     }
 }
 
-/// Prepares a batch, given as bytes, as `ucstore_prepare` does. It is refused as `ucstore_write_bytes` would refuse it.
+/// Prepares a batch, given as bytes, as `ucstore_prepare` does. Fails as `ucstore_write_bytes` does.
 #[unsafe(no_mangle)]
 pub extern "C" fn ucstore_prepare_bytes(
     alloc: Global,
@@ -237,7 +235,7 @@ pub extern "C" fn ucstore_commit(alloc: Global, handle: &mut Handle) -> i32
     OK
 }
 
-/// Gives up the batch that is prepared, if there is one.
+/// Discards the prepared batch, if there is one.
 #[unsafe(no_mangle)]
 pub extern "C" fn ucstore_give_up(alloc: Global, handle: &mut Handle) -> i32
     ensures { IfHeld result handle.old.held handle.new.held (λ e.

@@ -28,7 +28,7 @@ put_all rows n count ops none within is =
     let no_more : length (drop n rows) ≡ 0 = ap (λ (rs : List Row). length rs) none in
     is ∙ ap puts_of (take_all n rows (omega (arith, left, no_more)) ∙ sym (take_all count rows (omega (arith, left, no_more, within))))
 
--- a row that is refused is one of the first
+-- a row that is rejected is one of the first
 pub refused_there : (rows rest : List Row) (row : Row) (n count : ℕ) (error : CheckpointError) → drop n rows ≡ row ∷ rest → n < count → RefusesRows (row ∷ []) error → RefusesRows (take count rows) error
 refused_there rows rest row n count Memory next below refused = tt
 refused_there rows rest row n count SequencesSpent next below refused = refused
@@ -42,12 +42,12 @@ refused_there rows rest row n count TooLong next below refused =
     let at : get_or rows n row ≡ row = sym (get_or-drop n rows 0 row ∙ ap (λ (k : ℕ). get_or rows k row) plain) ∙ first in
     (n, row, omega (arith, cut, there, below), get_or-take count rows n row below ∙ at, subst (λ (r : Row). FitsOp (put_of r) → ⊥) (sym same) refused.4)
 
--- ---- rows that are split behind the first few
+-- ---- rows that are split after the first few
 
 none_behind : (rows : List Row) (n : ℕ) → slice_get rows n ≡ None → length rows ≤ n
 none_behind rows n none = ⊎_elim (λ there. absurd (let both : Some there.0 ≡ None = sym there.2 ∙ none in cc)) (λ past. past.0) (slice_get_cases rows n).1
 
--- no row stands behind them
+-- no row comes after them
 pub splits_none : (rows : List Row) (most n : ℕ) → n ≡ min (length rows) most → slice_get rows n ≡ None → Splits most rows (take n rows) None
 splits_none rows most n is none =
     let past = none_behind rows n none in

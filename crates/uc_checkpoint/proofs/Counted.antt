@@ -1,4 +1,4 @@
--- How many rows a list of writes has at the most.
+-- A bound on the number of rows of a list of writes.
 use Rattle.std.proofs.Common.{ℕ, ◌+◌, ◌≤◌, suc, Bool, true, false, cond, List, [], ◌∷◌, length, Option, Some, None, fold, arith}
 use Rattle.std.specs.List.{filter_map, cons_option}
 use Rattle.std.specs.declared.cmp.Ordering.{Ordering}

@@ -1,4 +1,4 @@
--- A page: the first rows of those that are left, and the key behind them.
+-- A page: the first rows of those that are left, and the key after them.
 use Rattle.std.proofs.Common.{◌≡◌, ℕ, ◌+◌, ◌≤◌, ◌<◌, List, [], ◌∷◌, ◌++◌, length, get_or, take, drop, Option, Some, None, refl, sym, ap, subst, ◌∙◌, arith}
 use Rattle.std.proofs.Math.Seq.{take-append_seam}
 use Rattle.std.proofs.lemmas.List.{take-append-drop, take-take, length-take, length-drop, length-append, take_all, drop_all, drop-drop, get_or-take, get_or-drop}
@@ -22,7 +22,7 @@ left_again all count rows first =
     ∙ (ap (λ (rs : List Row). rs ++ drop (length rows) (drop count all)) (sym first)
     ∙ ap (λ (rs : List Row). rows ++ rs) (drop-drop (length rows) count all))
 
--- where no row stands behind those of a page, they are all that are left
+-- if no row comes after those of a page, they are all that are left
 page_of_all : (all : List Row) (count most : ℕ) (rows : List Row) → count ≤ length all → most ≤ MOST_ROWS → rows ≡ take (most + 1) (drop count all) → length rows ≤ most → IsPage all count most rows None
 page_of_all all count most rows within few is short =
     let rest = drop count all in

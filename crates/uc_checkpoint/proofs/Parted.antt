@@ -21,7 +21,7 @@ use Rattle.uc_checkpoint.specs.HeldCheckpoints.{Parts}
 abbrev Row : Type 0
 Row = List ℕ × List ℕ
 
--- a row whose key is the key, or behind it
+-- a row whose key is the key, or above it
 abbrev IsFrom : List ℕ → Row → Type 0
 IsFrom key row = IsTrue (is_le (bytes_cmp key row.0))
 
@@ -57,7 +57,7 @@ rise_drop zero rows rise = rise
 rise_drop (suc n) [] rise = tt
 rise_drop (suc n) (row ∷ rows) rise = rise_drop n rows rise.1
 
--- a row is among the first ones, or stands behind as many as may be
+-- a row is among the first ones, or as many as are allowed come before it
 shown_first : (limit : ℕ) (rows : List Row) (row : Row) → KeysRise rows → Contains rows row → Contains (take limit rows) row ⊎ ((length (take limit rows) ≡ limit) × All (λ other. bytes_cmp other.0 row.0 ≡ Less) (take limit rows))
 unfolding IsStrictlySortedBy
 shown_first zero rows row rise has = inr (refl, All-nil (λ (other : Row). bytes_cmp other.0 row.0 ≡ Less))

@@ -30,11 +30,11 @@ all_rows m s = rows_of m (writes_of s) (last s) (named_keys (writes_of s) [] Non
 abbrev pub rows_left : Operation → Progress → List (List ℕ × List ℕ)
 rows_left m p = drop p.rows (all_rows m p.seen)
 
--- how many rows a piece has, if so many are left
+-- number of rows of a piece, if enough are left
 abbrev pub piece_size : ℕ → ℕ
 piece_size most = max 1 (min most MOST_ROWS)
 
--- how many rows are laid out behind a piece
+-- number of rows that are encoded after a piece
 abbrev pub rows_behind : Operation → ℕ → Progress → ℕ
 rows_behind m most p = p.rows + min (piece_size most) (length (rows_left m p))
 
@@ -49,7 +49,7 @@ puts_of rows = map put_of rows
 abbrev pub writes_that_put : List (List ℕ × List ℕ) → List Write
 writes_that_put rows = numbered 1 (puts_of rows)
 
--- The bytes are what a log of `len` bytes gets for the next rows, as a batch whose sequences go on.
+-- The bytes are what a log of `len` bytes gets for the next rows, as a batch with the next sequence numbers.
 pub record IsPiece (m : Operation) (len : ℕ) (bytes : List ℕ) (old new : Progress) : Type 0 where
   pub rows : List (List ℕ × List ℕ)
   pub some : rows ≢ []
@@ -64,7 +64,7 @@ abbrev pub LaysOut : Operation → ℕ → Option (List ℕ) → Progress → Pr
 LaysOut m len (Some bytes) old new = IsPiece m len bytes old new
 LaysOut m len None old new = (rows_left m old ≡ []) × (new ≡ old)
 
--- A piece of so many bytes was laid out in the room, or it doesn't fit, and nothing changed.
+-- A piece of `size` bytes was encoded into the buffer, or it doesn't fit, and nothing changed.
 pub record IsInRoom (m : Operation) (len most size : ℕ) (room room' : List ℕ) (old new : Progress) : Type 0 where
   pub bytes : List ℕ
   pub behind : Progress
@@ -86,7 +86,7 @@ RefusesPiece m p TooLong = Any (λ row. FitsOp (put_of row) → ⊥) (rows_left 
 RefusesPiece m p SequencesSpent = 2 ^ 56 ≤ p.rows + length (rows_left m p)
 RefusesPiece m p Memory = Unit {0}
 
--- A log has puts of the rows that are laid out, and ends clean. It can go on.
+-- A log has puts of the rows that are encoded, and ends clean. More can be appended.
 pub record IsLaidOut (m : Operation) (s : Seen) (log : List ℕ) (p : Progress) : Type 0 where
   pub rows : List (List ℕ × List ℕ)
   pub of_view : p.seen ≡ s

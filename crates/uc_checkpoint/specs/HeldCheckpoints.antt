@@ -26,13 +26,12 @@ pub record IsProgress (m : Operation) {O : Type 0} (i : Inside O) : Type 0 where
   pub within : i.rows ≤ length (all_rows m i.view)
   pub below : i.rows < 2 ^ 56
 
--- The row behind the first `most` was taken off, if there was one: this is its key.
+-- The row after the first `most` was removed, if there was one: this is its key.
 abbrev pub Splits : ℕ → List (List ℕ × List ℕ) → List (List ℕ × List ℕ) → Option (List ℕ) → Type 0
 Splits most all rows (Some key) = (value : List ℕ) × (all ≡ rows ++ (key, value) ∷ []) × (length rows ≡ most)
 Splits most all rows None = (all ≡ rows) × (length rows ≤ most)
 
--- The first `most` rows of those that are left behind `count`, and the key that parts them from the others. There is none only
--- if none is left.
+-- The first `most` rows after `count`, and the key that separates them from the others. There is no key only if no row is left.
 pub record IsPage (all : List (List ℕ × List ℕ)) (count most : ℕ) (rows : List (List ℕ × List ℕ)) (next : Option (List ℕ)) : Type 0 where
   pub few : length rows ≤ MOST_ROWS
   pub many : length rows ≡ min most (length (drop count all))
@@ -47,7 +46,7 @@ RefusesRows rows TooLong = Any (λ row. FitsOp (put_of row) → ⊥) rows
 RefusesRows rows SequencesSpent = ⊥
 RefusesRows rows Memory = Unit {0}
 
--- A piece that is laid out next, and where the checkpoint goes on behind it.
+-- The piece that is encoded next, and the place where the checkpoint continues after it.
 pub record IsNext (m : Operation) (len most : ℕ) (p : Progress) (text : List ℕ) (next : Option (List ℕ)) (rows : ℕ) : Type 0 where
   pub piece : IsPiece m len text p (record p { rows = rows })
   pub many : rows ≡ rows_behind m most p

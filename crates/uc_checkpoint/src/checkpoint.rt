@@ -65,7 +65,7 @@ struct Page {
     next: Option<Bytes>,
 }
 
-/// The bytes that a log gets for the next rows, and where the checkpoint goes on after them.
+/// The bytes that a log gets for the next rows, and where the checkpoint continues after them.
 #[derive(Drop)]
 struct Piece {
     text: Vec<u8>,
@@ -202,7 +202,7 @@ impl<O: Operator> Checkpoint<O> {
         Ok(Some(Piece { text, next, rows }))
     }
 
-    /// Goes on after a piece.
+    /// Continues after a piece.
     fn go_on(&mut self, next: Option<Bytes>, rows: u64)
         requires parts { Parts next rows (all_rows O.meaning self.old.seen) }
         requires within { rows ≤ length (all_rows O.meaning self.old.seen) }
@@ -213,9 +213,9 @@ impl<O: Operator> Checkpoint<O> {
         self.rows = rows;
     }
 
-    /// Lays the next rows out: the bytes that a log of `log_length` bytes gets for them. They are a batch, whose sequences
-    /// go on after the rows before. There are `most` rows and at most 65,536, but one if `most` is 0; fewer only if no more
-    /// are left. It is `None` if no row is left. An `Err` changes nothing.
+    /// Encodes the next rows: returns the bytes that a log of `log_length` bytes gets for them. They are a batch, whose sequence
+    /// numbers follow those of the rows before. There are `most` rows and at most 65,536, but one if `most` is 0; fewer only if no
+    /// more are left. It is `None` if no row is left. An `Err` changes nothing.
     pub fn next(
         &mut self,
         alloc: Global,
@@ -235,8 +235,8 @@ impl<O: Operator> Checkpoint<O> {
         Ok(Some(text))
     }
 
-    /// Lays the next rows out in the room, as [`next`](Checkpoint::next) does, and tells how many bytes the piece has. If
-    /// they don't fit, nothing changes, and no row is laid out. An `Err` changes nothing.
+    /// Encodes the next rows into the buffer, as [`next`](Checkpoint::next) does, and returns the size of the piece. If it doesn't
+    /// fit, nothing changes, and no row is passed over. An `Err` changes nothing.
     pub fn next_into(
         &mut self,
         alloc: Global,

@@ -11,8 +11,8 @@ pub enum CheckpointError {
     /// A row that is left has a key or a value of 2^32 bytes or more, and so no batch puts it.
     #[error("a text has 2^32 bytes or more")]
     TooLong,
-    /// Too few sequences are left: the greatest is 2^56 - 1. It isn't told of a view of a store that took each of its
-    /// writes.
+    /// Too few sequence numbers are left: the greatest is 2^56 - 1. It can't occur for a view of a store that took each of its
+    /// writes itself.
     #[error("too few sequences are left")]
     SequencesSpent,
     /// An allocation failed.

@@ -31,8 +31,7 @@ pub fn pieces_are_read_back<O: Operator>()
     gathered_batch_is_read();
 }
 
-/// A piece that is in the room goes on after a log of the rows before it. So the pieces that were laid out in rooms are read
-/// back too.
+/// A piece that is in the buffer continues a log of the rows before it. So pieces that were encoded into buffers are read back too.
 pub fn pieces_in_rooms_are_read_back<O: Operator>()
     ensures { (s : Seen) (log room room' : List ℕ) (most size : ℕ) (old new : Progress) → IsLaidOut O.meaning s log old →
         LaysInto O.meaning (length log) most (Some size) room room' old new → size ≤ length room →

@@ -1,10 +1,11 @@
-//! Checkpoints: what a store held at a moment, as a write-ahead log that puts its rows.
+//! Checkpoints: a store's contents at one point in time, as a write-ahead log that puts its rows.
 //!
-//! A [`Checkpoint`] lays the rows of a view out, piece by piece. Its pieces, one after the other, are a log: a store that opens
-//! from it has the view's rows at their last sequences, numbered from 1, and goes on with later batches. So a program cuts its
+//! A [`Checkpoint`] encodes the rows of a view, piece by piece. Its pieces, one after the other, are a log: a store that opens from
+//! it has the view's rows at their last sequence numbers, numbered from 1, and takes later batches. So a program can truncate its
 //! log by a checkpoint. Read `specs/Checkpoints.antt` first, then `checkpoint.rt`.
 //!
-//! By the laws of `laws.rt` the log is read back as puts of exactly those rows, which are at most as many as the last sequence.
+//! By the laws of `laws.rt` the log is read back as puts of exactly those rows, which are at most as many as the last sequence
+//! number.
 //!
 //! An `Err` of `Memory` comes only if an allocation fails.
 //!

@@ -77,7 +77,7 @@ unchanged : (count slot : ℕ) (s : Now) (id : ℕ) (me : Sitting) → Rule coun
 unchanged count slot s id me rule at below =
     moves count s.words s.views rule id slot (get_or s.words slot 0) me.0 me.0 at below (let c = rule.counted slot below in let o = rule.once slot in omega arith) refl refl (λ k ne. refl)
 
--- where 0 is found, the slot goes behind the list
+-- if 0 is found, the slot is appended to the list
 won : (count slot : ℕ) (s : Now) (id : ℕ) (me : Sitting) → Rule count s → get_elem? s.views id ≡ some me.0 → slot < count → get_or s.words slot 0 ≡ 0
     → Rule count (stepped s slot 1 id me.1 (claimant me.0.whole (me.0.slots ++ slot ∷ [])) keeps)
 won count slot s id me rule at below free =
@@ -198,7 +198,7 @@ begins count words long zeros = record {
   alone = λ id v at whole. refl;
 }
 
--- What a closed table's words say of the lists at the end, and where the seat is whole, that no slot is taken
+-- The words of a closed table describe the lists at the end; if the seat is whole, no slot is taken
 pub ends : (count id : ℕ) (v : Claimant) (whole : Bool) (words : List ℕ) (homes : List (Unit {0})) (flags : List Bool) → Final (Seen (Rule count) id v) words homes → v.whole ≡ whole → v.slots ≡ []
     → ((slot : ℕ) → get_or flags slot false ≡ ltb 0 (get_or words slot 0)) → ShowsTaken count whole flags
 ends count id v whole words homes flags last is empty says = record {

@@ -1,4 +1,4 @@
--- How often a slot stands in a list, and what giving slots back leaves.
+-- The number of times that a slot is in a list, and the list after slots are given back.
 use Rattle.std.proofs.Common.{◌≡◌, ℕ, zero, suc, ◌+◌, ◌<◌, ◌≤◌, Bool, true, false, not, cond, eqb, ltb, ◌&&◌, ◌||◌, List, [], ◌∷◌, ◌++◌, length, get_or, take, drop, sym, refl, ap, ◌∙◌, subst, ⊎_elim, nat_eq, arith, eq-eqb, ne_eqb, zero-add, append-nil}
 use Rattle.std.specs.Prelude.{Contains, All}
 use Rattle.std.specs.List.{filter, list_any, IsDistinct, AllByRecursion}
@@ -141,7 +141,7 @@ without_push gone slot xs = filter-filter _ _ _ (λ x. both gone x) xs
         one_more true e = refl
         one_more false e = e
 
--- slots that stand behind a list in which they are not
+-- slots after a list in which they are not
 pub without_behind : (xs ys : List ℕ) → ((k : ℕ) → 0 < times k ys → times k xs ≡ 0) → without ys (xs ++ ys) ≡ xs
 without_behind xs ys apart =
     filter-append (λ s. not (list_any (λ x. eqb x s) ys)) xs ys

@@ -1,4 +1,4 @@
--- The rule of the claim words, and what a step tells the seat that makes it.
+-- The rule of the claim words, and the effect of a step on the seat that makes it.
 use Rattle.std.specs.Prelude.{◌≡◌, ℕ, ◌<◌, ◌≤◌, ◌==◌, ◌/◌, ◌%◌, nat_lt, Bool, true, false, List, [], ◌∷◌, ◌++◌, length, slice_index, slice_index_or, count_by, Contains, MatchBool}
 use Rattle.std.specs.List.{sum_by}
 use Rattle.std.specs.Int.{bit_at}
@@ -60,14 +60,14 @@ Looked at before found after = (after.1 ≡ before.1) × (after.0 ≡ before.0) 
 abbrev pub slot_bit : List ℕ → ℕ → ℕ
 slot_bit groups slot = bit_at (slice_index groups (slot / 64)) (slot % 64)
 
--- What a seat remembers at run time: a bit for each slot, which is how often the slot is in its list. The list has no
--- slot that the table doesn't have
+-- A seat's record at run time: a bit for each slot, which is the number of times that the slot is in its list. The list has only
+-- slots of the table
 pub record Recorded (count : ℕ) (groups : List ℕ) (slots : List ℕ) : Type 0 where
   pub bits : (slot : ℕ) → slot_bit groups slot ≡ times slot slots
   pub inside : (slot : ℕ) → count ≤ slot → times slot slots ≡ 0
 
--- What the flags of a closed table show: for some final lists of the seats that keep the rule, which slots are still in
--- one of them. One of the seats is that which closed it
+-- The meaning of the flags of a closed table: for some final lists of the seats that keep the rule, the slots that are still in one
+-- of them. One of the seats closed it
 pub record ShowsTaken (count : ℕ) (whole : Bool) (flags : List Bool) : Type 0 where
   pub words : List ℕ
   pub seats : List Claimant

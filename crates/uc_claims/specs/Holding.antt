@@ -1,4 +1,4 @@
--- What a contract sees of a table and of its tokens.
+-- A table and its tokens, as a contract sees them.
 use Rattle.std.specs.Prelude.{◌≡◌, ℕ, ◌<◌, ◌≤◌, ◌==◌, Bool, false, not, ⊤, List, [], ◌∷◌, ◌++◌, All, Contains}
 use Rattle.std.specs.List.{filter, list_any}
 use Rattle.atomic_table.specs.Seated.{TableId}
@@ -36,7 +36,7 @@ NoneHeld asked held = All (λ slot. ¬ Contains held slot) asked
 abbrev pub IsFirstHeld : List ℕ → List ℕ → ℕ → Type 0
 IsFirstHeld asked held slot = (before : List ℕ) × (rest : List ℕ) × (asked ≡ before ++ slot ∷ rest) × NoneHeld before held × Contains held slot
 
--- a table of words alone; its rule was told their number
+-- a table of words alone; the parameter of its rule is their number
 pub record IsLaid (key : ℕ) (table : TableId) : Type 0 where
   pub keyed : key ≡ table.words
   pub some : 0 < table.words

@@ -25,7 +25,7 @@ pub struct Claimant {
     pub slots: LinkedList<usize>,
 }
 
-/// The rule over the words and what all seats know. It is told the number of slots.
+/// The rule over the words and the seats' states. Its parameter is the number of slots.
 pub struct ClaimRule;
 
 impl TableRule<(), Claimant, usize> for ClaimRule {

@@ -70,7 +70,7 @@ impl ClaimTable {
         (seat, Seat { token })
     }
 
-    /// Joins two seats into one. It is not whole, since slots may have been dropped in between.
+    /// Joins two seats into one. It is not whole, since slots may have been dropped since.
     pub fn join(&self, mut seat: Seat, other: Seat) -> Seat
         requires seat { seat.table ≡ self.now.table }
         requires other { other.table ≡ self.now.table }
@@ -85,11 +85,11 @@ impl ClaimTable {
 
     /// Takes the slots in the order of the list: all of them or none.
     ///
-    /// At the first slot that is already taken it gives the earlier ones back, and returns that slot with the seat as
-    /// it was. A whole seat is never refused.
+    /// At the first slot that is already taken it gives the earlier ones back, and returns that slot with the seat as it was. A
+    /// whole seat never fails.
     ///
-    /// For a refusal the contract says only that the slot was asked for, since it knows nothing of other seats' lists.
-    /// The tests of two seats and of four threads check that the slot is taken.
+    /// On failure the contract says only that the slot was requested, since it knows nothing of other seats' lists. The tests of
+    /// two seats and of four threads check that the slot is taken.
     pub fn take(&self, seat: Seat, slots: &[usize]) -> Result<HeldSlots, (Seat, Busy)>
         requires table { seat.table ≡ self.now.table }
         requires below { All (λ slot. slot < self.now.count) slots.now }
@@ -108,9 +108,8 @@ impl ClaimTable {
 
     /// Takes further slots in the same way, after those that are held.
     ///
-    /// At the first slot that is already taken, by whomever, it gives the earlier ones back, and returns that slot with
-    /// what was held before. A whole seat is refused exactly if it holds a slot that it asks for; the first such slot
-    /// is named.
+    /// At the first slot that is already taken, by any seat, it gives the earlier ones back, and returns that slot with what was
+    /// held before. A whole seat fails exactly if it holds one of the requested slots; the first such slot is returned.
     pub fn take_more(
         &self,
         mut held: HeldSlots,
@@ -130,7 +129,7 @@ impl ClaimTable {
         }
     }
 
-    /// [`take_more`](ClaimTable::take_more) in place, for an owner that can't move out what it holds. A refusal changes
+    /// [`take_more`](ClaimTable::take_more) in place, for an owner that can't move out what it holds. On failure it changes
     /// nothing.
     pub fn take_more_in_place(&self, held: &mut HeldSlots, slots: &[usize]) -> Result<(), Busy>
         requires table { held.old.table ≡ self.now.table }
@@ -184,10 +183,10 @@ impl ClaimTable {
         held.into_seat()
     }
 
-    /// Whether the slot is taken, at one moment during the call. The seat stays as it was.
+    /// Whether the slot is taken, at some point during the call. The seat is unchanged.
     ///
-    /// For a whole seat the answer is `false`: there is no other seat, and it holds no slot itself. For another seat
-    /// the answer may be out of date when it arrives.
+    /// For a whole seat the answer is `false`: there is no other seat, and it holds no slot itself. For another seat the answer may
+    /// be out of date when it arrives.
     pub fn busy(&self, seat: &mut Seat, slot: usize) -> bool
         requires table { seat.old.table ≡ self.now.table }
         requires below { slot < self.now.count }

@@ -42,8 +42,7 @@ const COMPACTORS: &str = "0";
 
 const LATER: &str = "0";
 
-/// Texts that the command line shows and that are made as the program runs, so that what they say stands
-/// in one place.
+/// Strings of the command line's help that are made at run time, so that each fact is written in one place.
 #[derive(Drop)]
 pub struct Shown {
     operators: [&'static str; OPERATORS],

@@ -90,7 +90,7 @@ same_cuts fs filled =
 
 -- ---- no cut lies within a piece
 
--- it is at or before the begin of a piece, or at or behind its end
+-- it is at or before the begin of a piece, or at or after its end
 abbrev Apart : Piece → List ℕ → Type 0
 Apart p x = (is_le (bytes_cmp x p.0) ≡ true) ⊎ (is_le (bytes_cmp p.1 x) ≡ true)
 

@@ -1,4 +1,4 @@
--- What a stripe's writes do to a key, in the words of the runs' points and fragments.
+-- The effect of a stripe's writes on a key, in terms of the runs' points and fragments.
 use Rattle.std.proofs.Common.{◌≡◌, ℕ, ◌<◌, ◌≤◌, true, false, cond, leb, ltb, List, [], ◌∷◌, ◌++◌, filter, refl, sym, ap, ◌∙◌, arith}
 use Rattle.std.specs.Prelude.{◌&&◌, None}
 use Rattle.std.specs.List.{AllByRecursion, flat_map}
@@ -103,7 +103,7 @@ module _ (P : ℕ → Type 0) where
   pub all_seqs : (key : List ℕ) (runs : List Contents) → AreRuns runs → AllByRecursion HoldsWithin runs → AllByRecursion P (seqs_of key runs)
   all_seqs key runs are holds = all-flat_map (λ (f : Fragment). f.seqs) P (filter (λ f. covers f key) (flat_map (λ (r : Contents). r.fragments) runs)) (all-filter (λ f. AllByRecursion P f.seqs) (λ f. covers f key) (flat_map (λ (r : Contents). r.fragments) runs) (all_fragments runs are holds))
 
--- the runs behind a newer one have lower sequences
+-- the runs after a newer one have lower sequence numbers
 pub below_newer : (low : ℕ) (runs : List Contents) → AllByRecursion (λ r. r.high < low) runs → AllByRecursion (HoldsWithin (λ n. n < low)) runs
 below_newer low runs h = all-map (λ (r : Contents). r.high < low) (HoldsWithin (λ n. n < low)) (λ r lt n within. let le : n ≤ r.high = within.1 in omega (arith, lt, le)) runs h
 

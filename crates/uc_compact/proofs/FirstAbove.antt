@@ -37,7 +37,7 @@ module _ (key : List ℕ) where
         let l : place - 1 < length fs = omega (arith, some, within) in
         partitioned key fs order k (place - 1) d (omega (arith, high)) l (at_read fs (λ g. ends_by key g ≡ true) (place - 1) f l is ends d)
 
-    -- and where one ends above it, all behind it do
+    -- and if one ends above it, all after it do
     pub behind_place : (place : ℕ) (f : Fragment) → place < length fs → f ≡ get_or fs place f → ends_by key f ≡ false → EndAbove key fs place
     behind_place place f within is above k d low high = by (ends_by key (get_or fs k d)) refl
       where

@@ -52,7 +52,7 @@ module _ (key : List ℕ) (runs : List Contents) (r : Contents) (lists : List (L
     each = over.each;
   }
 
--- as they are lent
+-- as they are borrowed
 pub lent_over : {X : Type 0} (f : X → List ℕ) (key : List ℕ) (runs : List Contents) (items lent : List X) → lent ≡ items → AreOver key runs (map f items) → AreOver key runs (map f lent)
 lent_over {X} f key runs items lent e over = subst (λ (xs : List X). AreOver key runs (map f xs)) (sym e) over
 

@@ -72,7 +72,7 @@ module _ (m : Operation) (keeping : Keeping) (cut : List Fragment) (points : Lis
         ∙ lasting_groups m keeping rise cut (groups_of points) (each_group each)
         ∙ groups_by_key
 
--- the runs that are lent have the points of the inputs
+-- the borrowed runs have the points of the inputs
 pub lent_points : {X : Type 0} (f : X → List Entry) (xs lent : List X) (runs : List Contents) → map f xs ≡ points_of_each runs → lent ≡ xs → flat_map f lent ≡ points_of runs
 lent_points f xs lent runs e same = ap (flat_map f) same ∙ joined f xs runs e
 

@@ -1,4 +1,4 @@
--- What points do in turn, the newest first.
+-- The effect of points in turn, the newest first.
 use Rattle.std.proofs.Common.{◌≡◌, ℕ, zero, suc, ◌+◌, ◌-◌, ◌<◌, ◌≤◌, true, List, [], ◌∷◌, ◌++◌, length, get_or, take, drop, Some, None, refl, sym, ap, ◌∙◌, arith}
 use Rattle.std.specs.Prelude.{filter, nat_lt}
 use Rattle.std.specs.List.{slice_get, HoldsAt}
@@ -45,7 +45,7 @@ module _ (m : Operation) where
       ∙ ap (points_effect m before) (sym split)
       ∙ left
 
-  -- what the newer points do goes behind what the older ones do
+  -- the effect of the newer points is composed after that of the older ones
   pub halves_do : IsLawful m → (before older newer both : Effect) (n : ℕ) (ps : List Entry) → older ≡ points_effect m before (drop n ps) → newer ≡ points_effect m Keep (take n ps) → both ≡ composed m older newer → both ≡ points_effect m before ps
   halves_do laws before older newer both n ps old new made =
       made

@@ -1,4 +1,4 @@
--- What a stripe finds of a key in what a compaction keeps.
+-- The effect on a key that a stripe finds in a compaction's output.
 use Rattle.std.proofs.Common.{◌≡◌, ℕ, ◌<◌, Bool, true, false, cond, ltb, List, [], ◌∷◌, ◌++◌, length, map, fold, filter, refl, sym, ap, ◌∙◌, subst, arith}
 use Rattle.std.specs.Prelude.{◌&&◌, Option, Some, None, option_map, filter_map}
 use Rattle.std.specs.List.{AllByRecursion, flat_map, cons_option}

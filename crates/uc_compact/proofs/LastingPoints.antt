@@ -82,7 +82,7 @@ have_newer above (k ∷ ks) rise =
     (all-both (λ s. k ≤ s.above) (HasNewer k ks) (stripes_above k ks) (all_from k ks (rise_on k ks rise) (later_keeps k ks rise)) (have_newer k ks (rise_on k ks rise))))
     (newer_last above k ks rise, tt)
 
--- ---- what is left behind a point
+-- ---- the points that are left after a point
 
 module _ (keeps : List ℕ) where
   abbrev behind : Entry → List Entry → List Entry
@@ -158,7 +158,7 @@ module _ (keeps : List ℕ) where
 abbrev Below : Entry → List Entry → Type 0
 Below q ps = AllByRecursion (λ p. p.seq < q.seq) ps
 
--- each point is above those behind it
+-- each point is above those after it
 abbrev Fall : List Entry → Type 0
 Fall [] = ⊤
 Fall (p ∷ ps) = Below p ps × Fall ps

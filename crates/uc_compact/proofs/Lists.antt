@@ -1,4 +1,4 @@
--- What holds of all of a list, and lists of lists.
+-- Facts of all elements of a list, and lists of lists.
 use Rattle.std.proofs.Common.{◌≡◌, ℕ, ◌≤◌, List, [], ◌∷◌, ◌++◌, length, map, take, take_all, ap, ◌∙◌}
 use Rattle.std.specs.List.{AllByRecursion}
 pub use Rattle.uc_compact.proofs.NestedLists.{all-append, all-mapped}

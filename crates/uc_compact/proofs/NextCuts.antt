@@ -158,7 +158,7 @@ all_passed : {X : Type 0} (test : X → Bool) (xs : List X) → AllByRecursion (
 all_passed test [] h = refl
 all_passed {X} test (x ∷ xs) h = ap (λ b. cond b (x ∷ filter test xs) (filter test xs)) h.0 ∙ ap (λ (ys : List X). x ∷ ys) (all_passed test xs h.1)
 
--- the cuts behind a cut are above it, and above what it is above of
+-- the cuts after a cut are above it, and above all that it is above of
 behind_are_above : (c : List ℕ) (cuts : Keys) → AllByRecursion (λ x. bytes_cmp c x ≡ Less) cuts → above c cuts ≡ cuts
 behind_are_above c cuts h = all_passed (λ x. is_above c x) cuts (all-map (λ x. bytes_cmp c x ≡ Less) (λ x. is_above c x ≡ true) (λ x e. ap is_lt e) cuts h)
 
@@ -220,7 +220,7 @@ module _ (key : List ℕ) (ends : Keys) where
 
 -- ---- the least end above a key, of fragments in order
 
--- at or before is not behind
+-- at or before means not after
 behind_by : (x y : List ℕ) → is_lt (bytes_cmp y x) ≡ not (is_le (bytes_cmp x y))
 behind_by x y = ap is_lt (nat_list_cmp_total.antisymm y x) ∙ by (bytes_cmp x y)
   where

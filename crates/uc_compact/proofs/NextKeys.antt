@@ -1,4 +1,4 @@
--- The next keys beside the points that are ahead.
+-- The next keys of the points that are ahead.
 use Rattle.std.proofs.Common.{◌≡◌, ◌≢◌, ℕ, zero, suc, ◌+◌, ◌-◌, ◌<◌, ◌≤◌, inl, inr, Bool, true, false, cond, List, [], ◌∷◌, ◌++◌, length, get_or, set, map, take, drop, Option, Some, None, refl, sym, ap, ◌∙◌, subst, arith}
 use Rattle.std.specs.List.{AllByRecursion, AllWithin, flat_map}
 use Rattle.std.specs.Cmp.Lexicographic.{bytes_decides}
@@ -46,7 +46,7 @@ pub least_of_firsts : (lists : List (List Entry)) (least : Option (List ℕ)) �
 least_of_firsts lists None h = none_left lists h
 least_of_firsts lists (Some key) h = (all_from key lists h.0, not_all_others key lists h.1)
 
--- ---- a cursor moves, and its next key beside it
+-- ---- a cursor moves, and its next key with it
 
 pub moved : (keys : List (Option (List ℕ))) (lists : List (List Entry)) (i : ℕ) (ps : List Entry) (own : Option (List ℕ)) → keys ≡ map first_key lists → own ≡ first_key ps → set keys i own ≡ map first_key (set lists i ps)
 moved keys lists i ps own beside is =

@@ -1,4 +1,4 @@
--- What is kept of what is left, from the newest stripe that has something of it on.
+-- The kept part of the points that are left, from the newest stripe on that has any of them.
 use Rattle.std.proofs.Common.{◌≡◌, ℕ, ◌<◌, ◌≤◌, Bool, true, false, cond, leb, ltb, List, [], ◌∷◌, ◌++◌, length, map, take, drop, filter, ◌-◌, refl, sym, ap, ◌∙◌, subst, arith}
 use Rattle.std.specs.Prelude.{Option, Some, None, option_map, filter_map}
 use Rattle.std.specs.List.{AllByRecursion, cons_option, slice_get}

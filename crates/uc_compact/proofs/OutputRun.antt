@@ -1,4 +1,4 @@
--- What a compaction makes is a run.
+-- The output of a compaction is a run.
 use Rattle.std.proofs.Common.{◌≡◌, ◌≢◌, ℕ, zero, suc, ◌<◌, ◌≤◌, Bool, true, false, cond, ltb, List, [], ◌∷◌, ◌++◌, Contains, length, map, fold, filter, refl, sym, ap, ◌∙◌, subst, arith}
 use Rattle.std.specs.Prelude.{◌&&◌, ◌^◌, Option, Some, None, filter_map}
 use Rattle.std.specs.List.{AllByRecursion, flat_map, cons_option}

@@ -11,7 +11,7 @@ use Rattle.std.proofs.lemmas.List.Elements.{filter-append}
 use Rattle.uc_compact.specs.Stripes.{Stripe, is_in, stripes_above, stripes}
 use Rattle.uc_compact.proofs.NestedLists.{all-append, all-map}
 
--- each stripe is above those behind it
+-- each stripe is above those after it
 abbrev pub StripesFall : List Stripe → Type 0
 StripesFall [] = Unit {0}
 StripesFall (s ∷ ss) = AllByRecursion (λ t. t.upto ≤ s.above) ss × StripesFall ss

@@ -1,4 +1,4 @@
--- What is kept of points is what is kept of those below a key, and then of those from it on.
+-- The kept part of points is that of the points below a key, followed by that of the points from it on.
 use Rattle.std.proofs.Common.{◌≡◌, ℕ, ◌-◌, ◌≤◌, Bool, true, false, cond, List, [], ◌∷◌, ◌++◌, length, map, take_all, drop, filter, refl, sym, ap, ◌∙◌, subst, arith}
 use Rattle.std.specs.Prelude.{not}
 use Rattle.std.specs.List.{AllByRecursion, flat_map}
@@ -196,13 +196,13 @@ is_cut test ps i le point = record {
   behind = λ k d l m. absurd (omega (arith, l, m, le));
 }
 
--- those that pass stand first, so the others stand behind
+-- those that pass come first, so the others come after them
 pub filter-back : (test : Entry → Bool) (ps : List Entry) (i : ℕ) → i ≤ length ps → IsPartitionPoint (λ p. test p ≡ true) (λ p. test p ≡ false) ps i → drop i ps ≡ filter (λ p. not (test p)) ps
 filter-back test ps i le point =
     let long : length (drop i ps) ≡ length ps - i = length-drop i ps in
     sym (filter-cut (λ p. not (test p)) ps i (length ps - i) (is_cut test ps i le point) ∙ take_all (length ps - i) (drop i ps) (omega (arith, long)))
 
--- ---- runs' points on both sides of a key, as they are lent
+-- ---- runs' points on both sides of a key, as they are borrowed
 
 module _ {X : Type 0} (f : X → List Entry) (cut : List ℕ) (runs : List X) where
   module _ (part lent : List X) (same : lent ≡ part) where

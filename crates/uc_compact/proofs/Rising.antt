@@ -29,7 +29,7 @@ module _ {X : Type 0} (key : X → List ℕ) (k : X) where
       subst (IsStrictlySortedBy bytes_cmp) (sym (map-append key xs (k ∷ [])))
       (sorted-append bytes_cmp (map key xs) (key k ∷ []) rise one (all_below xs rise last))
 
-  -- a key behind none, or behind a last one below it, as a search of the last one says it
+  -- a key after none, or after a last one below it, as a search of the last one finds it
   pub rises_first : (seen xs : List X) → seen ≡ xs → length seen ≤ 0 → IsStrictlySortedBy bytes_cmp (map key xs) → IsStrictlySortedBy bytes_cmp (map key (xs ++ k ∷ []))
   rises_first seen xs same none rise = rises_on xs rise (λ n d e. absurd (let long : length seen ≡ length xs = ap length same in omega (arith, e, long, none)))
 

@@ -1,4 +1,4 @@
--- A loop that changes each element of a list, and gathers what it takes from each.
+-- A loop that changes each element of a list, and collects what it takes from each.
 use Rattle.std.proofs.Common.{◌≡◌, ℕ, ◌+◌, ◌<◌, List, [], ◌∷◌, ◌++◌, length, get_or, map, take, drop, sym, ap, ◌∙◌, arith}
 use Rattle.std.specs.List.{flat_map}
 use Rattle.std.proofs.lemmas.Grind.{flat_map-append}

@@ -1,4 +1,4 @@
--- What is made for each stripe, from one stripe with something on.
+-- The output for each stripe, from one stripe on that has any.
 use Rattle.std.proofs.Common.{◌≡◌, ℕ, ◌<◌, ◌≤◌, Bool, true, false, cond, leb, ltb, List, [], ◌∷◌, ◌++◌, length, filter, refl, sym, ap, ◌∙◌, subst, arith}
 use Rattle.std.specs.Prelude.{◌&&◌, Option, Some, None, filter_map}
 use Rattle.std.specs.List.{AllByRecursion, cons_option}

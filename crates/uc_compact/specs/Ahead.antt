@@ -1,4 +1,4 @@
--- What is ahead of a merge.
+-- The groups ahead of a merge.
 use Rattle.std.specs.Prelude.{◌≡◌, List, map}
 use Rattle.std.specs.List.{AllByRecursion, flat_map}
 use Rattle.std.specs.List.Sorted.{IsStrictlySortedBy}
@@ -13,7 +13,7 @@ use Rattle.uc_compact.specs.declared.groups.Groups.TheInside.{Inside}
 abbrev pub ahead : Inside → List Group
 ahead g = map (lasting_group g.keeps.now) (groups_of (flat_map (λ points. points) g.cursors.items))
 
--- the keeps rise, each cursor's points are in order, and beside the cursors are their next keys
+-- the keeps rise, each cursor's points are in order, and the next keys are those of the cursors
 pub record AreHeld (g : Inside) : Type 0 where
   pub rise : IsStrictlySortedBy nat_cmp g.keeps.now
   pub sorted : AllByRecursion (IsStrictlySortedBy entry_cmp) g.cursors.items

@@ -1,4 +1,4 @@
--- What is kept of points, key by key.
+-- The points that are kept, key by key.
 use Rattle.std.specs.Prelude.{ℕ, List}
 use Rattle.std.specs.List.{flat_map}
 use Rattle.uc_oper.specs.Operation.{Operation}

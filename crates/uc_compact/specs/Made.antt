@@ -1,4 +1,4 @@
--- What a compaction was asked for, and what it made.
+-- A requested compaction, and its result.
 use Rattle.std.specs.Prelude.{◌≡◌, map}
 use Rattle.std.specs.Arc.{arc_value}
 use Rattle.uc_oper.specs.Operation.{Operation}

@@ -1,4 +1,4 @@
--- How much a run has of each key, fragment and stripe.
+-- Number of entries of a run for each key, fragment and stripe.
 use Rattle.std.specs.Prelude.{◌≡◌, ℕ, ◌≤◌, true, ◌&&◌, List, [], filter, length}
 use Rattle.std.specs.List.{AllByRecursion}
 use Rattle.uc_bytes.specs.Bytes.{same_bytes}

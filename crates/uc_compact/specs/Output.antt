@@ -1,5 +1,5 @@
--- What a compaction makes of its inputs, key by key and stripe by stripe (RocksDB wiki, "Universal Compaction",
--- "Merge Operator", "DeleteRange").
+-- The output of a compaction, key by key and stripe by stripe (RocksDB wiki, "Universal Compaction", "Merge Operator",
+-- "DeleteRange").
 use Rattle.std.specs.Prelude.{ℕ, max, Bool, true, ◌&&◌, List, [], Option, Some, None, option_map, length, map, fold, filter, filter_map, nat_lt, if◌then◌else◌}
 use Rattle.std.specs.List.{flat_map}
 use Rattle.std.specs.BTreeSet.{insert_key}
@@ -34,15 +34,15 @@ newest_range c key s = greatest (map (λ r. r.seq) (filter (λ r. is_in s r.seq 
 abbrev pub effect_in : Operation → Compaction → List ℕ → Stripe → Effect
 effect_in m c key s = effect_within m (writes_of c.inputs) key s.above s.upto
 
--- What a point says that replaces an effect. No value needs no point if something else clears the key.
+-- The point that replaces an effect. No value needs no point if something else clears the key.
 abbrev pub what_of : Effect → Bool → Option What
 what_of Keep cleared = None
 what_of (Fold operand) cleared = Some (Merge operand)
 what_of (Set (Some value)) cleared = Some (Put value)
 what_of (Set None) cleared = if cleared then None else Some Delete
 
--- What replaces a stripe's effect. A range deletion above the newest point clears the key by itself. In the bottom
--- stripe, below which there is nothing, the effect becomes the value that it makes of none.
+-- The point that replaces a stripe's effect. A range deletion above the newest point clears the key alone. In the bottom stripe,
+-- below which there is nothing, the effect becomes the value that it makes of none.
 abbrev pub what_kept : Operation → Bool → Effect → Bool → Option What
 what_kept m bottom effect cleared = if bottom then what_of (Set (applied m effect None)) true else what_of effect cleared
 

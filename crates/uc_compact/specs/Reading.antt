@@ -1,4 +1,4 @@
--- What is read of a run that replaces a compaction's inputs.
+-- Reads of the run that replaces a compaction's inputs.
 use Rattle.std.specs.Prelude.{◌≡◌, ◌⊎◌, ℕ, ◌≤◌, true, false, List, Contains, None}
 use Rattle.std.specs.List.{AllByRecursion}
 use Rattle.uc_oper.specs.Operation.{Operation}

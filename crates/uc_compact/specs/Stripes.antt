@@ -28,8 +28,8 @@ stripe_from above (keep ∷ keeps) seq = if nat_lt keep seq then stripe_from kee
 abbrev pub stripe_of : List ℕ → ℕ → Stripe
 stripe_of keeps seq = stripe_from 0 keeps seq
 
--- What a compaction keeps: the sequences of reads, which rise, and a sequence of the bottom stripe if nothing lies
--- below its inputs.
+-- The snapshots of a compaction: the sequence numbers of reads, in rising order, and a sequence number of the bottom stripe if
+-- nothing is below its inputs.
 pub record Keeping : Type 0 where
   pub keeps : List ℕ
   pub bottom : Option ℕ

@@ -71,8 +71,8 @@ impl<'a> Cursor<'a> {
         }
     }
 
-    /// Pushes the next points as long as they are of the key, but for those that one before them hides, and moves past them.
-    /// After an `Err` it may have moved past some.
+    /// Appends the next points as long as they are of the key, except those that one before them hides, and moves past them. After
+    /// an `Err` it may have moved past some.
     pub(crate) fn take_named(
         &mut self,
         keeps: &[u64],

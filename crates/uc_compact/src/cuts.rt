@@ -7,7 +7,7 @@ use std::alloc::{AllocError, Global};
 use std::sync::Arc;
 use uc_run::Run;
 
-/// About how many fences are drawn of all runs together.
+/// About how many fences are sampled from all runs together.
 const SAMPLE: u64 = 256;
 
 /// The number of blocks that the points of all runs fill.
@@ -36,8 +36,8 @@ fn push_fences<'a>(
     Ok(())
 }
 
-/// Fences of the runs, in order of key: every so many of those of all runs after each other. So of each run as many are
-/// drawn as it has of all points.
+/// A sample of the runs' fences, in order of key: every `step`-th of the concatenated fences. So each run contributes in proportion
+/// to its number of points.
 fn sample_of<'a>(alloc: Global, inputs: &'a [Arc<Run>]) -> Result<Vec<&'a [u8]>, AllocError> {
     let step = (blocks_in(inputs) / SAMPLE).max(1);
     let mut sample = Vec::new(alloc);

@@ -1,4 +1,4 @@
-//! [`Folder`]: who folds what a key's points do.
+//! [`Folder`]: folds the effects of a key's points.
 ghost use Rattle.std.specs.Prelude.{◌≡◌, ⊤, map, IfOk};
 ghost use Rattle.uc_run_entry.specs.Lookup as lookup;
 

@@ -68,11 +68,11 @@ fn kept_along(
     Ok((cuts, kept))
 }
 
-/// The fragments that have sequences which are kept: those of all range deletions of the runs, each with the sequences
-/// that are kept of it.
+/// The fragments that have kept sequence numbers: those of all range deletions of the runs, each with the sequence numbers that are
+/// kept of it.
 ///
-/// It takes a few steps of each run for each piece between neighbouring cut points, however many sequences the fragments
-/// have, and no memory but for what is kept and a list for each run.
+/// It takes a few steps of each run for each piece between neighbouring cut points, however many sequence numbers the fragments
+/// have, and no memory except for the result and a list for each run.
 pub(crate) fn fragments_kept(
     alloc: Global,
     inputs: &[Arc<Run>],

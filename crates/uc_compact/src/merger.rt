@@ -1,4 +1,4 @@
-//! [`Merger`]: who makes one run of several.
+//! [`Merger`]: merges several runs into one.
 ghost use Rattle.std.specs.Prelude.{◌≡◌, ⊤, map, IfOk};
 ghost use Rattle.std.specs.Arc.{arc_value};
 ghost use Rattle.uc_compact.specs.Inputs.{Stand};

@@ -1,4 +1,4 @@
--- What an engine holds, in numbers.
+-- The contents of an engine, in numbers.
 use Rattle.std.specs.Prelude.{ℕ, List, length, fold}
 use Rattle.uc_run_entry.specs.Size.{size_of}
 use Rattle.uc_fold.specs.declared.totals.Totals.{Totals}
@@ -18,7 +18,7 @@ totals_of p = record { points = length p.run.points; fragments = length p.run.fr
 abbrev pub total : List PlacedRun → Totals
 total runs = fold (λ sum p. added sum (totals_of p)) nothing runs
 
--- the report of a version behind which so many writes are gathered, up to a last sequence
+-- the report of a version with `gathered` writes in memtables, up to a last sequence number
 abbrev pub report_with : Stored → ℕ → ℕ → EngineReport
 report_with v gathered last = record { runs = length v.runs; keeps = length v.keeps; total = total v.runs; gathered = gathered; last = last }
 

@@ -1,4 +1,4 @@
--- What an engine holds at a moment.
+-- The contents of an engine at one point in time.
 use Rattle.std.specs.Prelude.{ℕ, List, Option, reverse}
 use Rattle.uc_model.specs.Meaning.{value_of}
 use Rattle.uc_query_read.specs.declared.query.Query.{Query}

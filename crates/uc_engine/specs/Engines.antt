@@ -18,7 +18,7 @@ pub record Engined : Type 0 where
   pub kind : OperatorKind
   pub live : Live
 
--- what an operator means: texts are joined by a comma, and four bytes of a tail are kept
+-- the meaning of each operator: byte strings are joined by a comma, and a tail keeps four bytes
 abbrev pub meaning_of : OperatorKind → Operation
 meaning_of Append = appending 44
 meaning_of Counter = counting

@@ -12,7 +12,7 @@ use std::alloc::Global;
 use uc_live::RoomError;
 
 impl Engine {
-    /// Makes a run of what is gathered, as `LiveStore::flush` does.
+    /// Flushes the memtables, as `LiveStore::flush` does.
     pub fn flush(&mut self, alloc: Global) -> Result<(), RoomError>
         ensures kind { self.new.kind ≡ self.old.kind }
         ensures prepares { Prepares (meaning_of self.old.kind) self.old.live self.new.live [] }
@@ -35,7 +35,7 @@ impl Engine {
         with_each!(AnyStore, &mut self.store, store => store.compact_once(alloc))
     }
 
-    /// Flushes if more than this many writes are gathered and no batch is prepared, as `LiveStore::settle` does.
+    /// Flushes if memtables hold more than this many writes and no batch is prepared, as `LiveStore::settle` does.
     pub fn settle(&mut self, alloc: Global, most: usize)
         ensures kind { self.new.kind ≡ self.old.kind }
         ensures prepares { Prepares (meaning_of self.old.kind) self.old.live self.new.live self.old.live.prepared }

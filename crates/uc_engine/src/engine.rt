@@ -14,11 +14,11 @@ use uc_oper::{Counter, Maximum};
 /// A store of each operator.
 #[derive(Drop)]
 pub(crate) enum AnyStore {
-    /// A store that joins texts.
+    /// A store that joins byte strings.
     Append(LiveStore<Texts>),
     /// A store that adds numbers.
     Counter(LiveStore<Counter>),
-    /// A store that keeps the greater text.
+    /// A store that keeps the greater byte string.
     Maximum(LiveStore<Maximum>),
     /// A store that keeps the last bytes.
     Tail(LiveStore<LastBytes>),
@@ -82,7 +82,7 @@ impl Engine {
         with_each!(AnyStore, &self.store, store => store.last())
     }
 
-    /// The number of gathered writes.
+    /// The number of writes in memtables.
     pub fn gathered(&self) -> usize
         ensures { result ≡ length self.now.live.gathered }
     {

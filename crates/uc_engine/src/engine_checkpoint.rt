@@ -15,11 +15,11 @@ use uc_oper::{Counter, Maximum};
 /// A checkpoint of a store of each operator.
 #[derive(Drop)]
 pub(crate) enum AnyCheckpoint {
-    /// A checkpoint of a store that joins texts.
+    /// A checkpoint of a store that joins byte strings.
     Append(Checkpoint<Texts>),
     /// A checkpoint of a store that adds numbers.
     Counter(Checkpoint<Counter>),
-    /// A checkpoint of a store that keeps the greater text.
+    /// A checkpoint of a store that keeps the greater byte string.
     Maximum(Checkpoint<Maximum>),
     /// A checkpoint of a store that keeps the last bytes.
     Tail(Checkpoint<LastBytes>),
@@ -67,9 +67,8 @@ impl EngineCheckpoint {
         with_each!(AnyCheckpoint, &self.checkpoint, checkpoint => checkpoint.rows())
     }
 
-    /// Lays the next rows out in the room, as `Checkpoint::next_into` does: the bytes that a log of `log_length` bytes gets
-    /// for them. It tells how many bytes these are, or `None` if no row is left. If they don't fit, nothing changes. An `Err`
-    /// changes nothing.
+    /// Encodes the next rows into the buffer, as `Checkpoint::next_into` does: the bytes that a log of `log_length` bytes gets for
+    /// them. Returns their number, or `None` if no row is left. If they don't fit, nothing changes. An `Err` changes nothing.
     pub fn next_into(
         &mut self,
         alloc: Global,

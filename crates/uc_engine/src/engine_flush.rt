@@ -10,8 +10,8 @@ use std::alloc::{AllocError, Global};
 use uc_live::{FlushEnd, FlushJob};
 
 impl Engine {
-    /// Takes the flush of all that is gathered out of the engine as a job, if that is wanted, as
-    /// `LiveStore::start_flush` does. An `Err` changes nothing.
+    /// Takes the flush of all memtables out of the engine as a job, if one is needed, as `LiveStore::start_flush` does. An `Err`
+    /// changes nothing.
     pub fn start_flush(&mut self, alloc: Global) -> Result<Option<FlushJob>, AllocError>
         ensures kind { self.new.kind ≡ self.old.kind }
         ensures ok { IfOk result (λ job. StartsFlush (wants_flush self.old.live) job self.old.live self.new.live) }

@@ -21,19 +21,19 @@ use uc_version::Alone;
 /// A job of a store of each operator.
 #[derive(Drop)]
 pub(crate) enum AnyJob {
-    /// A job of a store that joins texts.
+    /// A job of a store that joins byte strings.
     Append(Job<Texts>),
     /// A job of a store that adds numbers.
     Counter(Job<Counter>),
-    /// A job of a store that keeps the greater text.
+    /// A job of a store that keeps the greater byte string.
     Maximum(Job<Maximum>),
     /// A job of a store that keeps the last bytes.
     Tail(Job<LastBytes>),
 }
 
-/// A compaction that is done away from its engine, by any thread. The engine takes it out by [`Engine::start_job`] and
-/// puts it back by [`Engine::end_job`]. If it is dropped before, its runs stay claimed for good. It keeps its runs until
-/// it is dropped, also when it has ended. A contract sees which operator merges, and what the job has.
+/// A compaction that any thread runs away from its engine. [`Engine::start_job`] takes it out and [`Engine::end_job`] puts it back.
+/// If it is dropped before, its runs stay claimed for good. It keeps its runs until it is dropped, even when it has ended. A
+/// contract sees the operator and the job's state.
 pub struct EngineJob {
     pub(crate) job: AnyJob,
 }

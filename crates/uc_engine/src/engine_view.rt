@@ -1,4 +1,4 @@
-//! [`EngineView`]: what an engine holds at a moment.
+//! [`EngineView`]: the contents of an engine at one point in time.
 ghost use Rattle.std.specs.Prelude.{◌≡◌, IfOk, length};
 ghost use Rattle.uc_query_read.specs.declared.query.Query.TheVariants as queries;
 ghost use Rattle.uc_live.specs.Sources.{source_of};
@@ -18,18 +18,18 @@ use uc_query_read::{Answer, Query, RowBuffer, Rows};
 /// A view of a store of each operator.
 #[derive(Drop)]
 pub(crate) enum AnyView {
-    /// A view of a store that joins texts.
+    /// A view of a store that joins byte strings.
     Append(View<Texts>),
     /// A view of a store that adds numbers.
     Counter(View<Counter>),
-    /// A view of a store that keeps the greater text.
+    /// A view of a store that keeps the greater byte string.
     Maximum(View<Maximum>),
     /// A view of a store that keeps the last bytes.
     Tail(View<LastBytes>),
 }
 
-/// The contents of an engine at a moment. They stay so, whatever happens to the engine, and also when that is dropped. Threads
-/// share it: each read only reads. A contract sees the operator, and the contents.
+/// The contents of an engine at one point in time. They never change, whatever happens to the engine, even when it is dropped.
+/// Threads share it: each read only reads. A contract sees the operator and the contents.
 pub struct EngineView {
     pub(crate) view: AnyView,
 }
@@ -51,8 +51,8 @@ impl Drop for EngineView {
 }
 
 impl Engine {
-    /// A view of its contents now, as `LiveStore::view` gives it. A prepared batch isn't in it. It is refused for want of memory.
-    /// It changes nothing.
+    /// A view of the present contents, as `LiveStore::view` returns it. It doesn't show a prepared batch. Fails only if allocation
+    /// fails, and changes nothing.
     pub fn view(&mut self, alloc: Global) -> Result<EngineView, AllocError>
         ensures view { IfOk result (λ view. view ≡ viewed_in self.old) }
         ensures same { self.new ≡ self.old }
@@ -63,7 +63,7 @@ impl Engine {
 }
 
 impl EngineView {
-    /// The view again, for another thread. It takes no memory, and is refused only if 2^63 views of the moment are there.
+    /// Another handle to the view, for another thread. It allocates nothing, and fails only if there are 2^63 handles already.
     pub fn again(&self) -> Result<EngineView, AllocError>
         ensures { IfOk result (λ again. again ≡ self.now) }
     {
@@ -92,7 +92,7 @@ impl EngineView {
         with_each!(AnyView, &self.view, view => view.last())
     }
 
-    /// The number of gathered writes.
+    /// The number of writes in memtables.
     pub fn gathered(&self) -> usize
         ensures { result ≡ length self.now.seen.gathered }
     {
@@ -106,7 +106,7 @@ impl EngineView {
         self.version().keeps()
     }
 
-    /// Sorts what is gathered, once, so that the scans of this view and of those that are made of it don't. No read changes.
+    /// Sorts the writes in memtables, once, so that the scans of this view and of those that are made of it don't. No read changes.
     pub fn sort(&mut self, alloc: Global) -> Result<(), AllocError>
         ensures { self.new ≡ self.old }
     {
@@ -144,8 +144,8 @@ impl EngineView {
         with_each!(AnyView, &self.view, view => view.get_at(alloc, key, at))
     }
 
-    /// The first rows, at most `limit`, of the keys from `low` to below `high`, or to the last one if `high` is `None`,
-    /// at the last sequence. A scan sorts what is gathered, unless that is [sorted](EngineView::sort).
+    /// The first rows, at most `limit`, of the keys from `low` to below `high`, or to the last one if `high` is `None`, at the last
+    /// sequence number. A scan sorts the writes in memtables, unless they are [sorted](EngineView::sort).
     pub fn scan(
         &self,
         alloc: Global,
@@ -159,7 +159,7 @@ impl EngineView {
     }
 
     /// The last rows, at most `limit`, of the keys from `low` to below `high`, or to the last one if `high` is `None`, at the last
-    /// sequence: the greatest key first. A scan sorts what is gathered, unless that is [sorted](EngineView::sort).
+    /// sequence number: the greatest key first. A scan sorts the writes in memtables, unless they are [sorted](EngineView::sort).
     pub fn scan_back(
         &self,
         alloc: Global,

@@ -19,13 +19,13 @@ pub(crate) type LastBytes = Tail<KEPT>;
 /// The merge operator (RocksDB wiki, "Merge Operator").
 #[derive(Clone, Copy, Debug, PartialEq, Eq)]
 pub enum OperatorKind {
-    /// Texts joined by commas, as RocksDB's `StringAppendOperator` does.
+    /// Byte strings joined by commas, as RocksDB's `StringAppendOperator` does.
     Append,
     /// Sums of 64-bit numbers.
     Counter,
-    /// The greater text.
+    /// The greater byte string.
     Maximum,
-    /// The last four bytes of all texts.
+    /// The last four bytes of all operands.
     Tail,
 }
 

@@ -19,7 +19,7 @@ pub struct EngineReport {
     /// The sums of all runs: points, fragments of range deletions, and bytes, with 8 for each sequence. Each is held at
     /// 2^64 - 1.
     pub total: Totals,
-    /// The number of gathered writes, which no run has yet.
+    /// The number of writes in memtables, which no run has yet.
     pub gathered: u64,
     /// The last sequence.
     pub last: u64,
@@ -63,7 +63,7 @@ fn total(runs: &[Placed]) -> Totals
     total
 }
 
-/// The report of a version after which this many writes are gathered, up to a last sequence.
+/// The report of a version with `gathered` writes in memtables, up to a last sequence number.
 fn report_with(version: &Version, gathered: usize, last: u64) -> EngineReport
     ensures { result ≡ reports.report_with version.now gathered last }
 {
@@ -86,7 +86,7 @@ impl Engine {
 }
 
 impl EngineView {
-    /// Its figures, as [`Engine::report`] tells them.
+    /// Its figures, as [`Engine::report`] returns them.
     pub fn report(&self) -> EngineReport
         ensures { result ≡ reports.report_seen self.now.seen }
     {

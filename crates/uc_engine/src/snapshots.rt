@@ -22,7 +22,7 @@ impl Engine {
         with_each!(AnyStore, &mut self.store, store => store.snapshot(alloc))
     }
 
-    /// Releases a snapshot that was taken at the sequence. It is refused if there is none.
+    /// Releases a snapshot that was taken at the sequence number. Fails if there is none.
     pub fn release(&mut self, seq: u64) -> Result<(), ReleaseError>
         ensures ok { OnOk result
             (Contains self.old.live.snapshots seq × (self.new ≡ with_live (without_snapshot seq self.old.live) self.old)) }

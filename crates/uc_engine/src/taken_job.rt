@@ -11,7 +11,7 @@ use uc_live::{FlushJob, JobStage};
 /// A job of either kind that was taken out of an engine.
 #[derive(Drop)]
 pub enum TakenJob {
-    /// The flush of what was gathered.
+    /// The flush of memtables.
     Flush(FlushJob),
     /// The compaction of a stretch of runs.
     Compaction(EngineJob),
@@ -52,8 +52,8 @@ impl TakenJob {
 }
 
 impl Engine {
-    /// Takes a job out of the engine: the flush of what is gathered, if that is wanted; else the compaction of what is
-    /// picked next, if there is such. An `Err` changes nothing.
+    /// Takes a job out of the engine: the flush of the memtables, if one is needed, or else the compaction that is picked next, if
+    /// there is one. An `Err` changes nothing.
     pub fn take_job(&mut self, alloc: Global) -> Result<Option<TakenJob>, AllocError>
         ensures ok { IfOk result (λ job. Takes job self.old self.new) }
         ensures err { OnErr result (self.new ≡ self.old) }

@@ -17,8 +17,8 @@ use uc_bytes::OpRef;
 use uc_live::{RoomError, WriteError};
 
 impl Engine {
-    /// Writes an operation: it gets the sequence after the last one. It is refused as `LiveStore::prepare` says, and
-    /// no read changes then.
+    /// Writes an operation: it gets the sequence number after the last one. Fails as `LiveStore::prepare` says, and no read changes
+    /// then.
     pub fn write(&mut self, alloc: Global, op: OpRef<'_>) -> Result<(), WriteError>
         ensures kind { self.new.kind ≡ self.old.kind }
         ensures ok { OnOk result (IsWritten (meaning_of self.old.kind) op.entry self.old.live self.new.live) }
@@ -28,7 +28,7 @@ impl Engine {
         with_each!(AnyStore, &mut self.store, store => store.write(alloc, op))
     }
 
-    /// Writes a batch, given as bytes. It is refused as `LiveStore::prepare_batch` says, and no read changes then.
+    /// Writes a batch, given as bytes. Fails as `LiveStore::prepare_batch` says, and no read changes then.
     pub fn write_batch(&mut self, alloc: Global, batch: &[u8]) -> Result<(), WriteError>
         ensures kind { self.new.kind ≡ self.old.kind }
         ensures ok { OnOk result (IsBatchWritten (meaning_of self.old.kind) batch.now self.old.live self.new.live) }
@@ -38,8 +38,8 @@ impl Engine {
         with_each!(AnyStore, &mut self.store, store => store.write_batch(alloc, batch))
     }
 
-    /// Takes the writes of a batch that come after the last sequence. It is refused as `LiveStore::write_all` says, and no
-    /// read changes then.
+    /// Takes the writes of a batch that come after the last sequence number. Fails as `LiveStore::write_all` says, and no read
+    /// changes then.
     pub fn write_all(&mut self, alloc: Global, writes: BatchWrites<'_>) -> Result<(), RoomError>
         requires rising { IsRising (lives.last self.old.live) writes }
         ensures kind { self.new.kind ≡ self.old.kind }
@@ -76,7 +76,7 @@ impl Engine {
         with_each!(AnyStore, &mut self.store, store => store.commit())
     }
 
-    /// Gives up what is prepared.
+    /// Discards the prepared batch.
     pub fn give_up(&mut self)
         ensures { self.new ≡ with_live (lives.unprepared self.old.live) self.old }
     {

@@ -1,4 +1,4 @@
-//! A store that threads share: one feeds, one compacts, and two answer at a snapshot meanwhile.
+//! A store that threads share: one feeds and one compacts, while two answer at a snapshot.
 ghost use Rattle.uc_store.specs.Stores.{IsNamed};
 
 use crate::visits::{batch_of, lookups, number};

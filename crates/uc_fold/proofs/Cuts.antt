@@ -1,4 +1,4 @@
--- What the laws of joining say of a list that is cut.
+-- Consequences of the laws of joining for a list that is cut.
 use Rattle.std.proofs.Common.{◌≡◌, List, [], ◌∷◌, ◌++◌, fold, refl, sym, ap, ◌∙◌}
 use Rattle.std.proofs.lemmas.List.Sums.{fold-append}
 use Rattle.uc_fold.specs.Joining.{IsLawful}

@@ -1,4 +1,4 @@
--- What a fold of totals comes to.
+-- The result of a fold of totals.
 use Rattle.std.proofs.Common.{◌≡◌, ℕ, ◌-◌, ◌^◌, ◌≤◌, min, List, [], ◌∷◌, fold, sum_by, arith}
 use Rattle.std.specs.List.{AllByRecursion}
 use Rattle.std.proofs.lemmas.List.Sums.{sum_by-cons}
@@ -7,7 +7,7 @@ use Rattle.uc_fold.specs.Adding.{nothing, added, held_sum, AddsAlone, IsHeldSum}
 
 -- a place of totals, where it adds like the whole
 module _ (place : Totals → ℕ) (adds : (a b : Totals) → place (added a b) ≡ held_sum (place a) (place b)) where
-  -- behind totals that are held, a fold is held
+  -- a fold that starts from totals in range is in range
   from_totals : (first : Totals) (parts : List Totals) → place first ≤ 2 ^ 64 - 1
       → place (fold added first parts) ≡ held_sum (place first) (sum_by place parts)
   from_totals first [] h = omega arith

@@ -1,4 +1,4 @@
--- What a fold of effects does to a value.
+-- The effect of a fold of effects on a value.
 use Rattle.std.proofs.Common.{◌≡◌, ℕ, List, [], ◌∷◌, Option, fold, refl, ap, ◌∙◌}
 use Rattle.uc_oper.specs.declared.effect.Effect.{Effect}
 use Rattle.uc_oper.specs.declared.effect.Effect.TheVariants.{Keep}
@@ -6,7 +6,7 @@ use Rattle.uc_oper.specs.Operation.{Operation, IsLawful as OperatorIsLawful}
 use Rattle.uc_oper.specs.Composition.{applied, composed, applied-composed}
 use Rattle.uc_fold.specs.Composing.{applied_in_turn}
 
--- behind an effect, the others are applied to what it made
+-- after an effect, the others are applied to its result
 from_effect : {m : Operation} → OperatorIsLawful m → (first : Effect) (value : Option (List ℕ)) (effects : List Effect)
     → applied m (fold (composed m) first effects) value ≡ applied_in_turn m (applied m first value) effects
 from_effect laws first value [] = refl

@@ -1,4 +1,4 @@
--- A fold of parts some of which may have been refused their memory.
+-- A fold of parts, some of which may be failed allocations.
 use Rattle.std.proofs.Common.{◌≡◌, List, [], ◌∷◌, ◌++◌, fold, refl, sym, ap, ◌∙◌, IfOk, Ok, Err, Result, rules}
 use Rattle.std.specs.List.{AllZip}
 use Rattle.std.proofs.lemmas.List.Sums.{fold-append}
@@ -27,7 +27,7 @@ module _ {P E : Type 0} where
   granted-all (p ∷ ps) [] h = absurd h
   granted-all (p ∷ ps) (r ∷ rs) h = ap (λ q. granted (q ∷ rs)) h.0 ∙ ap (λ l. p ∷ l) (granted-all ps rs h.1)
 
--- what two parts make where neither was refused its memory; where one was, they make no part
+-- the result of two parts if neither is a failed allocation; otherwise they make no part
 abbrev pub JoinsTo : {P E : Type 0} → (P → P → P) → Result P E → Result P E → P → Type 0
 JoinsTo join (Ok older) (Ok newer) both = both ≡ join older newer
 JoinsTo join (Ok older) (Err e) both = ⊥

@@ -33,7 +33,7 @@ places = (λ t. t.points) ∷ (λ t. t.fragments) ∷ (λ t. t.size) ∷ []
 abbrev pub IsHeldSum : List Totals → Totals → (Totals → ℕ) → Type 0
 IsHeldSum parts whole place = place whole ≡ min (sum_by place parts) (2 ^ 64 - 1)
 
--- a place that is added by itself, from zero
+-- a place that is added independently, from zero
 abbrev pub AddsAlone : (Totals → ℕ) → Type 0
 AddsAlone place = (place nothing ≡ 0) × ((a b : Totals) → place (added a b) ≡ held_sum (place a) (place b))
 

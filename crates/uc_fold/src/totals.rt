@@ -16,7 +16,7 @@ pub struct Totals {
     pub size: u64,
 }
 
-/// Adds totals. Each sum is at most 2^64 - 1, and none is refused.
+/// Adds totals. Sums saturate at 2^64 - 1, and never fail.
 pub enum Sums {}
 
 impl Joins for Sums {

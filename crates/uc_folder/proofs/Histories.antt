@@ -94,7 +94,7 @@ always_next es = (run_keeps es start start_next start_keeps).1
 all_counted : (firm before part acked : List Batch) (count : ℕ) → count ≡ length part → IsPrefixOf firm (before ++ part) → IsPrefixOf acked firm → IsPrefixOf acked (before ++ take count part)
 all_counted firm before part acked count counted all has = subst (λ l. IsPrefixOf acked (before ++ l)) (sym (take_counted count part counted)) (prefix_trans acked firm (before ++ part) has all)
 
--- an operation that wasn't told as done acknowledges nothing
+-- an operation that failed acknowledges nothing
 none_written : (w : Writer) (all acked : List Batch) → IsPrefixOf acked (acked_after w false all acked)
 none_written Settling all acked = prefix_refl acked
 none_written w all acked = prefix_refl acked

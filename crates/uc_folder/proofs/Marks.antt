@@ -1,4 +1,4 @@
--- Marks tell no more than what is on the device: so what a crash leaves is never taken for damage.
+-- Marks never exceed what is durable: so the state after a crash is never taken for damage.
 use Rattle.std.proofs.Common.{◌≡◌, ℕ, zero, suc, ◌≤◌, Bool, true, false, cond, not, ◌&&◌, ◌||◌, ltb, List, [], ◌∷◌, ◌++◌, append_assoc, length, take, refl, sym, ap, ◌∙◌, subst, arith}
 use Rattle.std.specs.Prelude.{⊤, Option, Some, None, max}
 use Rattle.std.proofs.lemmas.Bool.{le-ltb, ltb-false}
@@ -70,7 +70,7 @@ length_prefix xs ys p = let size = length-append xs p.0 in let all = ap length p
 
 -- ---- files
 
--- no mark tells more than what is on the device
+-- no mark exceeds what is durable
 abbrev pub IsMarked : Option File → Type 0
 IsMarked None = ⊤
 IsMarked (Some f) = tell_more (length (first_whole f.kept)) (f.kept ++ f.waiting) ≡ false

@@ -1,4 +1,4 @@
--- Cutting off what a failed append left keeps what holds, and so does a sync beside which it failed.
+-- Cutting off the rest of a failed append keeps the invariant, and so does a sync during which it failed.
 use Rattle.std.proofs.Common.{◌≡◌, ℕ, ◌<◌, ◌≤◌, Bool, cond, ⊎_elim, List, [], ◌∷◌, ◌++◌, length, take, refl, sym, ap, ◌∙◌, subst, arith}
 use Rattle.std.specs.Prelude.{Some}
 use Rattle.std.specs.List.{AllByRecursion}
@@ -177,7 +177,7 @@ module _ (d : Device) (m : Machine) (c : Checkpointer) (parts : ℕ → List Bat
       (last_of (file' (cut m.count)) m c parts batch acked Failed g' now done)
       (subst (IsPrefixOf (take m.count part)) (ap content now ∙ sym (ap content (here (file' (cut m.count)) m c parts batch acked suspected g' now))) (cut_answered keeps.firm front split is))
 
-  -- ---- a sync beside which the append has failed
+  -- ---- a sync during which the append has failed
 
   module _ (n : ℕ) (firm front : List Batch) (split : front ++ batch ∷ [] ≡ part) (is : IsMendable m.count m.synced firm before front (d.logs log)) (from : m.synced ≤ n) (to : n ≤ m.count) where
     abbrev synced' : File

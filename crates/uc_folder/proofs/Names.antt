@@ -13,7 +13,7 @@ use Rattle.uc_folder.specs.Worlds.{IsReadable, is_intact, found}
 use Rattle.uc_folder.proofs.Sound.{Sound}
 use Rattle.uc_folder.proofs.Opening.{n, h, j, n_there, n_first, base_above, h_is, used_below}
 
--- no log that goes on is before the base's
+-- no current log is before the base's
 pub log_least : (base : ℕ) (logs : List Listed) → base ≤ log_in base logs
 log_least base [] = omega arith
 log_least base (l ∷ ls) = by_test (log_least (max base l.number) ls) (log_least base ls) l.is_used

@@ -1,4 +1,4 @@
--- The next log, from when it is asked for to when it goes on.
+-- The next log, from its request to the switch.
 use Rattle.std.proofs.Common.{◌≡◌, ℕ, ◌+◌, ◌<◌, ◌≤◌, Bool, true, false, cond, ltb, ◌&&◌, ◌||◌, List, [], refl, sym, ap, ◌∙◌, subst, arith}
 use Rattle.std.specs.Prelude.{⊤, Some, None}
 use Rattle.uc_folder.specs.declared.machine.Machine.{Machine}
@@ -85,7 +85,7 @@ made_beside d k n change next lt is =
 
 -- ---- operations
 
--- what an operation may be on, beside a log of a number
+-- the files of an operation that may run concurrently with a log of a number
 abbrev IsBeside : Action → ℕ → Type 0
 IsBeside Nothing n = ⊤
 IsBeside (Append k mark) n = k < n

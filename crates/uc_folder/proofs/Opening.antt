@@ -1,4 +1,4 @@
--- An opening finds a folder in which it may go on.
+-- Opening finds a directory in which it may continue.
 use Rattle.std.proofs.Common.{◌≡◌, ℕ, zero, suc, ◌<◌, ◌≤◌, Bool, true, false, cond, not, ◌&&◌, eqb, eq-eqb, ltb, ◌⊎◌, inl, inr, ⊎_elim, List, [], ◌∷◌, ◌++◌, append_assoc, length, drop, refl, sym, ap, ◌∙◌, subst, arith}
 use Rattle.std.specs.Prelude.{Option, Some, None, max}
 use Rattle.std.specs.List.{AllByRecursion}
@@ -237,7 +237,7 @@ module _ (d : Device) (log sure : ℕ) (parts : ℕ → List Batch) (firm : List
   pub upto_read : (k : ℕ) → k ≤ log → upto read k ≡ upto parts k
   upto_read k le = upto_same read parts k (λ i lt. read_below i (omega (arith, lt, le)))
 
-  -- of the logs after the one that goes on nothing is read
+  -- of the logs after the current one nothing is read
   none_above : (k : ℕ) → suc j ≤ k → k < log → parts k ≡ []
   none_above k le lt =
       let a = sure_j in

@@ -116,7 +116,7 @@ says_run (e ∷ es) w fits keeps says = says_run es (happens w e) (next_happens 
 pub always_says : (es : List Event) → Says (run es start)
 always_says es = says_run es start start_next start_keeps ([], refl)
 
--- ---- a sync, and what happens beside it
+-- ---- a sync, and concurrent events
 
 -- a sync up to a number is under way, or an append has failed, or the log
 abbrev pub IsUnderWay : ℕ → List Batch → (ℕ → List Batch) → ℕ → Writer → Type 0
@@ -184,7 +184,7 @@ module _ (n : ℕ) (xs : List Batch) (d : Device) (m : Machine) (c : Checkpointe
   way_written Failed DoneUntold is = is
   way_written w o is = absurd is
 
-  -- told as done, it acknowledges what was appended before it
+  -- if it succeeds, it acknowledges what was appended before it
   way_told : (w : Writer) → is_open w ≡ true → IsUnderWay n xs parts m.log w → IsPrefixOf xs (happens (inside' w) (Syncs Done)).acked
   way_told (Syncing k) e is = subst (λ i. IsPrefixOf xs (first_of parts m.log i)) (sym is.0) is.1
   way_told (Both k) e is = subst (λ i. IsPrefixOf xs (first_of parts m.log i)) (sym is.0) is.1

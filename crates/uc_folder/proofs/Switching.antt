@@ -64,7 +64,7 @@ module _ (d : Device) (m : Machine) (c : Checkpointer) (parts : ℕ → List Bat
   front_answered : (firm : List Batch) (is : IsAppended m.count m.synced firm before part batch (d.logs log)) → IsPrefixOf (take m.count part) is.0
   front_answered firm is = subst (λ l. IsPrefixOf l is.0) (sym (front_counted firm is m.count (omega arith))) (prefix_take m.count is.0)
 
-  -- ---- a sync beside which batches are appended
+  -- ---- a sync during which batches are appended
 
   pub syncing_keeps : (n : ℕ) (o : Outcome) → Keeps (inside' (Syncing n)) → Keeps (happens (inside' (Syncing n)) (Syncs o))
   syncing_keeps n Done keeps =
@@ -137,7 +137,7 @@ module _ (d : Device) (m : Machine) (c : Checkpointer) (parts : ℕ → List Bat
       (synced_firmly d m c parts batch acked m.count part keeps.firm is keeps.sure keeps.sound (prefix_refl part) from (prefix_take m.count part))
       (prefix_refl more) (synced_open d m c parts batch acked m.count part keeps.firm is from (omega arith))
 
-  -- the next log goes on, which is there and empty
+  -- the next log, which is there and empty, becomes the current one
   enters : (keeps : Keeps (inside' Closing)) (next : ℕ) → next ≡ suc log → IsNew ((file' (synced m.count)).logs next).now → ((file' (synced m.count)).logs next).before ≡ [] → next ≤ d.names →
       Keeps (world (file' (synced m.count)) (record m { log = next; count = 0; synced = 0 }) Ready c (at next [] parts) batch (first_of parts log m.count))
   enters keeps next e new alone top =

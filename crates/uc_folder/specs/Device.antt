@@ -1,4 +1,4 @@
--- The device below a folder: what its files and names are, what the operations on them do, and what a crash keeps.
+-- The device below a directory: its files and names, the effect of each operation on them, and the state that a crash leaves.
 use Rattle.std.specs.Prelude.{ℕ, zero, suc, Bool, true, false, not, ◌&&◌, ◌||◌, List, [], ◌∷◌, ◌++◌, length, take, drop, Option, Some, None, slice_index_or, nat_lt, ◌==◌, max, if◌then◌else◌}
 
 -- a batch, as its bytes
@@ -105,7 +105,7 @@ highest passes (suc n) = if passes (suc n) then suc n else highest passes n
 abbrev pub newest_base : Device → ℕ
 newest_base d = max first_number (highest (λ n. is_there (d.bases n).now) d.names)
 
--- the log that goes on: the last one that has a batch, and none before the base's
+-- the current log: the last one that has a batch, and none before the base's
 abbrev pub last_log : Device → ℕ
 last_log d = max (newest_base d) (highest (λ n. is_used (d.logs n).now) d.names)
 

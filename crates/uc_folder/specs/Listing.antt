@@ -40,8 +40,8 @@ found_of bases logs = record {
   top = top_in (log_in (base_in bases) logs) logs;
 }
 
--- The files that an opening finds: each log from the base's number on is listed, up to the one that goes on. Only the first log may be
--- missing, where no batch is.
+-- The files that opening finds: each log from the base's number on is listed, up to the current one. Only the first log may be
+-- missing, if no batch is in it.
 abbrev pub AreFound : List Base → List Listed → Found → Type 0
 AreFound bases logs f = (f ≡ found_of bases logs) × ((k : ℕ) → f.base ≤ k → k < f.log → is_listed k logs ≡ true) × (first_number < f.log → f.is_there ≡ true)
 

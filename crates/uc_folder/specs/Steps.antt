@@ -36,8 +36,8 @@ next_write Failed log count synced = Nothing
 abbrev pub clearing_after : ℕ → ℕ → Bool → Writer
 clearing_after k top sealed = if nat_lt k top then Clearing (k + 1) top sealed else (if sealed then Settling else SettingAside)
 
--- The writer's phase after an operation that was done, or wasn't. After one refusal it goes on: that a batch can't be appended, if the
--- rest of it can be cut off.
+-- The writer's phase after an operation that succeeded, or failed. It continues after only one failure: that a batch can't be
+-- appended, if the rest of it can be cut off.
 abbrev pub writer_after : Writer → Bool → ℕ → Writer
 writer_after Making true log = Founding
 writer_after Founding true log = Ready
@@ -117,7 +117,7 @@ made_after _ is_done = Absent
 abbrev pub told_make : Machine → Bool → Machine
 told_make m is_done = record m { next = made_after m.next is_done }
 
--- ---- a sync of the log, beside which a batch may be appended
+-- ---- a sync of the log, during which a batch may be appended
 
 abbrev pub next_sync : Writer → ℕ → Action
 next_sync (Syncing n) log = SyncLog log n
@@ -211,7 +211,7 @@ syncing Ready count = Syncing count
 syncing Appending count = Both count
 syncing w count = w
 
--- the next log is to go on, once it is there
+-- the switch to the next log, once it exists
 abbrev pub switching : Writer → NextLog → Writer
 switching Ready Waiting = Closing
 switching w next = w
@@ -248,7 +248,7 @@ checkpointing c may n new = c
 
 -- ---- an opening
 
--- the machine of the files that an opening found, and of a number of batches in the log that goes on, which may be sealed
+-- the machine of the files that opening found, and of a number of batches in the current log, which may be sealed
 abbrev pub opened : Found → ℕ → Bool → Machine
 opened f count sealed = record {
   log = f.log;

@@ -25,7 +25,7 @@ submitted w = upto w.parts w.machine.log ++ w.parts w.machine.log
 abbrev pub first_of : (ℕ → List Batch) → ℕ → ℕ → List Batch
 first_of parts log n = upto parts log ++ take n (parts log)
 
--- the batches whose appends were told as done
+-- the batches whose appends were acknowledged
 abbrev pub answered : World → List Batch
 answered w = first_of w.parts w.machine.log w.machine.count
 
@@ -81,8 +81,8 @@ device_after DoneUntold batch parts d a = failed (carried_out batch parts d a) a
 
 -- ---- events
 
--- Each operation takes effect at one moment. The writer and the checkpointer work side by side, so a sync of names that is done covers the
--- names that were there when it began, and it stands in the list there; one that fails stands where it ends.
+-- Each operation takes effect at one point in time. The writer and the checkpointer run concurrently, so a sync of names that
+-- succeeds covers the names that existed when it began, and it is in the list there; one that fails is in the list where it ends.
 
 pub data Event : Type 0 where
   -- a batch is submitted
@@ -91,7 +91,7 @@ pub data Event : Type 0 where
   AskSync : Event
   -- the next log is to be made
   AskNext : Event
-  -- it is to go on
+  -- a switch to it is requested
   AskSwitch : Event
   -- a base is to be made of the logs before a number, and of some batches of the log of that number
   AskCheckpoint : ℕ → ℕ → Event
@@ -103,8 +103,8 @@ pub data Event : Type 0 where
   Syncs : Outcome → Event
   -- the checkpointer's next operation is carried out
   Checkpoints : Outcome → Event
-  -- The machine crashes, and the folder is opened again: the listing tells the least number, and the greatest of a log. It may be said
-  -- that the log that goes on is sealed.
+  -- The machine crashes, and the directory is opened again: the listing has the least number, and the greatest of a log. The
+  -- current log may be called sealed.
   Crash : (ℕ → Keep) → (ℕ → Keep) → ℕ → ℕ → Bool → Event
   -- the process ends, and the folder is opened again as it can be read
   Restart : ℕ → ℕ → Bool → Event
@@ -122,7 +122,7 @@ batch_with Ready b old = b
 batch_with (Syncing n) b old = b
 batch_with w b old = old
 
--- A batch that was cut off isn't submitted any more: it was refused. And nothing was submitted for the log that is entered.
+-- A batch that was cut off isn't submitted any more: it failed. And nothing was submitted for the log that is entered.
 abbrev pub parts_after : Writer → Bool → ℕ → ℕ → (ℕ → List Batch) → ℕ → List Batch
 parts_after Mending true log count parts = at log (take count (parts log)) parts
 parts_after Closing true log count parts = at (log + 1) [] parts
@@ -157,8 +157,8 @@ abbrev pub are_none : List Record → Bool
 are_none [] = true
 are_none (r ∷ rs) = false
 
--- Whether nothing of a log waits. The premise: that a log is sealed is said only of such a one. A closed log says so by a last batch
--- without operations, whose mark tells that all before it was on the device: marks are true (uc_log_crash, `AreTrue`).
+-- Whether nothing of a log waits for a sync. The premise: only such a log is called sealed. A closed log ends with a batch without
+-- operations, whose mark says that all before it was durable: marks are true (uc_log_crash, `AreTrue`).
 abbrev pub is_settled : Option File → Bool
 is_settled None = false
 is_settled (Some f) = are_whole f.kept && (are_none f.waiting && not f.suspect)
@@ -237,14 +237,14 @@ abbrev pub is_intact : Option File → Bool
 is_intact None = false
 is_intact (Some f) = are_whole (f.kept ++ f.waiting)
 
--- An opening isn't refused: the base and the logs from its number on are there, all but the last one whole, and no log is damaged.
+-- An opening succeeds: the base and the logs from its number on are there, all but the last one whole, and no log is damaged.
 pub record IsReadable (d : Device) : Type 0 where
   pub base : first_number < newest_base d → is_intact (d.bases (newest_base d)).now ≡ true
   pub logs : (k : ℕ) → newest_base d ≤ k → k < last_log d → is_intact (d.logs k).now ≡ true
   pub last : first_number < last_log d → is_there (d.logs (last_log d)).now ≡ true
   pub whole : (k : ℕ) → are_damaged (records_of (d.logs k).now) ≡ false
 
--- an event that may happen beside a sync of the log: neither that ends nor the process
+-- an event that may happen during a sync of the log: neither that ends nor the process
 abbrev pub is_beside : Event → Bool
 is_beside (Syncs o) = false
 is_beside (Crash logs bases least top sealed) = false

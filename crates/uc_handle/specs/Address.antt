@@ -1,4 +1,4 @@
--- What an address owns.
+-- The object that an address owns.
 use Rattle.std.specs.Global.{Global}
 use Rattle.std.specs.Prelude.{Option, Some, None}
 use Rattle.std.specs.Box.Ownership.{box_owns}

@@ -1,13 +1,12 @@
-//! Handles for C, each a struct of one address: of an engine, a batch that is gathered, a view of an engine, a checkpoint of a
-//! view, or a job.
+//! Handles for C, each a struct of one address: of an engine, a batch, a view of an engine, a checkpoint of a view, or a job.
 //!
-//! C cannot hold a `Box`. So [`Handle`] is a struct of one address, which C sees, and the box at it, which a
-//! contract sees. An export takes a `&mut Handle`, takes the box out of it, calls the engine, and puts the box back.
-//! No export has a pointer in its contract, and none has a proof of its own that speaks of memory. [`BatchHandle`],
-//! [`ViewHandle`], [`CheckpointHandle`] and [`JobHandle`] are the same for the others: no type argument crosses to C.
+//! C cannot hold a `Box`. So [`Handle`] is a struct of one address, which C sees, and the box at it, which a contract sees. An
+//! export takes a `&mut Handle`, takes the box out of it, calls the engine, and puts the box back. No export has a pointer in its
+//! contract, and none has its own proof about memory. [`BatchHandle`], [`ViewHandle`], [`CheckpointHandle`] and [`JobHandle`] are
+//! the same for the others: no type argument crosses to C.
 //!
-//! Read `handle.rt` first, then `batch_handle.rt`, `view_handle.rt`, `checkpoint_handle.rt`, `job_handle.rt`, and
-//! `loose.rt`, a box as its address.
+//! Read `handle.rt` first, then `batch_handle.rt`, `view_handle.rt`, `checkpoint_handle.rt`, `job_handle.rt`, and `loose.rt`, a box
+//! as its address.
 //!
 //! Tests: `uc_c`.
 #![tactic(auto)]

@@ -1,4 +1,4 @@
--- What is gathered lies behind the runs.
+-- Writes in memtables are newer than the runs.
 use Rattle.std.proofs.Common.{◌≡◌, ℕ, ◌<◌, ◌≤◌, List, [], ◌∷◌, ◌++◌, Contains, ⊎_elim, sym, ap, ◌∙◌, subst, arith}
 use Rattle.std.specs.List.{AllByRecursion}
 use Rattle.uc_bytes.specs.declared.write.Write.{Write}
@@ -30,7 +30,7 @@ abbrev pub flushed_alone : List Write → Stored → List Write
 flushed_alone ws v = writes_in (record v { runs = record { id = 0; slot = 0; run = flushed ws } ∷ [] })
 
 module _ (m : Operation) where
-  -- a query at a keep has the same answer without what is gathered
+  -- a query at a keep has the same answer without the writes in memtables
   pub answer_behind : (v : Stored) (gathered : List Write) (query : Query) → AllByRecursion (λ keep. keep ≤ v.last) v.keeps → IsRising v.last gathered →
       ((writes others : List Write) (keeps : List ℕ) (query : Query) → (Contains keeps (at_of query) → (key : List ℕ) → Reads query key → value_of m writes key (at_of query) ≡ value_of m others key (at_of query)) → answer_of m writes keeps query ≡ answer_of m others keeps query) →
       ((writes later : List Write) (key : List ℕ) (at : ℕ) → AllByRecursion (λ w. at < w.seq) later → value_of m (writes ++ later) key at ≡ value_of m writes key at) →
@@ -39,7 +39,7 @@ module _ (m : Operation) where
       equal (writes_in v) (writes_in v ++ gathered) v.keeps query
       (λ kept key reads. sym (nothing (writes_in v) gathered key (at_of query) (all_above v.last (at_of query) gathered rising (kept_below v.last (at_of query) v.keeps below kept))))
 
-  -- writes with the same effect give the same value behind others
+  -- writes with the same effect give the same value after others
   pub value_alike : (older newer gathered : List Write) (key : List ℕ) (at : ℕ) →
       ((older newer : List Write) (key : List ℕ) (at : ℕ) → value_of m (older ++ newer) key at ≡ applied m (effect_on m newer key at) (value_of m older key at)) →
       effect_on m newer key at ≡ effect_on m gathered key at → value_of m (older ++ newer) key at ≡ value_of m (older ++ gathered) key at

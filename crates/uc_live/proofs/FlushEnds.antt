@@ -64,7 +64,7 @@ module _ {O : Type 0} (i : Inside O) (is : IsLive i) where
     taken = is.taken;
   }
 
-  -- one is taken out, of all that is gathered
+  -- one is taken out, of all memtables
   pub all_leave : (active : Gathered) → active ≡ record i.active { apart = length i.active.shown } → (flushes n : ℕ) → n ≡ length i.active.shown →
       IsLive (record i { active = active; flushes = flushes; leaving = Some n })
   all_leave active e flushes n count = record {
@@ -111,7 +111,7 @@ module _ {O : Type 0} (i : Inside O) (is : IsLive i) where
         lacks (live i) (nat_le (length v.runs + 1) MOST_SLOTS) (nat_lt (v.next_id + 1) (2 ^ 64)) error owner.version.id_below refl refl (sym refusal ∙ e)
     why_lacks fills owner error (inr e) = subst (λ (f : FeedError). LacksRoom f (live i)) (sym e.1) tt
 
-    -- what is left behind it
+    -- the writes that are left after it
     left : drop (length job.writes) i.active.shown ≡ begin.0
     left = ap (drop (length job.writes)) begin.1 ∙ drop-append_seam job.writes begin.0
 

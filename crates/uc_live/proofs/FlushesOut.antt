@@ -1,4 +1,4 @@
--- Flush jobs that are out while their store goes on.
+-- Flush jobs that are pending while their store is used.
 use Rattle.std.proofs.Common.{◌≡◌, ◌≢◌, ℕ, ◌+◌, ◌-◌, ◌^◌, ◌≤◌, Bool, true, false, cond, List, [], ◌∷◌, ◌++◌, Option, Some, None, ◌⊎◌, inl, inr, length, append_assoc, refl, sym, ap, ◌∙◌, subst, arith}
 use Rattle.std.specs.Prelude.{◌&&◌, ◌==◌, is_some, is_none, nat_lt, if◌then◌else◌}
 use Rattle.std.proofs.lemmas.Bool.{false≢true, eqb-true, eq-eqb}
@@ -134,7 +134,7 @@ flush_committed l job out = record { lasts = out.lasts; out = out.out; leaving =
 pub flush_given_up : (l : Live) (job : FlushTask) → IsFlushOut job l → IsFlushOut job (unprepared l)
 flush_given_up l job out = flush_same l (unprepared l) job refl refl refl out
 
--- no other flush comes out beside it
+-- no other flush is taken out in that time
 alone_beside : (b : Bool) (old new : Live) (job : FlushTask) (other : Option FlushTask) → (b ≡ true → old.leaving ≡ None) → IsFlushOut job old → StartsFlush b other old new → (other ≡ None) × IsFlushOut job new
 alone_beside false old new job other none out is = (is.0, subst (λ (l : Live). IsFlushOut job l) (sym is.1) out)
 alone_beside true old new job other none out is = let wrong : Some (length job.writes) ≡ None = sym out.leaving ∙ none refl in absurd cc

@@ -1,4 +1,4 @@
--- A live store that goes on, and on.
+-- Later states of a live store, composed.
 use Rattle.std.proofs.Common.{◌≡◌, ◌⊎◌, inl, inr, None, List, [], ◌∷◌, ◌++◌, fold, append_assoc, refl, sym, ap, ◌∙◌, subst}
 use Rattle.std.specs.List.{flat_map}
 use Rattle.std.proofs.lemmas.List.{append-nil}
@@ -37,7 +37,7 @@ brought-append (e ∷ es) fs = ap (λ (ws : List Write). writes_brought e ++ ws)
 abbrev Stays : Live → Live → Type 0
 Stays old new = ((new.leaving ≡ old.leaving) × ((more : List Write) × (new.gathered ≡ old.gathered ++ more))) ⊎ (new.leaving ≡ None)
 
--- where what is gathered stays
+-- if the memtables stay
 pub lets_stay : (l : Live) (gathered : List Write) → gathered ≡ l.gathered ++ [] → LetsLeave l (record l { gathered = gathered })
 lets_stay l gathered same = (refl, inl (refl, ([], same)))
 
@@ -63,7 +63,7 @@ module _ (m : Operation) where
   pub follows_none : (v : Stored) (gathered : List Write) → Follows m v v gathered gathered []
   follows_none v gathered = record { events = []; follow = tt; keeps_stay = tt; version = refl; writes = sym (append-nil gathered) }
 
-  -- writes that are gathered
+  -- writes that are added to memtables
   pub follows_more : (v : Stored) (gathered ws : List Write) → Follows m v v gathered (gathered ++ ws) ws
   follows_more v gathered ws = record { events = []; follow = tt; keeps_stay = tt; version = refl; writes = refl }
 
@@ -95,7 +95,7 @@ module _ (m : Operation) where
     writes = ap (λ (ws : List Write). (ws ++ []) ++ gathered) none ∙ sym (append-nil gathered);
   }
 
-  -- what is gathered is flushed
+  -- the memtables are flushed
   pub follows_flush : (v : Stored) (gathered : List Write) → MayHappen m v (Flushed gathered) → Follows m v (after v (Flushed gathered)) gathered [] []
   follows_flush v gathered may = record {
     events = Flushed gathered ∷ [];
@@ -118,7 +118,7 @@ module _ (m : Operation) where
     lets_on a b c first.5 second.5,
   )
 
-  -- ---- what is prepared is taken, or given up
+  -- ---- the prepared batch is taken, or discarded
 
   pub commit_on : (l : Live) → GoesOn m l (committed l) l.prepared
   commit_on l = (follows_more l.version l.gathered l.prepared, refl, refl, same_held (owner_in l), refl, lets_more l)

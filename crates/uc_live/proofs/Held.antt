@@ -1,4 +1,4 @@
--- What is held stays a live store.
+-- The invariant of a live store is kept.
 use Rattle.std.proofs.Common.{◌≡◌, ℕ, ◌-◌, ◌^◌, ◌<◌, List, [], ◌++◌, Option, Some, None, refl, sym, ap, ◌∙◌, subst, arith}
 use Rattle.std.specs.Prelude.{IfSome}
 use Rattle.std.proofs.lemmas.List.{append-nil}
@@ -66,11 +66,11 @@ module _ {O : Type 0} (i : Inside O) (is : IsLive i) where
     taken = is.taken;
   }
 
-  -- a refusal changes nothing
+  -- a failure changes nothing
   pub same_is : (owned : Owner) → owned ≡ i.owned → IsLive (record i { owned = owned })
   same_is owned e = subst (λ (o : Owner). IsLive (record i { owned = o })) (sym e) is
 
-  -- what is gathered became a run
+  -- the memtables became a run
   pub flushed_is : (owned : Owner) (active : Gathered) → owned ≡ after_feed i.active.shown i.owned → active ≡ record { shown = []; waiting = []; apart = 0 } → IsLive (record i { owned = owned; active = active; leaving = None })
   flushed_is owned active e none = subst (λ (o : Owner). IsLive (record i { owned = o; active = active; leaving = None })) (sym e)
       (subst (λ (a : Gathered). IsLive (record i { owned = after_feed i.active.shown i.owned; active = a; leaving = None })) (sym none) (record {
@@ -99,9 +99,9 @@ module _ {O : Type 0} (i : Inside O) (is : IsLive i) where
   pub next_is : picked i.owned.options (candidates_of i.owned.version (is_busy i.owned)) ≡ next_stretch (live i)
   next_is = ap (λ (o : Options). picked o (candidates_of i.owned.version (is_busy i.owned))) is.options_are
 
--- ---- what waits is given up
+-- ---- the prepared batch is discarded
 
--- no read tells
+-- no read changes
 pub unprepared_goes : {O : Type 0} (m : Operation) (i : Inside O) (now : Live) → live i ≡ now → (active : Gathered) → active ≡ record i.active { waiting = [] } → GoesOn m now (live (record i { active = active })) []
 unprepared_goes m i now view active e =
     let here : GoesOn m (live i) (live (record i { active = record i.active { waiting = [] } })) [] = (follows_none m i.owned.version i.active.shown, refl, refl, same_held i.owned, refl, lets_stay (live i) i.active.shown (sym (append-nil i.active.shown))) in

@@ -1,4 +1,4 @@
--- Jobs that are out while their store goes on.
+-- Jobs that are pending while their store is used.
 use Rattle.std.proofs.Common.{◌≡◌, ◌≢◌, ℕ, Bool, true, false, List, [], ◌∷◌, ◌++◌, Option, Some, None, Contains, fold, refl, sym, ap, ◌∙◌, subst}
 use Rattle.std.specs.Prelude.{if◌then◌else◌}
 use Rattle.std.proofs.lemmas.List.{append-nil}
@@ -134,7 +134,7 @@ module _ (m : Operation) where
       let rest = without_one seq l.snapshots in
       out_released job l seq rest (is_among seq rest) out there
 
-  -- ---- beside another one
+  -- ---- with another one pending
 
   -- what the law of claims says of another claim
   abbrev pub HoldOverClaims : Type 0

@@ -1,4 +1,4 @@
--- The last sequence of a store that goes on, and what is prepared behind it.
+-- The last sequence number of a store, and the writes that are prepared after it.
 use Rattle.std.proofs.Common.{◌≡◌, ◌-◌, ◌^◌, ◌<◌, ◌≤◌, List, [], ◌∷◌, ◌++◌, fold, append_assoc, refl, sym, ap, ◌∙◌, subst}
 use Rattle.std.specs.List.{flat_map}
 use Rattle.std.proofs.lemmas.List.{append-nil}
@@ -41,7 +41,7 @@ last_follows m v v' g g' ws follows =
     ∙ sym (last_of-append v.last (flat_map writes_brought es) g')
     ∙ ap (last_of v.last) follows.writes
 
--- a store that only made room, in which nothing waits
+-- a store that was only flushed, in which nothing is prepared
 module _ {O : Type 0} (m : Operation) (i : Inside O) (old now : Live) (view : live i ≡ now) (prepares : Prepares m old now []) where
   none : i.active.waiting ≡ []
   none = ap (λ (l : Live). l.prepared) view ∙ prepares.1
@@ -55,7 +55,7 @@ module _ {O : Type 0} (m : Operation) (i : Inside O) (old now : Live) (view : li
       ∙ last_follows m old.version now.version old.gathered now.gathered [] prepares.0.0
       ∙ ap (last_of old.version.last) (append-nil old.gathered)
 
-  -- what comes behind the last sequence comes behind all that is held
+  -- a number after the last sequence number is after all that is held
   pub rises_behind : (ws : List Write) → IsRising (last old) ws → IsRising (last_of 0 (i.active.shown ++ i.active.waiting)) ws
   rises_behind ws rising =
       let low : last_of 0 i.active.shown ≤ last (live i) = last_low i.owned.version.last i.active.shown in

@@ -13,7 +13,7 @@ use Rattle.uc_batch.specs.Batch.{batch_of, counted_of, judged}
 abbrev tested : Bool → Bool → Bool → ℕ → ℕ → Result ℕ BatchError
 tested some back large last seq = if some && back then Err (SequenceBack last) else if some && large then Err SequenceTooLarge else Ok seq
 
--- what is judged well stays so, if the sequence isn't back
+-- a valid batch stays valid, if the sequence number isn't back
 still_tested : (some back less_back large : Bool) (last less seq : ℕ) (go : ℕ → Result (List Write) BatchError) (ws : List Write) → (less_back ≡ true → back ≡ true) →
     (tested some back large last seq >>= go) ≡ Ok ws → (tested some less_back large less seq >>= go) ≡ Ok ws
 still_tested false back less_back large last less seq go ws up e = e

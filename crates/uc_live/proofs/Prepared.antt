@@ -11,7 +11,7 @@ use Rattle.uc_memtable.specs.Gathering.{Gathered}
 abbrev pub with_more : Gathered → List Write → Gathered
 with_more g ws = record g { waiting = g.waiting ++ ws }
 
--- Some writes were prepared, and the rest rises behind them.
+-- Some writes were prepared, and the rest rises after them.
 abbrev pub HasPrepared : Gathered → Gathered → List Write → List Write → List Write → Type 0
 HasPrepared start now writes done rest =
     (now ≡ with_more start done) × (writes ≡ done ++ rest) × IsRising (last_of 0 (now.shown ++ now.waiting)) rest × (memtable_size (now.shown ++ now.waiting) < 2 ^ 64 - 1)
@@ -20,7 +20,7 @@ pub none_prepared : (start : Gathered) (writes : List Write) → IsRising (last_
 none_prepared start writes rising small = (ap (λ (ws : List Write). record start { waiting = ws }) (sym (append-nil start.waiting)), refl, rising, small)
 
 module _ (start now : Gathered) (writes done rest : List Write) (has : HasPrepared start now writes done rest) (w : Write) (later : List Write) (next : rest ≡ w ∷ later) where
-  -- the next one comes behind those before it
+  -- the next one comes after those before it
   pub comes_next : IsRising (last_of 0 (now.shown ++ now.waiting)) (w ∷ later)
   comes_next = subst (λ (ws : List Write). IsRising (last_of 0 (now.shown ++ now.waiting)) ws) next has.2
 

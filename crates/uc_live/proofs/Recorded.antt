@@ -12,12 +12,12 @@ use Rattle.uc_batch.proofs.Rises.{last_of-append}
 abbrev pub whole : List Write → Batches
 whole writes = record { writes = writes; refused = None }
 
--- the text of one payload
+-- the bytes of one payload
 pub text_of_one : (offset : ℕ) (payload : List ℕ) → text_from offset (payload ∷ []) ≡ payload_text offset payload
 unfolding text_from
 text_of_one offset payload = append-nil (payload_text offset payload)
 
--- what is added behind a batch and those after it is added behind those after it
+-- a payload that is added after a batch and its followers is added after the followers
 push_behind : (go more : ℕ → Batches) (payload : List ℕ) (ws : List Write) (last number : ℕ) (read : Result (List Write) BatchError)
     → ((used : ℕ) → (go used).refused ≡ None → batch_of (last_of used (go used).writes) payload ≡ Ok ws → more used ≡ whole ((go used).writes ++ ws))
     → (after_batch go last number read).refused ≡ None → batch_of (last_of last (after_batch go last number read).writes) payload ≡ Ok ws
@@ -30,7 +30,7 @@ push_behind go more payload ws last number (Ok first) behind none e =
     ∙ ap whole (sym (append_assoc first others ws))
 push_behind go more payload ws last number (Err fault) behind none e = absurd cc
 
--- a payload behind those that are read, if it is a batch behind their last sequence
+-- a payload after those that are read, if it is a batch after their last sequence number
 pub batches_push : (payloads : List (List ℕ)) (payload : List ℕ) (ws : List Write) (last number : ℕ)
     → (batches_of last number payloads).refused ≡ None → batch_of (last_of last (batches_of last number payloads).writes) payload ≡ Ok ws
     → batches_of last number (payloads ++ payload ∷ []) ≡ whole ((batches_of last number payloads).writes ++ ws)

@@ -11,7 +11,7 @@ use Rattle.uc_live.specs.LiveFlushes.{FillFewer, HasRoom, HadRoom}
 use Rattle.uc_live.specs.Lives.{Live, committed}
 use Rattle.uc_live.proofs.Taken.{some_room}
 
--- what waits is taken behind what was gathered
+-- prepared writes are taken after those in memtables
 pub took_room : (mid new : Live) (ws : List Write) → HasRoom mid → mid.prepared ≡ ws → new ≡ committed mid → HadRoom new ws
 took_room mid new ws room waits is = subst (λ (l : Live). HadRoom l ws) (sym is) (mid.gathered, ap (λ (us : List Write). mid.gathered ++ us) waits, room)
 

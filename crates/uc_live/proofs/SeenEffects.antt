@@ -1,4 +1,4 @@
--- What the effect of writes tells of them: whether a read sees one, and whether it sees one that overwrites the key.
+-- Facts that follow from the effect of writes: whether a read sees one, and whether it sees one that overwrites the key.
 use Rattle.std.proofs.Common.{◌≡◌, ℕ, ◌≤◌, Bool, true, false, cond, ◌&&◌, List, [], ◌∷◌, Option, fold, filter, map, length, get_or, take, ◌+◌, ◌<◌, refl, sym, ap, ◌∙◌}
 use Rattle.std.specs.Prelude.{◌||◌, ◌↔◌, IsTrue}
 use Rattle.std.specs.List.{list_any}
@@ -36,7 +36,7 @@ or_comm true b = sym (or_all b)
 or_comm false b = sym (or_none b)
 
 module _ (m : Operation) where
-  -- a write behind others changes something, and overwrites what they did or leaves it to them
+  -- a write after others changes something, and overwrites their effect or keeps it
   changes_then : (e : Effect) (op : Op) → changes (composed m e (effect_of op)) ≡ true
   changes_then e (Put named value) = refl
   changes_then e (Delete named) = refl
@@ -105,7 +105,7 @@ module _ {X : Type 0} (run_of : X → Contents) (key : List ℕ) (at : ℕ) wher
   abbrev pub is_seen_in : X → Bool
   is_seen_in x = is_seen_among (plain_list (run_of x)) key at
 
-  -- the effect of a run tells it
+  -- the effect of a run shows it
   pub told_of_run : (m : Operation) (x : X) (run : Contents) (e : Effect) (told : Bool) → run ≡ run_of x → e ≡ effect_on m (plain_list run) key at → told ≡ changes e → told ≡ is_seen_in x
   told_of_run m x run e told same found is =
       is

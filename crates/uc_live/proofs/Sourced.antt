@@ -1,4 +1,4 @@
--- What a place where a lookup is answered tells of the writes.
+-- Facts about the writes that follow from the source of a lookup.
 use Rattle.std.proofs.Common.{◌≡◌, ◌≢◌, ℕ, ◌≤◌, Bool, true, false, cond, ◌&&◌, leb, List, [], ◌∷◌, filter, map, refl, sym, ap, ◌∙◌}
 use Rattle.std.specs.Prelude.{◌||◌, ◌↔◌, IsTrue, IsPermutation, if◌then◌else◌}
 use Rattle.std.specs.List.{AllByRecursion, list_any, flat_map}
@@ -20,7 +20,7 @@ use Rattle.uc_live.specs.Views.{Seen, last}
 use Rattle.uc_live.specs.declared.lookup_source.LookupSource.{LookupSource}
 use Rattle.uc_live.specs.declared.lookup_source.LookupSource.TheVariants.{Memtable, Filters, Runs}
 
--- where it is answered, by whether the gathered writes decide and whether the runs have one
+-- the source of an answer, by whether the writes in memtables decide and whether the runs have one
 abbrev pub source_by : Bool → Bool → LookupSource
 source_by decided seen = if decided then Memtable else if seen then Runs else Filters
 
@@ -39,7 +39,7 @@ runs_see_one true seen from = absurd cc
 runs_see_one false true from = refl
 runs_see_one false false from = absurd cc
 
--- what was found tells it
+-- the result of the lookup shows it
 module _ (s : Seen) (key sought : List ℕ) (at : ℕ) (same : sought ≡ key) (now : at ≡ last s) where
   decided_now : (decided : Bool) → decided ≡ is_decided_by s.gathered sought at → decided ≡ is_decided_by s.gathered key (last s)
   decided_now decided is =

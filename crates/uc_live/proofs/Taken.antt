@@ -1,4 +1,4 @@
--- What a live store has taken, and what it answers.
+-- The writes that a live store has taken, and its answers.
 use Rattle.std.proofs.Common.{◌≡◌, ℕ, ◌+◌, ◌*◌, ◌<◌, ◌≤◌, Bool, true, false, ◌&&◌, List, [], ◌∷◌, ◌++◌, length, take, fold, Option, ◌⊎◌, append_assoc, refl, sym, ap, ◌∙◌, subst, arith}
 use Rattle.std.specs.Prelude.{Contains, if◌then◌else◌, nat_le, count_by, reverse}
 use Rattle.std.specs.List.{flat_map}
@@ -61,7 +61,7 @@ version_options_good o good =
     others_good (nat_le 1 s.memtable) (nat_le 1 s.trigger) (nat_le 2 s.least) (nat_le s.least s.greatest) (nat_le 1 s.first_id) (nat_le s.first_id GREATEST_FIRST_ID)
     (nat_le s.trigger o.stop_trigger && (nat_le o.stop_trigger GREATEST_STOP && nat_le 1 o.max_write_buffer_number)) good
 
--- a store gathers at least a byte, and a range deletion
+-- memtables hold at least a byte, and a range deletion
 pub some_room : (o : LiveOptions) → are_good o ≡ true →
     (memtable_size [] < o.store.memtable * o.max_write_buffer_number) × (count_by deletes_range [] < MOST_RANGES * o.max_write_buffer_number)
 some_room o good =
@@ -88,7 +88,7 @@ created_taken m o good = record {
 }
 
 module _ (m : Operation) where
-  -- ---- a store that goes on
+  -- ---- later states of a store
 
   -- events happened
   pub taken_then : (old new : Live) (before ws : List Write) (events : List Event) → HasTaken m old before → MayFollow m old.version events → new.version ≡ fold after old.version events →

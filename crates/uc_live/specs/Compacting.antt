@@ -15,16 +15,15 @@ use Rattle.uc_live.specs.declared.room_error.RoomError.TheVariants.{IdsSpent, Ru
 abbrev pub next_stretch : Live → Option Stretch
 next_stretch l = jobs.next_stretch (owner_in l)
 
--- The picked stretch was compacted and installed, which is an event that may happen, and claims behind it moved up; or
--- nothing was picked, and nothing changed.
+-- The picked stretch was compacted and installed, which is an event that may happen, and claims after it moved up; or nothing was
+-- picked, and nothing changed.
 abbrev pub IsCompacted : Operation → Option Stretch → Bool → Live → Live → Type 0
 IsCompacted m None compacted old new = (compacted ≡ false) × (new ≡ old)
 IsCompacted m (Some s) compacted old new =
     (compacted ≡ true) × MayInstall m old.version (install_at m old.version s)
     × (new ≡ record old { version = installed (install_at m old.version s) old.version; claims = map (moved_up s.first s.count) old.claims })
 
--- Why there is no room for a run more: no id is left for it; no slot is free, and some runs are claimed; or memory ran
--- out.
+-- Why a run can't be added: no id is left for it; no slot is free, and some runs are claimed; or allocation failed.
 abbrev pub HasNoRoom : RoomError → Live → Type 0
 HasNoRoom IdsSpent l = IdLeft l.version → ⊥
 HasNoRoom RunsClaimed l = (MOST_SLOTS ≤ length l.version.runs) × (has_claims l ≡ true)

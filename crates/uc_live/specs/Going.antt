@@ -1,4 +1,4 @@
--- How a live store goes on.
+-- Later states of a live store.
 use Rattle.std.specs.Prelude.{◌≡◌, ◌⊎◌, true, List, ◌++◌, None, fold}
 use Rattle.std.specs.List.{flat_map}
 use Rattle.uc_bytes.specs.declared.write.Write.{Write}
@@ -11,8 +11,8 @@ use Rattle.uc_version.specs.Claiming.{Claim, is_held}
 use Rattle.uc_version.specs.Installing.{claimed_runs}
 use Rattle.uc_live.specs.Lives.{Live, owner_in, has_claims}
 
--- Events happened to a version, each of which might happen, and none of them was a snapshot that comes or goes. What
--- was gathered before it, and then `ws`, is what they brought, and then what is gathered now.
+-- Events happened to a version, each of which was allowed, and none of them took or released a snapshot. The writes in memtables
+-- before, followed by `ws`, are those that the events brought, followed by those in memtables now.
 pub record Follows (m : Operation) (v v' : Stored) (gathered gathered' ws : List Write) : Type 0 where
   pub events : List Event
   pub follow : MayFollow m v events
@@ -24,15 +24,15 @@ pub record Follows (m : Operation) (v v' : Stored) (gathered gathered' ws : List
 abbrev pub HoldsOn : Owner → Owner → Type 0
 HoldsOn o p = (c : Claim) → is_held o c ≡ true → (is_held p c ≡ true) × (claimed_runs p c ≡ claimed_runs o c)
 
--- A flush job that was out still is, and what was gathered stays so, before what came; or its writes became a run, and it
--- is out no more. None comes.
+-- A pending flush job still is, and its writes stay in memtables, before newer ones; or its writes became a run, and it is no
+-- longer pending. No new one is taken.
 abbrev pub LetsLeave : Live → Live → Type 0
 LetsLeave old new =
     (new.flushes ≡ old.flushes)
     × (((new.leaving ≡ old.leaving) × ((more : List Write) × (new.gathered ≡ old.gathered ++ more))) ⊎ (new.leaving ≡ None))
 
--- The store took these writes. Meanwhile what was gathered may have become runs, and runs of no claim may have been
--- compacted. Its snapshots and options stay, and so do its claims. None comes.
+-- The store took these writes. Memtables may have been flushed, and runs without a claim may have been compacted. Its snapshots,
+-- options and claims stay, and no claim is added.
 abbrev pub GoesOn : Operation → Live → Live → List Write → Type 0
 GoesOn m old new ws =
     Follows m old.version new.version old.gathered new.gathered ws × (new.snapshots ≡ old.snapshots) × (new.options ≡ old.options)

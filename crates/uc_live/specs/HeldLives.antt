@@ -25,7 +25,7 @@ pub record IsLive {O : Type 0} (i : Inside O) : Type 0 where
   -- the version never cuts what it is fed
   pub whole : i.owned.version.limit ≡ 2 ^ 64 - 1
   pub small : memtable_size (i.active.shown ++ i.active.waiting) < 2 ^ 64 - 1
-  -- what is gathered and prepared lies behind the runs
+  -- shown and prepared writes are newer than the runs
   pub rising : IsRising i.owned.version.last (i.active.shown ++ i.active.waiting)
   -- what leaves is set apart
   pub leaves : IfSome i.leaving (λ n. i.active.apart ≡ n)

@@ -10,7 +10,7 @@ abbrev pub seen : {O : Type 0} → Inside O → Seen
 seen i = let parts = arc_value i.parts in record { version = parts.version; gathered = parts.gathered.shown }
 
 pub record IsSeen {O : Type 0} (i : Inside O) : Type 0 where
-  -- what is gathered lies behind the runs
+  -- writes in memtables are newer than the runs
   pub rising : IsRising (arc_value i.parts).version.last (arc_value i.parts).gathered.shown
   -- what was sorted is its run
   pub sorted_is : IfSome i.sorted (λ run. ((arc_value i.parts).gathered.shown ≢ []) × (arc_value run ≡ flushed (arc_value i.parts).gathered.shown))

@@ -19,17 +19,17 @@ use Rattle.uc_live.specs.declared.flush_end.FlushEnd.TheVariants.{Installed, Not
 use Rattle.uc_live.specs.declared.live_options.TheConstants.{MOST_RANGES}
 use Rattle.uc_live.specs.Lives.{Live, owner_in}
 
--- Writes have fewer bytes, and fewer range deletions, than fill the memtables that the store gathers.
+-- Writes have fewer bytes, and fewer range deletions, than fill all memtables of the store.
 abbrev pub FillFewer : Live → List Write → Type 0
 FillFewer l ws =
     (memtable_size ws < l.options.store.memtable * l.options.max_write_buffer_number)
     × (count_by deletes_range ws < MOST_RANGES * l.options.max_write_buffer_number)
 
--- What is gathered does.
+-- The writes in memtables fill fewer memtables than the store may have.
 abbrev pub HasRoom : Live → Type 0
 HasRoom l = FillFewer l l.gathered
 
--- So did what was gathered before the last writes.
+-- So did the writes in memtables before the last writes.
 abbrev pub HadRoom : Live → List Write → Type 0
 HadRoom l ws = (before : List Write) × (l.gathered ≡ before ++ ws) × FillFewer l before
 
@@ -46,31 +46,31 @@ run task = record task { stage = run_stage task.stage }
 abbrev pub ended : FlushTask → FlushTask
 ended task = record task { stage = stages.Ended }
 
--- What was made of the writes is their run, if it was run.
+-- The run that was made is that of the writes, if the job was run.
 abbrev pub IsMadeOf : FlushTask → Option Run → Type 0
 IsMadeOf task None = task.stage ≢ stages.Run
 IsMadeOf task (Some made) = (task.stage ≡ stages.Run) × (made ≡ flushed task.writes)
 
 -- ---- its start
 
--- whether a memtable is full of what is gathered
+-- whether a memtable is full
 abbrev pub is_full : Live → Bool
 is_full l = nat_le l.options.store.memtable (memtable_size l.gathered) || nat_le MOST_RANGES (count_by deletes_range l.gathered)
 
--- Whether a flush job is taken out: what is gathered is full, the store leaves it to such jobs, and none is out. The last
--- number is never given.
+-- Whether a flush job is taken out: a memtable is full, the store leaves flushes to such jobs, and none is pending. The last number
+-- is never given.
 abbrev pub wants_flush : Live → Bool
 wants_flush l =
     is_none l.leaving && (nat_lt 1 l.options.max_write_buffer_number && (nat_lt l.flushes (2 ^ 64 - 1) && is_full l))
 
--- the job of all that is gathered, and the store after it was taken out
+-- the job of all memtables, and the store after it was taken out
 abbrev pub flush_of : Live → FlushTask
 flush_of l = record { number = l.flushes + 1; writes = l.gathered; stage = stages.Taken }
 
 abbrev pub with_flush : Live → Live
 with_flush l = record l { flushes = l.flushes + 1; leaving = Some (length l.gathered) }
 
--- What is gathered is taken out as a job, if that is wanted. If not, nothing changes.
+-- The memtables are taken out as a job, if that is requested. If not, nothing changes.
 abbrev pub StartsFlush : Bool → Option FlushTask → Live → Live → Type 0
 StartsFlush false task old new = (task ≡ None) × (new ≡ old)
 StartsFlush true task old new = (task ≡ Some (flush_of old)) × (new ≡ with_flush old)
@@ -85,11 +85,11 @@ has_flush_out l task = is_some l.leaving && (l.flushes == task.number)
 abbrev pub Begin : List Write → List Write → Type 0
 Begin ws all = (rest : List Write) × (all ≡ ws ++ rest)
 
--- If it is out, it has as many writes as leave, which are the first of those that are gathered.
+-- If it is pending, its writes are those that are set apart, which are the first ones in memtables.
 abbrev pub IsOwnFlush : Live → FlushTask → Type 0
 IsOwnFlush l task = has_flush_out l task ≡ true → (l.leaving ≡ Some (length task.writes)) × Begin task.writes l.gathered
 
--- Why there is no room for its run: no slot is left, or no id, or memory ran out.
+-- Why its run can't be added: no slot is left, or no id, or allocation failed.
 abbrev pub LacksRoom : FeedError → Live → Type 0
 LacksRoom (Back last) l = ⊥
 LacksRoom TooManyRuns l = MOST_SLOTS ≤ length l.version.runs
@@ -105,8 +105,8 @@ with_flushed task l =
     let owner = after_feed task.writes (owner_in l) in
     record l { version = owner.version; claims = owner.claims; gathered = drop (length task.writes) l.gathered; leaving = None }
 
--- What comes of it: its run is installed, and gets the next id; or it wasn't run; or its writes were flushed before; or
--- its run is refused. If it was out, it is out no more.
+-- The result of the job: its run is installed, and gets the next id; or it wasn't run; or its writes were flushed before; or its
+-- run can't be installed. In each case no flush job is pending any more.
 abbrev pub EndsFlush : FlushTask → Live → Live → FlushEnd → Type 0
 EndsFlush task old new (Installed id) =
     (task.stage ≡ stages.Run) × (has_flush_out old task ≡ true) × (feed_refusal old.version task.writes ≡ None)
@@ -118,7 +118,7 @@ EndsFlush task old new (Refused error) =
 
 -- ---- between both
 
--- A flush job is out, and hasn't ended: its writes are the oldest of those that are gathered.
+-- A flush job is pending, and hasn't ended: its writes are the oldest ones in memtables.
 pub record IsFlushOut (task : FlushTask) (l : Live) : Type 0 where
   pub lasts : task.stage ≢ stages.Ended
   pub out : has_flush_out l task ≡ true

@@ -12,7 +12,7 @@ use Rattle.uc_version.specs.Jobs.{Task, IsStarted, HasEnded}
 use Rattle.uc_live.specs.Lives.{Live, owner_in}
 use Rattle.uc_live.specs.Compacting.{next_stretch}
 
--- What is picked next is claimed for a job, and nothing else changes; or nothing is picked.
+-- The stretch that is picked next is claimed for a job, and nothing else changes; or nothing is picked.
 abbrev pub StartsJob : Option Task → Live → Live → Type 0
 StartsJob job old new = IsStarted (next_stretch old) job (owner_in old) (owner_in new) × (new ≡ record old { claims = new.claims })
 

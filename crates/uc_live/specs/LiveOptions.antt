@@ -5,8 +5,8 @@ use Rattle.uc_version_state.specs.Options as store
 use Rattle.uc_live.specs.declared.live_options.LiveOptions.{LiveOptions}
 use Rattle.uc_live.specs.declared.live_options.TheConstants.{GREATEST_STOP}
 
--- those of its runs are good, writes stop at a number of runs that lies between the trigger and one below the slots, and
--- it gathers a memtable
+-- those of its runs are valid, writes stop at a number of runs that is between the trigger and one below the slots, and it may have
+-- a memtable
 abbrev pub are_good : LiveOptions → Bool
 are_good o =
     store.are_good o.store

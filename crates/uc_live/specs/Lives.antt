@@ -1,4 +1,4 @@
--- A store that is written to: a version, and the writes that are gathered before it.
+-- A store that is written to: a version, and the writes in memtables, which are newer.
 use Rattle.std.specs.Prelude.{ℕ, Bool, List, [], ◌++◌, Option, None, is_some}
 use Rattle.std.specs.List.{list_any}
 use Rattle.uc_bytes.specs.declared.write.Write.{Write}
@@ -11,10 +11,10 @@ use Rattle.uc_version.specs.Owners.{Owner, unclaimed}
 use Rattle.uc_live.specs.declared.live_options.LiveOptions.{LiveOptions}
 use Rattle.uc_live.specs.LiveOptions.{version_options}
 
--- a version; the writes that no run has yet, oldest first; those of a batch that is prepared, which no read sees; the
--- sequence of each snapshot that was taken and not released, oldest first; for each number the claim that has it, if one
--- is held: a job is out for each; how many flush jobs were taken out, and how many of the gathered writes the last one
--- has, the oldest, while it is out; and how it is kept
+-- a version; the writes that no run has yet, oldest first; those of a prepared batch, which no read sees; the sequence number of
+-- each snapshot that was taken and not released, oldest first; for each number the claim that has it, if one is held: a job is
+-- pending for each; the number of flush jobs that were taken out, and the number of writes that the last one has, the oldest in
+-- memtables, while it is pending; and its options
 pub record Live : Type 0 where
   pub version : Stored
   pub gathered : List Write
@@ -33,7 +33,7 @@ owner_in l = record { version = l.version; options = l.options.store; claims = l
 abbrev pub has_claims : Live → Bool
 has_claims l = list_any is_some l.claims
 
--- its plain writes: those of its runs, and those that are gathered
+-- its plain writes: those of its runs, and those in memtables
 abbrev pub writes_of : Live → List Write
 writes_of l = writes_in l.version ++ l.gathered
 

@@ -1,4 +1,4 @@
--- What is appended to a write-ahead log for a batch.
+-- The bytes that are appended to a write-ahead log for a batch.
 use Rattle.std.specs.Prelude.{◌≡◌, ℕ, ◌+◌, List, ◌++◌, length, None, Result, Ok}
 use Rattle.uc_bytes.specs.declared.write.Write.{Write}
 use Rattle.uc_logrec.specs.Log.{payload_text}
@@ -24,8 +24,7 @@ pub record HasBatches (log : List ℕ) (offset : ℕ) (writes : List Write) : Ty
   pub walked : Walks log payloads offset
   pub read : batches_of 0 1 payloads ≡ record { writes = writes; refused = None }
 
--- Cut at the offset and continued by the bytes, the log has these writes and those, and ends clean. It goes on behind
--- the bytes.
+-- Cut at the offset and continued by the bytes, the log has these writes and those, and ends clean. It continues after the bytes.
 pub record IsRecovered (log : List ℕ) (offset : ℕ) (bytes : List ℕ) (writes more : List Write) : Type 0 where
   pub all : log_writes (cut_and_added log offset bytes) ≡ record { list = writes ++ more; ended = Clean }
   pub goes_on : HasBatches (cut_and_added log offset bytes) (offset + length bytes) (writes ++ more)

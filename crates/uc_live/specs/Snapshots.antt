@@ -10,7 +10,7 @@ use Rattle.uc_live.specs.Going.{GoesOn}
 abbrev pub with_snapshot : Live → Live
 with_snapshot l = record l { version = kept l.version; snapshots = l.snapshots ++ l.version.last ∷ [] }
 
--- What is gathered becomes a run, and then the last sequence is a snapshot.
+-- The memtables are flushed, and then the last sequence number is a snapshot.
 pub record TakesSnapshot (m : Operation) (old new : Live) (seq : ℕ) : Type 0 where
   pub flushed : Live
   pub goes_on : GoesOn m old flushed []

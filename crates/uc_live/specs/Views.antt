@@ -1,4 +1,4 @@
--- What a live store holds at a moment.
+-- The contents of a live store at one point in time.
 use Rattle.std.specs.Prelude.{ℕ, List, ◌++◌}
 use Rattle.uc_bytes.specs.declared.write.Write.{Write}
 use Rattle.uc_batch.specs.Rising.{last_of}
@@ -14,7 +14,7 @@ pub record Seen : Type 0 where
 abbrev pub seen_in : Live → Seen
 seen_in l = record { version = l.version; gathered = l.gathered }
 
--- its plain writes: those of the runs, and those that are gathered
+-- its plain writes: those of the runs, and those in memtables
 abbrev pub writes_of : Seen → List Write
 writes_of s = writes_in s.version ++ s.gathered
 

@@ -22,11 +22,11 @@ Prepares m old new ws = GoesOn m old new [] × (new.prepared ≡ ws)
 
 -- ---- one operation
 
--- the write of an operation: it has the sequence behind the last one
+-- the write of an operation: it has the sequence number after the last one
 abbrev pub next_write : Live → Op → List Write
 next_write l op = record { seq = last l + 1; op = op } ∷ []
 
--- The operation waits, behind fewer writes than fill the memtables.
+-- The operation is prepared, while fewer writes than fill the memtables are shown.
 pub record IsPrepared (m : Operation) (op : Op) (old new : Live) : Type 0 where
   pub fits : FitsOp op
   pub left : last old + 1 < 2 ^ 56
@@ -58,7 +58,7 @@ with_sequence seq bytes = to_le_bytes w64 seq ++ drop 8 bytes
 abbrev pub is_unnumbered : List ℕ → Bool
 is_unnumbered bytes = list_all (λ byte. byte == 0) (take 8 bytes)
 
--- the bytes of a batch that comes next: with its own sequence, or that behind the last one
+-- the bytes of a batch that comes next: with its own sequence number, or the one after the last one
 abbrev pub numbered : ℕ → List ℕ → List ℕ
 numbered last bytes = if is_unnumbered bytes then with_sequence (last + 1) bytes else bytes
 
@@ -66,7 +66,7 @@ numbered last bytes = if is_unnumbered bytes then with_sequence (last + 1) bytes
 abbrev pub next_batch : ℕ → List ℕ → Result (List Write) BatchError
 next_batch last bytes = batch_of last (numbered last bytes)
 
--- The writes of a batch that is read so wait, behind fewer than fill the memtables.
+-- The writes of the batch are prepared, while fewer than fill the memtables are shown.
 pub record IsPreparedAs (m : Operation) (read : Result (List Write) BatchError) (old new : Live) : Type 0 where
   pub writes : List Write
   pub is : read ≡ Ok writes

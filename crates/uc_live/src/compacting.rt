@@ -15,9 +15,9 @@ use uc_version::{
 use uc_version_state::something_is_picked_above_the_trigger;
 
 impl<O: Operator> LiveStore<O> {
-    /// Compacts the stretch of runs that is picked next, if there is one (RocksDB wiki, "Universal Compaction"), and
-    /// installs the result. Returns whether there was one: call it until it says no. The calling thread does all of it.
-    /// It is refused if no id is left for the new run, and for want of memory. The store is as it was then.
+    /// Compacts the stretch of runs that is picked next, if there is one (RocksDB wiki, "Universal Compaction"), and installs the
+    /// result. Returns whether there was one: call it until it returns `false`. The calling thread does all the work. Fails if run
+    /// IDs are exhausted, or if allocation fails, and then leaves the store unchanged.
     pub fn compact_once(&mut self, alloc: Global) -> Result<bool, RoomError>
         ensures ok { IfOk result (λ compacted.
             IsCompacted O.meaning (next_stretch self.old) compacted self.old self.new) }

@@ -7,10 +7,10 @@ use uc_version::FeedError;
 pub enum FlushEnd {
     /// Its run was installed, with this id.
     Installed(u64),
-    /// It wasn't run. What it has is still gathered.
+    /// It wasn't run. Its writes are still in memtables.
     NotRun,
     /// Its writes were flushed before it came back.
     FlushedBefore,
-    /// Its run was refused: no slot or no id is free, or memory ran out. What it has is still gathered.
+    /// Its run couldn't be installed: no slot or no id is free, or allocation failed. Its writes are still in memtables.
     Refused(FeedError),
 }

@@ -23,13 +23,13 @@ enum Progress {
     Ended(Option<Arc<Run>>),
 }
 
-/// A flush that is done away from its store, by any thread: shares of memtables, which it makes a run of. The owner takes
-/// it out by [`LiveStore::start_flush`](crate::LiveStore::start_flush) and puts it back by
-/// [`LiveStore::end_flush`](crate::LiveStore::end_flush). If it is dropped before, its store flushes the writes itself
-/// once too much is gathered, and takes no flush job out before that.
+/// A flush that any thread runs away from its store, over shared memtables. The owner takes it out by
+/// [`LiveStore::start_flush`](crate::LiveStore::start_flush) and puts it back by
+/// [`LiveStore::end_flush`](crate::LiveStore::end_flush). If it is dropped before, its store flushes the writes itself once the
+/// memtables are full, and starts no flush job before that.
 ///
-/// It keeps its shares of the memtables and of its run until it is dropped, also when it has ended. So what nobody else
-/// shares is freed where it is dropped, and not by its owner.
+/// It keeps its references to the memtables and to its run until it is dropped, even when it has ended. So memory that nobody else
+/// shares is freed where the job is dropped, and not by the owner.
 pub struct FlushJob {
     number: u64,
     memtables: FlushableMemtables,

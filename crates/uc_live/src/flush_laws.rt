@@ -18,9 +18,9 @@ use uc_oper::Operator;
 use uc_version::claims_keep_their_runs;
 use uc_version_state::no_refusal_is_leave_to_feed;
 
-/// A flush job that was started is out until it is ended, whatever is written, committed, compacted or released meanwhile, and
-/// whatever jobs are started or ended: its writes stay the oldest that are gathered. Or the store flushed them itself, and
-/// then it is spent. No other flush job is out beside it.
+/// A flush job that was started is pending until it is ended, whatever is written, committed, compacted or released since, and
+/// whatever jobs are started or ended: its writes stay the oldest ones in memtables. Or the store flushed them itself, and then the
+/// job is spent. No other flush job is pending with it.
 pub fn flushes_go_in<O: Operator>()
     ensures started { (old new : Live) (job : FlushTask) → StartsFlush (wants_flush old) (Some job) old new → IsFlushOut job new }
     ensures alone { (old new : Live) (job : FlushTask) → StartsFlush (wants_flush old) (Some job) old new → old.leaving ≡ None }

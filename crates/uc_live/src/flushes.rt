@@ -13,7 +13,7 @@ use uc_oper::Operator;
 use uc_version_state::small_writes_fill_one_memtable;
 
 impl<O: Operator> LiveStore<O> {
-    /// Whether a memtable is full of what is gathered.
+    /// Whether a memtable is full.
     fn is_full(&self) -> bool
         ensures { result ≡ flushes.is_full self.now }
     {
@@ -30,10 +30,9 @@ impl<O: Operator> LiveStore<O> {
             && self.is_full()
     }
 
-    /// Takes the flush of all that is gathered out of the store as a job, which any thread runs: if a memtable is full, if
-    /// the store gathers more than one, and if no flush job is out. It copies no text but those of a batch that is
-    /// prepared. Until the job is ended, what it has is read in the memtables, and the store goes on in all else. An
-    /// `Err` changes nothing.
+    /// Takes the flush of all memtables out of the store as a job, which any thread runs: if a memtable is full, if the store has
+    /// more than one, and if no flush job is pending. It copies no key or value except those of a prepared batch. Until the job
+    /// ends, its writes are read in the memtables, and the store takes all other calls. An `Err` changes nothing.
     pub fn start_flush(&mut self, alloc: Global) -> Result<Option<FlushJob>, AllocError>
         ensures ok { IfOk result (λ job. StartsFlush (flushes.wants_flush self.old) job self.old self.new) }
         ensures err { OnErr result (self.new ≡ self.old) }
@@ -54,12 +53,12 @@ impl<O: Operator> LiveStore<O> {
         self.leaving.is_some() && self.flushes == job.number()
     }
 
-    /// Ends a flush job that was taken out of this store: installs its run, if it was run, and forgets its memtables. It
-    /// sorts and copies no text. The job keeps its shares of the memtables and of its run until it is dropped, which any
-    /// thread does.
+    /// Ends a flush job that was taken out of this store: installs its run, if it was run, and drops its memtables from the store.
+    /// It sorts nothing and copies no key or value. The job keeps its references to the memtables and to its run until it is
+    /// dropped, which any thread may do.
     ///
-    /// If its writes were flushed since, they are in already, and nothing changes. Else a job that was run is refused
-    /// only if no slot or no id is left, and for want of memory. Then its writes are still gathered, for another job.
+    /// If its writes have been flushed since, nothing changes. Otherwise a job that was run fails only if no slot or no id is left,
+    /// or if allocation fails. Its writes then stay in the memtables, for another job.
     pub fn end_flush(&mut self, alloc: Global, job: &mut FlushJob) -> FlushEnd
         requires out { job.old.stage ≢ Ended }
         requires own { IsOwnFlush self.old job.old }

@@ -1,4 +1,4 @@
-//! Flushes: gathered writes become a run.
+//! Flushes: writes in memtables become a run.
 ghost use Rattle.std.specs.Prelude.{◌≡◌, ◌≢◌, ◌<◌, ◌⊎◌, [], Some, None, false, OnOk, IfErr, length};
 ghost use Rattle.uc_batch.specs.Rising.{IsRising};
 ghost use Rattle.uc_claims.specs.declared.table.TheConstants.{MOST_SLOTS};
@@ -20,7 +20,7 @@ use uc_oper::Operator;
 use uc_version::{FeedError, Owned, claims_keep_their_runs};
 use uc_version_state::{no_refusal_is_leave_to_feed, small_writes_fill_one_memtable};
 
-/// Feeds an owner what is gathered, as one run. If some of it is frozen, it costs a copy of all. An `Err` changes
+/// Feeds the writes in memtables to an owner, as one run. If some of them are frozen, it costs a copy of all. An `Err` changes
 /// nothing.
 fn feed_gathered<O: Operator>(
     owned: &mut Owned<O>,
@@ -45,7 +45,7 @@ fn feed_gathered<O: Operator>(
 }
 
 impl<O: Operator> LiveStore<O> {
-    /// Makes a run of what is gathered, and begins anew with memtables without writes. An `Err` changes nothing.
+    /// Flushes the memtables, and begins with empty ones. An `Err` changes nothing.
     fn flush_active(&mut self, alloc: Global) -> Result<(), RoomError>
         requires some { self.old.gathered ≢ [] }
         requires none { self.old.prepared ≡ [] }
@@ -74,7 +74,7 @@ impl<O: Operator> LiveStore<O> {
         }
     }
 
-    /// Whether as many memtables are full as it gathers, so that no write more is taken.
+    /// Whether as many memtables are full as the store may have, so that no more writes are taken.
     pub(crate) fn is_crowded(&self) -> bool
         ensures { result ≡ false → HasRoom self.now }
     {
@@ -83,11 +83,11 @@ impl<O: Operator> LiveStore<O> {
             || self.active.ranges() as u64 >= MOST_RANGES as u64 * most
     }
 
-    /// Makes a run of what is gathered. From `stop_trigger` runs on it compacts first, and if the options say so, it
-    /// compacts after that while something is picked. A batch that is prepared is given up.
+    /// Flushes the memtables. Compacts first if there are `stop_trigger` runs or more. Then, if the options say so, compacts while
+    /// anything is picked. A prepared batch is discarded.
     ///
-    /// It is refused if no id is left for a run, if no slot is free for one and jobs have the runs that would be
-    /// compacted, and for want of memory. What is gathered stays so then, and no read changes.
+    /// Fails if run IDs are exhausted, if no slot is free for a run and jobs have the runs that would be compacted, or if
+    /// allocation fails. The memtables then stay, and no read changes.
     pub fn flush(&mut self, alloc: Global) -> Result<(), RoomError>
         ensures prepares { Prepares O.meaning self.old self.new [] }
         ensures all { OnOk result (self.new.gathered ≡ []) }
@@ -105,8 +105,8 @@ impl<O: Operator> LiveStore<O> {
         Ok(())
     }
 
-    /// Flushes if more than this many writes are gathered and no batch is prepared, so that a scan has no more to sort.
-    /// Want of memory or of ids leaves them gathered.
+    /// Flushes if memtables hold more than this many writes and no batch is prepared, so that a scan has no more to sort. If
+    /// allocation fails or run IDs are exhausted, they stay in memtables.
     pub fn settle(&mut self, alloc: Global, most: usize)
         ensures { Prepares O.meaning self.old self.new self.old.prepared }
     {

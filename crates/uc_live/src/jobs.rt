@@ -12,9 +12,8 @@ use uc_oper::Operator;
 use uc_version::{Job, JobEnd};
 
 impl<O: Operator> LiveStore<O> {
-    /// Takes the compaction of what is picked next, if there is such, out of the store as a job, which any thread runs.
-    /// It copies no run. Until the job is ended, the store doesn't compact its runs, and goes on in all else. An `Err`
-    /// changes nothing.
+    /// Takes the compaction that is picked next, if there is one, out of the store as a job, which any thread runs. It copies no
+    /// run. Until the job ends, the store doesn't compact its runs, and takes all other calls. An `Err` changes nothing.
     pub fn start_job(&mut self, alloc: Global) -> Result<Option<Job<O>>, AllocError>
         ensures ok { IfOk result (λ job. StartsJob job self.old self.new) }
         ensures err { OnErr result (self.new ≡ self.old) }
@@ -29,12 +28,12 @@ impl<O: Operator> LiveStore<O> {
         self.owned.has_out(job)
     }
 
-    /// Ends a job that was taken out of this store: installs its run, if it was run, and gives its claim back in any
-    /// case. It compares no points, copies and frees no run, and doesn't allocate. The job keeps its shares of the runs
-    /// that were replaced until it is dropped, which any thread does.
+    /// Ends a job that was taken out of this store: installs its run, if it was run, and gives its claim back in any case. It
+    /// compares no points, copies and frees no run, and doesn't allocate. The job keeps its references to the replaced runs until
+    /// it is dropped, which any thread may do.
     ///
-    /// A job that was run is refused only if no id is left, whatever was written, flushed, compacted, taken as a
-    /// snapshot or released since.
+    /// A job that was run fails only if run IDs are exhausted, whatever was written, flushed, compacted, taken as a snapshot or
+    /// released since.
     pub fn end_job(&mut self, job: &mut Job<O>) -> JobEnd
         requires out { job.old.stage ≢ Ended }
         requires held { is_held (owner_in self.old) job.old.claim ≡ true }

@@ -1,4 +1,4 @@
-//! Reads at the last sequence, of a version and of the writes that are gathered after it.
+//! Reads at the last sequence number, of a version and of the writes in memtables after it.
 ghost use Rattle.std.specs.Prelude.{◌≡◌, ◌≢◌, ◌++◌, [], reverse, IfOk};
 ghost use Rattle.std.specs.Arc.{arc_value};
 ghost use Rattle.uc_batch.specs.Rising.{IsRising, last_of};
@@ -49,7 +49,7 @@ pub(crate) fn last_value<'a, O: Operator>(
     value_behind::<O>(alloc, version, &key, last, newer)
 }
 
-/// The run of what is gathered. It costs a sort.
+/// The run of the writes in memtables. It costs a sort.
 pub(crate) fn sorted(alloc: Global, gathered: &FlushableMemtables) -> Result<Arc<Run>, AllocError>
     requires { gathered.now.shown ≢ [] }
     ensures { IfOk result (λ run. arc_value run ≡ flushed gathered.now.shown) }
@@ -57,7 +57,7 @@ pub(crate) fn sorted(alloc: Global, gathered: &FlushableMemtables) -> Result<Arc
     Ok(Arc::new(alloc, gathered.to_run(alloc)?)?)
 }
 
-/// The rows of a scan at the last sequence, as [`last_rows`] finds them, with the run of what is gathered.
+/// The rows of a scan at the last sequence number, as [`last_rows`] finds them, with the run of the writes in memtables.
 pub(crate) fn sorted_rows<O: Operator>(
     alloc: Global,
     version: &Version,
@@ -80,9 +80,9 @@ pub(crate) fn sorted_rows<O: Operator>(
     rows_behind::<O>(alloc, newer, version, low, high, gathered.last(), limit)
 }
 
-/// The first rows, at most `limit`, of the keys from `low` to below `high`, or to the last one if `high` is `None`, at
-/// the last sequence. It costs a sort of what is gathered, a search in each run, and then a step in each run for each
-/// key in the range up to the last row's.
+/// The first rows, at most `limit`, of the keys from `low` to below `high`, or to the last one if `high` is `None`, at the last
+/// sequence number. It costs a sort of the writes in memtables, a search in each run, and then a step in each run for each key in
+/// the range up to the last row's.
 pub(crate) fn last_rows<O: Operator>(
     alloc: Global,
     version: &Version,
@@ -103,7 +103,7 @@ pub(crate) fn last_rows<O: Operator>(
     sorted_rows::<O>(alloc, version, gathered, newer, low, high, limit)
 }
 
-/// The rows of a scan against the order of keys, as [`last_rows_back`] finds them, with the run of what is gathered.
+/// The rows of a scan in descending order of key, as [`last_rows_back`] finds them, with the run of the writes in memtables.
 pub(crate) fn sorted_rows_back<O: Operator>(
     alloc: Global,
     version: &Version,

@@ -38,9 +38,8 @@ pub fn created_stores_have_taken_nothing<O: Operator>()
     ensures { (options : OptionsOf) → are_good options ≡ true → HasTaken O.meaning (created options) [] }
 {}
 
-/// A store that goes on has taken the writes from before and those that it took meanwhile. A commit brings the writes that
-/// were prepared. A snapshot that is taken or released brings none, nor does a job that is started or ended, nor a batch that
-/// is given up.
+/// A later store has taken the writes from before and those that it took since. A commit brings the writes that were prepared. A
+/// snapshot that is taken or released brings none, nor does a job that is started or ended, nor a discarded batch.
 pub fn taken_writes_add_up<O: Operator>()
     ensures goes_on { (old new : Live) (before ws : List Write) → HasTaken O.meaning old before → GoesOn O.meaning old new ws →
         HasTaken O.meaning new (before ++ ws) }
@@ -60,9 +59,9 @@ pub fn taken_writes_add_up<O: Operator>()
     installs_are_events::<O>();
 }
 
-/// A job that was started is out until it is ended, whatever is written, committed, flushed, compacted, taken as a snapshot or
-/// released meanwhile, and whatever other jobs are started or ended. While it is out, its store takes it back, and
-/// refuses its run only if no id is left.
+/// A job that was started is pending until it is ended, whatever is written, committed, flushed, compacted, taken as a snapshot or
+/// released since, and whatever other jobs are started or ended. While it is pending, its store takes it back, and its run can't be
+/// installed only if run IDs are exhausted.
 pub fn jobs_go_in<O: Operator>()
     ensures started { (old new : Live) (job : Task) → IsOwner (owner_in old) → StartsJob (Some job) old new →
         IsOut O.meaning job new }
@@ -94,7 +93,7 @@ pub fn jobs_go_in<O: Operator>()
     own_compactions_are_refused_for_ids_alone::<O>();
 }
 
-/// A commit goes on as any write does, and so does a batch that is given up. So what holds of stores that go on holds of them.
+/// A commit continues a store as any write does, and so does discarding a batch. So the laws of continued stores hold of them.
 pub fn commits_go_on<O: Operator>()
     ensures committed { (l : Live) → GoesOn O.meaning l (committed l) l.prepared }
     ensures given_up { (l : Live) → GoesOn O.meaning l (unprepared l) [] }

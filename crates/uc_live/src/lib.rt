@@ -1,30 +1,29 @@
-//! A store that one owner writes to as to a map: single writes are gathered in a memtable, and it compacts by itself.
+//! A store that one owner writes to as to a map: single writes go to a memtable, and it compacts automatically.
 //!
-//! A [`LiveStore`] has a version, and memtables before its runs. A contract sees a [`Live`](specs/Lives.antt):
-//! the version, and the list of the writes that are gathered. Read `specs/Lives.antt` first, then `specs/Going.antt`,
-//! which says how a store goes on, and `live_store.rt`.
+//! A [`LiveStore`] has a version, and memtables before its runs. A contract sees a [`Live`](specs/Lives.antt): the version, and the
+//! list of the writes in memtables. Read `specs/Lives.antt` first, then `specs/Going.antt`, which defines how a store continues,
+//! and `live_store.rt`.
 //!
-//! A write has two steps. [`LiveStore::prepare`] and [`LiveStore::prepare_batch`] judge it, number it and take all
-//! memory that it needs (`preparing.rt`); [`LiveStore::commit`] takes it, and can't fail. Reads only read
-//! (`reading.rt`, `last_reads.rt`): the last sequence needs no snapshot. A full memtable becomes a run when the next
-//! write comes, and then runs are compacted while some are picked (`flushing.rt`, `compacting.rt`). Snapshots are
-//! counted (`snapshots.rt`).
+//! A write has two steps. [`LiveStore::prepare`] and [`LiveStore::prepare_batch`] validate it, number it and take all memory that
+//! it needs (`preparing.rt`); [`LiveStore::commit`] takes it, and can't fail. Reads only read (`reading.rt`, `last_reads.rt`): the
+//! last sequence number needs no snapshot. A full memtable is flushed when the next write comes, and then runs are compacted while
+//! any are picked (`flushing.rt`, `compacting.rt`). Snapshots are counted (`snapshots.rt`).
 //!
-//! A [`View`] is what a store holds at a moment, which other threads read while the store goes on (`view.rt`,
+//! A [`View`] has a store's contents at one point in time, which other threads read while the store is written to (`view.rt`,
 //! `specs/Views.antt`).
 //!
-//! A store and its views say of a key where a lookup is answered: by the memtables, by the filters of the runs, or by the
-//! runs ([`LookupSource`], `specs/Sources.antt`, `source_laws.rt`).
+//! A store and its views return which part answers a lookup of a key: the memtables, the filters of the runs, or the runs
+//! ([`LookupSource`], `specs/Sources.antt`, `source_laws.rt`).
 //!
-//! A program makes it durable by a log in a file: [`LiveStore::prepare_recorded`] gives what it appends before it
+//! A program makes it durable by a log in a file: [`LiveStore::prepare_recorded`] returns the bytes that it appends before it
 //! commits (`recording.rt`, `recorded_laws.rt`).
 //!
-//! A [`Job`] is a compaction that any thread does while the store goes on: the store starts it, and takes it back
-//! (`jobs.rt`, `specs/LiveJobs.antt`). A [`FlushJob`] is a flush of what is gathered that is done so, if the options say that
-//! a full memtable waits for one (`flushes.rt`, `specs/LiveFlushes.antt`).
+//! A [`Job`] is a compaction that any thread runs while the store is used: the store starts it, and takes it back (`jobs.rt`,
+//! `specs/LiveJobs.antt`). A [`FlushJob`] is such a flush of the memtables, if the options say that a full memtable waits for one
+//! (`flushes.rt`, `specs/LiveFlushes.antt`).
 //!
-//! By the laws of `laws.rt` a store answers as one thread that folds all writes it has taken, whatever it flushed and
-//! compacted, and so does a view of it.
+//! By the laws of `laws.rt` a store answers as one thread that folds all writes it has taken, whatever it flushed and compacted,
+//! and so does a view of it.
 //!
 //! Tests: `bindings/rust/ucstore/tests/stories.rs`.
 //!

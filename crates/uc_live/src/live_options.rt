@@ -27,9 +27,8 @@ pub struct LiveOptions {
     /// From how many runs on it compacts before it flushes (`level0_stop_writes_trigger`): no fewer than the store's
     /// `trigger`, and at most [`GREATEST_STOP`].
     pub stop_trigger: u32,
-    /// The most memtables that it gathers (`max_write_buffer_number`), at least 1. With 1, a write that finds the
-    /// memtable full flushes it. With more, it leaves a full one to a flush job, until as many as these are full: then it
-    /// flushes all that is gathered.
+    /// The most memtables (`max_write_buffer_number`), at least 1. With 1, a write that finds the memtable full flushes it. With
+    /// more, it leaves a full one to a flush job, until this many are full: then it flushes all of them.
     pub max_write_buffer_number: u32,
     /// Whether it compacts after each flush while runs are picked. Else its owner does, and the store only from
     /// `stop_trigger` runs on.
@@ -39,8 +38,7 @@ pub struct LiveOptions {
 }
 
 impl LiveOptions {
-    /// The default options: those of [`Options::usual`], stops from 36 runs on, one memtable, and a store that compacts
-    /// by itself.
+    /// The default options: those of [`Options::usual`], stops at 36 runs, one memtable, and automatic compaction.
     pub fn usual() -> LiveOptions
         ensures store { result.store ≡
             record { memtable = 4194304; trigger = 4; ratio = 1; percent = 200; least = 2; greatest = 4294967295; first_id = 1 } }

@@ -1,4 +1,4 @@
-//! [`LiveStore`]: a store with one owner that gathers what is written to it.
+//! [`LiveStore`]: a store with one owner and memtables.
 ghost use Rattle.std.specs.Prelude.{◌≡◌, ◌≢◌, [], true, false, IfOk, IfErr, length};
 ghost use Rattle.uc_batch.specs.Rising.{IsRising};
 ghost use Rattle.uc_version.specs.Owners.{IsOwner};
@@ -19,16 +19,16 @@ use uc_oper::Operator;
 use uc_version::{Owned, Version};
 use uc_version_state::{feeds_and_keeps_give_versions, opening_gives_a_version};
 
-/// A store with one owner that gathers what is written to it in memtables.
+/// A store with one owner that keeps new writes in memtables.
 pub struct LiveStore<O: Operator> {
     pub(crate) owned: Owned<O>,
-    /// The gathered writes, and the prepared ones.
+    /// The writes in memtables, and the prepared ones.
     pub(crate) active: FlushableMemtables,
     /// The sequence of each snapshot, the oldest first, as often as it was taken.
     pub(crate) snapshots: Vec<u64>,
     /// The number of flush jobs that were taken out. Each has the number that this became with it.
     pub(crate) flushes: u64,
-    /// The number of gathered writes that the last flush job has, while it is out. They are set apart.
+    /// The number of writes that the last flush job has, while it is pending. They are set apart.
     pub(crate) leaving: Option<usize>,
     pub(crate) options: LiveOptions,
 }
@@ -70,8 +70,7 @@ fn empty_version(alloc: Global, options: &LiveOptions) -> Version
 }
 
 impl<O: Operator> LiveStore<O> {
-    /// A store without writes and without snapshots. It is refused if an option is out of its range, and for want of
-    /// memory.
+    /// A store without writes and snapshots. Fails if an option is out of range, or if allocation fails.
     pub fn create(alloc: Global, options: LiveOptions) -> Result<LiveStore<O>, LiveOpenError>
         ensures store { IfOk result (λ store. store ≡ created options) }
         ensures good { IfOk result (λ _. live_options.are_good options ≡ true) }
@@ -93,8 +92,8 @@ impl<O: Operator> LiveStore<O> {
         })
     }
 
-    /// The invariant of every live store: its runs and its claims are an owner's, gathered writes come after the runs, and its
-    /// options are good. Proof step: does nothing when it runs.
+    /// The invariant of every live store: its runs and its claims are an owner's, the writes in memtables are newer than the runs,
+    /// and its options are valid. Proof step: does nothing when it runs.
     pub fn recall(&self)
         ensures owner { IsOwner (owner_in self.now) }
         ensures rising { IsRising self.now.version.last self.now.gathered }
@@ -110,7 +109,7 @@ impl<O: Operator> LiveStore<O> {
         self.options.id
     }
 
-    /// Its runs and snapshots. Gathered writes aren't in it.
+    /// Its runs and snapshots, without the writes in memtables.
     pub fn version(&self) -> &Version
         ensures { result.now ≡ self.now.version }
     {
@@ -124,7 +123,7 @@ impl<O: Operator> LiveStore<O> {
         last_sequence(self.owned.version(), &self.active)
     }
 
-    /// The number of gathered writes.
+    /// The number of writes in memtables.
     pub fn gathered(&self) -> usize
         ensures { result ≡ length self.now.gathered }
     {

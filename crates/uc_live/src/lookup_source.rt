@@ -14,13 +14,12 @@ use uc_version::{Placed, Version};
 /// Where a lookup at the last sequence is answered.
 #[derive(Clone, Copy, Debug, PartialEq, Eq)]
 pub enum LookupSource {
-    /// By the memtables: one of the gathered writes puts the key, or deletes it, alone or in a range. No run is asked.
+    /// The memtables: one of their writes puts the key, or deletes it, alone or in a range. No run is searched.
     Memtable,
-    /// By the runs' filters: none of the gathered writes does, and no write of a run touches the key. Of each run the
-    /// lookup asks the filter, and what range deletions it has. A filter that admits the key by chance lets it search the
-    /// run, and find nothing.
+    /// The runs' filters: no write in memtables puts or deletes the key, and no write of a run touches it. The lookup checks each
+    /// run's filter and its range deletions. If a filter admits the key by chance, the lookup searches the run, and finds nothing.
     Filters,
-    /// By the runs: none of the gathered writes does, and a write of a run touches the key.
+    /// The runs: no write in memtables puts or deletes the key, and a write of a run touches it.
     Runs,
 }
 
@@ -31,14 +30,14 @@ fn is_change(alloc: Global, effect: EffectRef<'_>) -> Result<bool, AllocError>
     if effect.is_set() {
         return Ok(true);
     }
-    // It lends no value, so this copies nothing.
+    // It borrows no value, so this copies nothing.
     match effect.into_effect(alloc)? {
         Effect::Keep => Ok(false),
         Effect::Fold(_) | Effect::Set(_) => Ok(true),
     }
 }
 
-/// Whether a read of a key at a sequence sees one of the gathered writes that puts or deletes it.
+/// Whether a read of a key at a sequence number sees a write in memtables that puts or deletes it.
 fn is_decided<O: Operator>(
     alloc: Global,
     gathered: &FlushableMemtables,

@@ -13,7 +13,7 @@ pub enum LiveOpenError {
     /// An option isn't in its range.
     #[error("an option is out of range")]
     BadOption,
-    /// There is no room for it.
+    /// A run can't be added.
     #[error("{0}")]
     NoRoom(RoomError),
 }

@@ -66,10 +66,10 @@ fn read_on<O: Operator>(
 }
 
 impl<O: Operator> LiveStore<O> {
-    /// Opens a store from the bytes of a write-ahead log, as point-in-time recovery does (RocksDB wiki, "WAL Recovery
-    /// Modes"): it has the writes before the log's first fault, and `ended` says whether there was one. It has no
-    /// snapshot. It takes the writes as it takes any, so a log of any length opens. It is refused if an option is out
-    /// of its range, if no id is left for a run, and for want of memory. It goes once over the log.
+    /// Opens a store from the bytes of a write-ahead log, as point-in-time recovery does (RocksDB wiki, "WAL Recovery Modes"): it
+    /// has the writes before the log's first fault, and `ended` says whether there was one. It has no snapshot. Flushes as it
+    /// reads, so a log of any length opens. Fails if an option is out of range, if run IDs are exhausted, or if allocation fails.
+    /// Reads the log once.
     pub fn open(
         alloc: Global,
         log: &[u8],

@@ -22,13 +22,13 @@ use uc_batch::{BatchError, BatchWrites};
 use uc_bytes::{MAX_SEQUENCE, OpKind, OpRef, WriteRef};
 use uc_oper::Operator;
 
-/// A text of a batch is shorter.
+/// Each key and value of a batch is shorter than this.
 const LENGTHS: usize = 1 << 32;
 
 /// The bytes of a batch's sequence.
 const SEQUENCE_SIZE: usize = 8;
 
-/// Whether a batch holds the operation: each of its texts is shorter than 2^32 bytes.
+/// Whether a batch can hold the operation: its key and its value are each shorter than 2^32 bytes.
 fn fits_op(op: &OpRef<'_>) -> bool
     ensures { IsTrue result ↔ FitsOp op.now }
 {
@@ -62,7 +62,7 @@ pub(crate) fn with_sequence(
     Ok(bytes)
 }
 
-/// The error of a batch that isn't read. None is told for want of memory, since nothing is allocated.
+/// The error of a batch that isn't valid. Reading it allocates nothing, so none stands for a failed allocation.
 fn unread(fault: BatchError) -> WriteError
     ensures { (read : Result (List Write) BatchError) (l : Live) → read ≡ Err fault → RefusesBatch read l result }
 {
@@ -74,7 +74,7 @@ fn unread(fault: BatchError) -> WriteError
 }
 
 impl<O: Operator> LiveStore<O> {
-    /// Flushes if as many memtables are full as it gathers. Nothing is prepared then.
+    /// Flushes if as many memtables are full as the store may have. Nothing is prepared then.
     fn make_room(&mut self, alloc: Global) -> Result<(), RoomError>
         requires { self.old.prepared ≡ [] }
         ensures prepares { Prepares O.meaning self.old self.new [] }
@@ -88,12 +88,12 @@ impl<O: Operator> LiveStore<O> {
         Ok(())
     }
 
-    /// Prepares an operation as a batch of its own: it gets the sequence after the last one, and all memory that it
-    /// needs. No read sees it before [`commit`](LiveStore::commit). A batch that was prepared before is given up. If
-    /// as many memtables are full as it gathers, they are flushed first.
+    /// Prepares an operation as its own batch: it gets the sequence number after the last one, and all memory that it needs. No
+    /// read sees it before [`commit`](LiveStore::commit). A batch that was prepared before is discarded. If the store has as many
+    /// full memtables as it may have, they are flushed first.
     ///
-    /// It is refused if no sequence is left, if a text has 2^32 bytes or more, so that no batch holds it, and if there
-    /// is no room for it, as [`RoomError`] says. Nothing is prepared then, and no read changes.
+    /// Fails if no sequence number is left, if a key or value has 2^32 bytes or more, so that no batch holds it, and as
+    /// [`RoomError`] says. Nothing is prepared then, and no read changes.
     pub fn prepare(&mut self, alloc: Global, op: OpRef<'_>) -> Result<(), WriteError>
         ensures ok { OnOk result (IsPrepared O.meaning op.entry self.old self.new) }
         ensures err { IfErr result (λ error. Refuses op.entry self.old self.new error × Prepares O.meaning self.old self.new []) }
@@ -143,14 +143,12 @@ impl<O: Operator> LiveStore<O> {
         Ok(())
     }
 
-    /// Prepares a write batch, given as bytes (RocksDB, `write_batch.cc`): 8 bytes for a sequence, 4 for a count, and
-    /// as many records. The operations get the batch's sequence and those after it, in their order. A batch with the
-    /// sequence 0, as a program that builds one leaves it, gets the sequence after the last one. Else it goes as
-    /// [`prepare`](LiveStore::prepare) does.
+    /// Prepares a write batch, given as bytes (RocksDB, `write_batch.cc`): 8 bytes for a sequence number, 4 for a count, and as
+    /// many records. The operations get the batch's sequence number and those after it, in their order. A batch with the number 0,
+    /// as a program that builds one leaves it, gets the one after the last. All else is as in [`prepare`](LiveStore::prepare).
     ///
-    /// It is refused if the bytes aren't a batch, if its sequence is neither 0 nor above the last one, if too few
-    /// sequences are left, and if there is no room for it, as [`RoomError`] says. Nothing is prepared then, and no read
-    /// changes.
+    /// Fails if the bytes aren't a batch, if its sequence number is neither 0 nor above the last one, if too few sequence numbers
+    /// are left, and as [`RoomError`] says. Nothing is prepared then, and no read changes.
     pub fn prepare_batch(&mut self, alloc: Global, batch: &[u8]) -> Result<(), WriteError>
         ensures ok { OnOk result (IsBatchPrepared O.meaning batch.now self.old self.new) }
         ensures err { IfErr result (λ error.
@@ -172,7 +170,7 @@ impl<O: Operator> LiveStore<O> {
         self.active.commit();
     }
 
-    /// Gives up what is prepared.
+    /// Discards the prepared batch.
     pub fn give_up(&mut self)
         ensures { self.new ≡ lives.unprepared self.old }
     {
@@ -200,10 +198,10 @@ impl<O: Operator> LiveStore<O> {
         Ok(())
     }
 
-    /// Takes the writes of a batch that come after the last sequence, with the sequences that they have. A batch that is
-    /// prepared is given up. Else it goes as [`prepare`](LiveStore::prepare) does.
+    /// Takes the writes of a batch that come after the last sequence number, with their own sequence numbers. A prepared batch is
+    /// discarded. All else is as in [`prepare`](LiveStore::prepare).
     ///
-    /// It is refused if there is no room for them, as [`RoomError`] says. None is taken then, and no read changes.
+    /// Fails as [`RoomError`] says. None is taken then, and no read changes.
     pub fn write_all(&mut self, alloc: Global, writes: BatchWrites<'_>) -> Result<(), RoomError>
         requires rising { IsRising (lives.last self.old) writes }
         ensures ok { OnOk result (GoesOn O.meaning self.old self.new writes.entry) }

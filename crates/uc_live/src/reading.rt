@@ -37,16 +37,16 @@ impl<O: Operator> LiveStore<O> {
         last_value::<O>(alloc, self.owned.version(), &self.active, key)
     }
 
-    /// Where [`get`](LiveStore::get) finds what it answers of a key. It is refused for want of memory, and costs no more than
-    /// the lookup.
+    /// Which part of the store answers [`get`](LiveStore::get) of a key. Fails only if allocation fails, and costs no more than the
+    /// lookup.
     pub fn source(&self, alloc: Global, key: &[u8]) -> Result<LookupSource, AllocError>
         ensures { IfOk result (λ source. source ≡ source_of (seen_in self.now) key.now) }
     {
         last_source::<O>(alloc, self.owned.version(), &self.active, key)
     }
 
-    /// Looks a key up at a sequence. The answer is a value, if the key has one, or `NotProtected` if no snapshot is at
-    /// the sequence. What is gathered lies after each snapshot, so it asks the runs alone.
+    /// Looks up a key at a sequence number. The answer is a value, if the key has one, or `NotProtected` if no snapshot is at that
+    /// number. Writes in memtables are newer than each snapshot, so it searches the runs alone.
     pub fn get_at(&self, alloc: Global, key: &[u8], at: u64) -> Result<Answer, AllocError>
         ensures { IfOk result (λ answer.
             answer ≡ answer_of O.meaning (lives.writes_of self.now) self.now.version.keeps (queries.Get key.now at)) }
@@ -57,9 +57,9 @@ impl<O: Operator> LiveStore<O> {
         get::<O>(alloc, self.owned.version(), key, at)
     }
 
-    /// The first rows, at most `limit`, of the keys from `low` to below `high`, or to the last one if `high` is `None`,
-    /// at the last sequence. It costs a sort of what is gathered, a search in each run, and then a step in each run for
-    /// each key in the range up to the last row's.
+    /// The first rows, at most `limit`, of the keys from `low` to below `high`, or to the last one if `high` is `None`, at the last
+    /// sequence number. It costs a sort of the writes in memtables, a search in each run, and then a step in each run for each key
+    /// in the range up to the last row's.
     pub fn scan(
         &self,
         alloc: Global,
@@ -73,8 +73,8 @@ impl<O: Operator> LiveStore<O> {
         last_rows::<O>(alloc, self.owned.version(), &self.active, low, high, limit)
     }
 
-    /// The answer to a query at a snapshot, or `NotProtected` if no snapshot is at its sequence. What is gathered lies
-    /// after each snapshot, so it asks the runs alone.
+    /// The answer to a query at a snapshot, or `NotProtected` if no snapshot is at its sequence number. Writes in memtables are
+    /// newer than each snapshot, so it searches the runs alone.
     pub fn answer(&self, alloc: Global, query: &Query) -> Result<Answer, AllocError>
         ensures { IfOk result (λ answer.
             answer ≡ answer_of O.meaning (lives.writes_of self.now) self.now.version.keeps query.now) }

@@ -22,9 +22,9 @@ pub fn later_batches_come_after_less()
         batch_of less bytes ≡ Ok writes }
 {}
 
-/// A log begins with batches that end at an offset. Cut there, and continued by the record of a batch, it has the
-/// writes of all of these, and ends clean. Then it goes on in the same way after the record. The store that the batch was
-/// prepared in has the last sequence of the log or a later one, as after a checkpoint, whose rows are numbered anew.
+/// A log begins with batches that end at an offset. Cut there, and continued by the record of a batch, it has the writes of all of
+/// these, and ends clean. It then continues in the same way after the record. The store in which the batch was prepared has the
+/// last sequence number of the log or a later one, as after a checkpoint, whose rows are numbered anew.
 pub fn recorded_batch_is_recovered()
     ensures { (log : List ℕ) (offset last : ℕ) (writes : List Write) (batch bytes : List ℕ) → HasBatches log offset writes →
         last_of 0 writes ≤ last → (recorded : IsRecorded last offset batch bytes) →

@@ -1,4 +1,4 @@
-//! [`RoomError`]: why there is no room for a run more.
+//! [`RoomError`]: why a run can't be added.
 ghost use Rattle.std.specs.Prelude.{◌≡◌};
 ghost use Rattle.uc_live.specs.declared.room_error.RoomError.TheVariants.{Memory};
 

@@ -40,10 +40,10 @@ impl<O: Operator> LiveStore<O> {
         Ok(())
     }
 
-    /// Takes a snapshot (RocksDB wiki, "Snapshot") at the last sequence, and returns that. What is gathered is flushed
-    /// first, as [`flush`](LiveStore::flush) does it. One that is taken twice is released twice.
+    /// Takes a snapshot (RocksDB wiki, "Snapshot") at the last sequence number, and returns that number. The memtables are flushed
+    /// first, as [`flush`](LiveStore::flush) does. A snapshot that is taken twice must be released twice.
     ///
-    /// It is refused as a flush is. No snapshot is there then that wasn't before.
+    /// Fails as a flush does. No snapshot is there then that wasn't before.
     pub fn snapshot(&mut self, alloc: Global) -> Result<u64, RoomError>
         ensures ok { IfOk result (TakesSnapshot O.meaning self.old self.new) }
         ensures err { IfErr result (λ error. HasNoRoom error self.new × Prepares O.meaning self.old self.new []) }
@@ -53,7 +53,7 @@ impl<O: Operator> LiveStore<O> {
         Ok(self.owned.version().last())
     }
 
-    /// Releases a snapshot that was taken at the sequence. It is refused if there is none.
+    /// Releases a snapshot that was taken at the sequence number. Fails if there is none.
     pub fn release(&mut self, seq: u64) -> Result<(), ReleaseError>
         ensures ok { OnOk result (Contains self.old.snapshots seq × (self.new ≡ without_snapshot seq self.old)) }
         ensures err { IfErr result (λ error.

@@ -13,8 +13,8 @@ use uc_model::{effect_continues_value, effect_gives_value, keys_are_touched_by_n
 use uc_oper::Operator;
 use uc_run::plain_list_is_in_order;
 
-/// If the memtables answer, the value is that of the gathered writes, whatever is before them. If the filters answer, it is
-/// that too, and no run has a point of the key. If the runs answer, a lookup sees a write of theirs.
+/// If the memtables answer, the value is that of their writes, whatever is before them. If the filters answer, it is that too, and
+/// no run has a point of the key. If the runs answer, a lookup sees a write of theirs.
 pub fn sources_tell_what_values_come_of<O: Operator>()
     ensures memtable { (s : Seen) (key : List ℕ) (before : List Write) → source_of s key ≡ Memtable →
         value_of O.meaning (before ++ s.gathered) key (views.last s) ≡ value_of O.meaning s.gathered key (views.last s) }

@@ -1,8 +1,8 @@
 //! [`StoreId`]: which store it is.
 ghost use Rattle.std.specs.Prelude.{◌≡◌, ◌↔◌, IsTrue};
 
-/// The id of a store: a number by which its jobs are told from those of others. Who makes stores that exchange
-/// jobs gives each another one; 0 is for those that don't.
+/// The id of a store: a number that distinguishes its jobs from those of others. A program whose stores exchange jobs must give
+/// each a different one; 0 is for stores that don't.
 #[derive(Clone, Copy, Debug, PartialEq, Eq)]
 pub struct StoreId {
     /// The number.

@@ -1,4 +1,4 @@
-//! [`View`]: what a live store holds at a moment.
+//! [`View`]: the contents of a live store at one point in time.
 ghost use Rattle.std.specs.Prelude.{◌≡◌, IfOk, length, reverse};
 ghost use Rattle.uc_batch.specs.Rising.{IsRising};
 ghost use Rattle.uc_model.specs.Meaning.{value_of};
@@ -33,11 +33,11 @@ struct ViewParts {
     gathered: FlushableMemtables,
 }
 
-/// The contents of a live store at a moment. They stay so, whatever is written to the store, flushed and compacted, and also
-/// when the store is dropped. Threads share it: each read only reads.
+/// The contents of a live store at one point in time. They never change, whatever is written to the store, flushed and compacted,
+/// even when the store is dropped. Threads share it: each read only reads.
 pub struct View<O: Operator> {
     parts: Arc<ViewParts>,
-    /// The run of what is gathered, if [`sort`](View::sort) has made it.
+    /// The run of the writes in memtables, if [`sort`](View::sort) has made it.
     sorted: Option<Arc<Run>>,
     operator: PhantomData<O>,
 }
@@ -65,10 +65,10 @@ impl<O: Operator> Drop for View<O> {
 }
 
 impl<O: Operator> LiveStore<O> {
-    /// A view of its contents now. A batch that is prepared isn't in it, and stays prepared. Nothing is flushed. No run is
-    /// copied, and of what is gathered only what [`FlushableMemtables::share`] says.
+    /// A view of the present contents. It doesn't show a prepared batch, which stays prepared. Flushes nothing. Copies no run, and
+    /// of the memtables only what [`FlushableMemtables::share`] says.
     ///
-    /// It is refused for want of memory. It changes nothing.
+    /// Fails only if allocation fails, and changes nothing then.
     pub fn view(&mut self, alloc: Global) -> Result<View<O>, AllocError>
         ensures view { IfOk result (λ view. view ≡ seen_in self.old) }
         ensures same { self.new ≡ self.old }
@@ -85,8 +85,8 @@ impl<O: Operator> LiveStore<O> {
 }
 
 impl<O: Operator> View<O> {
-    /// The view again, for another thread. It shares all parts, and takes no memory. It is refused if 2^63 views of the
-    /// moment are there.
+    /// Another handle to the view, for another thread. It shares all parts, and allocates nothing. Fails if there are 2^63 handles
+    /// already.
     pub fn again(&self) -> Result<View<O>, AllocError>
         ensures { IfOk result (λ again. again ≡ self.now) }
     {
@@ -101,7 +101,7 @@ impl<O: Operator> View<O> {
         })
     }
 
-    /// Sorts what is gathered, once, so that the scans of this view and of those that are made of it don't. No read changes.
+    /// Sorts the writes in memtables, once, so that the scans of this view and of those that are made of it don't. No read changes.
     pub fn sort(&mut self, alloc: Global) -> Result<(), AllocError>
         ensures { self.new ≡ self.old }
     {
@@ -111,7 +111,7 @@ impl<O: Operator> View<O> {
         Ok(())
     }
 
-    /// The runs and snapshots. Gathered writes aren't in it.
+    /// The runs and snapshots, without the writes in memtables.
     pub fn version(&self) -> &Version
         ensures { result.now ≡ self.now.version }
     {
@@ -125,14 +125,14 @@ impl<O: Operator> View<O> {
         last_sequence(&self.parts.version, &self.parts.gathered)
     }
 
-    /// The number of gathered writes.
+    /// The number of writes in memtables.
     pub fn gathered(&self) -> usize
         ensures { result ≡ length self.now.gathered }
     {
         self.parts.gathered.len()
     }
 
-    /// The invariant of every view: gathered writes come after the runs. Proof step: does nothing when it runs.
+    /// The invariant of every view: writes in memtables are newer than the runs. Proof step: does nothing when it runs.
     pub fn recall(&self)
         ensures { IsRising self.now.version.last self.now.gathered }
     {
@@ -178,10 +178,10 @@ impl<O: Operator> View<O> {
         get::<O>(alloc, version, key, at)
     }
 
-    /// The first rows, at most `limit`, of the keys from `low` to below `high`, or to the last one if `high` is `None`,
-    /// at the last sequence.
+    /// The first rows, at most `limit`, of the keys from `low` to below `high`, or to the last one if `high` is `None`, at the last
+    /// sequence number.
     ///
-    /// A scan sorts what is gathered, unless that is [sorted](View::sort).
+    /// A scan sorts the writes in memtables, unless they are [sorted](View::sort).
     pub fn scan(
         &self,
         alloc: Global,
@@ -212,7 +212,7 @@ impl<O: Operator> View<O> {
     }
 
     /// The last rows, at most `limit`, of the keys from `low` to below `high`, or to the last one if `high` is `None`, at the last
-    /// sequence: the greatest key first. It sorts what is gathered as [`scan`](View::scan) does.
+    /// sequence number: the greatest key first. It sorts the writes in memtables as [`scan`](View::scan) does.
     pub fn scan_back(
         &self,
         alloc: Global,

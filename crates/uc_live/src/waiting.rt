@@ -9,7 +9,7 @@ use uc_bytes::WriteRef;
 use uc_memtable::FlushableMemtables;
 use uc_run::op_size;
 
-/// Prepares a write more. It is refused for want of memory, also where all together would have 2^64 bytes, which no
+/// Prepares one more write. Fails only if allocation fails, or if all prepared writes together would have 2^64 bytes, which no
 /// memory holds. An `Err` changes nothing.
 pub(crate) fn prepare_one(
     active: &mut FlushableMemtables,

@@ -17,10 +17,10 @@ pub enum WriteError {
     /// Too few sequences are left: the greatest is 2^56 - 1.
     #[error("too few sequences are left")]
     SequencesSpent,
-    /// A text has 2^32 bytes or more, and so no batch holds it.
+    /// A key or value has 2^32 bytes or more, and so no batch holds it.
     #[error("a text has 2^32 bytes or more")]
     TooLong,
-    /// There is no room for it.
+    /// A run can't be added.
     #[error("{0}")]
     NoRoom(RoomError),
 }

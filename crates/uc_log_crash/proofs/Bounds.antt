@@ -12,6 +12,6 @@ grows n (suc m) k e =
     let all : bound_of n ≤ bound_of (suc (m + n)) = omega (arith, before) in
     subst (λ (j : ℕ). bound_of n ≤ bound_of j) last all
 
--- eight bytes spell a number of 56 bits
+-- eight bytes encode a number of 56 bits
 pub within_eight : (n : ℕ) → n ≤ 8 → bound_of n ≤ 72057594037927936
 within_eight n le = grows n (8 - n) 8 (omega (arith, le))

@@ -1,4 +1,4 @@
--- Reading what is shown of a log, beside a walk through what was written.
+-- Reading the shown bytes of a log, compared with a walk through the written ones.
 use Rattle.std.proofs.Common.{◌≡◌, ℕ, ◌+◌, ◌≤◌, List, [], ◌∷◌, ◌++◌, drop, sym, ap, subst, ◌∙◌, append_assoc, arith}
 use Rattle.std.proofs.lemmas.List.{append-nil, take-append-drop}
 use Rattle.uc_logrec.specs.Walk.{Walks, one_more, cut_and_added}

@@ -1,4 +1,4 @@
--- What the payload at an offset tells, if one lies there.
+-- The contents of the payload at an offset, if there is one.
 use Rattle.std.proofs.Common.{◌≡◌, ◌↔◌, ℕ, ◌<◌, List, [], ◌∷◌, Some, Bool, IsTrue, sym, ap, ◌∙◌, subst}
 use Rattle.uc_logrec.specs.Log.{Reading}
 use Rattle.uc_logrec.specs.Position.{LiesIn}

@@ -1,4 +1,4 @@
--- Marks: a batch tells how far its log was on the device for certain when it was written.
+-- Marks: each batch has the number of bytes of its log that were durable when it was written.
 use Rattle.std.specs.Prelude.{◌≡◌, ◌≤◌, ◌<◌, ℕ, zero, suc, ◌+◌, ◌-◌, ◌*◌, ◌/◌, ◌%◌, List, [], ◌∷◌, ◌++◌, length, take, drop, Option, Some, None, option_map, nat_lt, nat_le, ◌&&◌, ◌==◌, if◌then◌else◌}
 use Rattle.std.specs.Int.{w64, from_le_bytes}
 use Rattle.uc_logrec.specs.Position.{LiesIn}
@@ -10,7 +10,7 @@ number_in (b ∷ rest) =
     if length rest == 0 then (if nat_lt b 128 then Some b else None)
     else (if nat_lt b 128 then None else option_map (λ high. (b - 128) + 128 * high) (number_in rest))
 
--- the bound below which a number of so many bytes lies
+-- the least number that needs more than `count` bytes
 abbrev pub bound_of : ℕ → ℕ
 bound_of zero = 1
 bound_of (suc count) = 128 * bound_of count
@@ -28,7 +28,7 @@ mark_in (tag ∷ size ∷ kind ∷ rest) =
 abbrev pub mark_of : List ℕ → Option ℕ
 mark_of payload = mark_in (drop 12 payload)
 
--- the bytes of a number, at most so many after the first
+-- the bytes of a number, at most `more` after the first
 unfoldable pub number_text : ℕ → ℕ → List ℕ
 number_text zero n = n ∷ []
 number_text (suc more) n = if nat_lt n 128 then n ∷ [] else ((128 + n % 128) ∷ number_text more (n / 128))
@@ -59,7 +59,7 @@ pub record Tells (log : List ℕ) (end last offset : ℕ) : Type 0 where
   pub mark : mark_of payload ≡ Some unsynced
   pub beyond : end + unsynced < offset
 
--- The marks of a log are true up to an offset: each batch that lies in it tells at most that.
+-- The marks of a log are true up to an offset: the mark of each batch in it is at most that.
 abbrev pub AreTrue : List ℕ → ℕ → Type 0
 AreTrue written synced = (payload : List ℕ) (offset after unsynced : ℕ) → LiesIn payload written offset after → mark_of payload ≡ Some unsynced → offset ≤ synced + unsynced
 

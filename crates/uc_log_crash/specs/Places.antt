@@ -4,7 +4,7 @@ use Rattle.std.specs.Prelude.{◌≡◌, ℕ, zero, suc, ◌+◌, ◌-◌, ◌*�
 use Rattle.uc_logrec.specs.Format.{room, header_place, stored_length, stored_code}
 use Rattle.uc_log_crash.specs.Marks.{Tells}
 
--- whether a header stands at the front of these bytes, and its block has room for its data and another header: zeros are no header
+-- whether a header is at the front of these bytes, and its data and another header fit its block: zeros are no header
 abbrev pub has_another : ℕ → List ℕ → Bool
 has_another place rest = (nat_le 7 (length rest) && not (stored_code rest == 0 && stored_length rest == 0)) && nat_le (14 + stored_length rest) (room place)
 
@@ -17,7 +17,7 @@ abbrev pub chained : (ℕ → List ℕ) → Option ℕ → List ℕ
 chained go None = []
 chained go (Some next) = go next
 
--- the places in the block of one, from it on, at most so many
+-- the places in the block of one, from it on, at most as many as the number says
 unfoldable pub in_block : ℕ → List ℕ → ℕ → List ℕ
 in_block zero log place = []
 in_block (suc more) log place = place ∷ chained (in_block more log) (next_place log place)
@@ -40,7 +40,7 @@ abbrev pub all_places : List ℕ → ℕ → List ℕ
 all_places log from =
     places_from log (header_place from) ++ in_blocks (block_count log - (header_place from / 32768 + 1)) log (header_place from / 32768 + 1)
 
--- the first of some places where a batch tells that the log was on the device beyond `end`
+-- the first of some places with a batch whose mark says that the log was durable beyond `end`
 abbrev pub IsFirst : List ℕ → ℕ → ℕ → List ℕ → Option ℕ → Type 0
 IsFirst log end last [] found = found ≡ None
 IsFirst log end last (place ∷ places) found = (Tells log end last place × (found ≡ Some place)) ⊎ ((Tells log end last place → ⊥) × IsFirst log end last places found)

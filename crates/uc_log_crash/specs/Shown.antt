@@ -22,7 +22,8 @@ abbrev pub IsUnforged : List ℕ → ℕ → List ℕ → Type 0
 IsUnforged written synced shown = (before : List (List ℕ)) (offset after : ℕ) (payload : List ℕ) (writes : List Write) → Walks written before offset → synced ≤ offset
     → LiesIn payload shown offset after → batch_of (last_in before) payload ≡ Ok writes → LiesIn payload written offset after
 
--- Reading goes on after some batches: it finds others, each where the one before it ends, and with sequences after all before it.
+-- Reading continues after some batches: it finds others, each where the one before it ends, and with sequence numbers after all
+-- before it.
 pub data ReadsOn (shown : List ℕ) (before : List (List ℕ)) (from : ℕ) : List (List ℕ) → ℕ → Type 0 where
   nothing : ReadsOn shown before from [] from
   one_more : (found : List (List ℕ)) (offset : ℕ) (payload : List ℕ) (after : ℕ) (writes : List Write) → ReadsOn shown before from found offset

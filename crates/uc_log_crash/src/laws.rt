@@ -28,8 +28,8 @@ pub fn batches_that_are_read_were_written()
     walk_begins_log();
 }
 
-/// What a device shows of a folder's log after a crash is what a crash of `uc_folder` may leave of its records: so what is proved there of every
-/// crash holds of these bytes. What is read of them is what that crash leaves to be read.
+/// The bytes that a device shows of a log after a crash are records that a crash of `uc_folder` may leave. So all that is proved
+/// there of every crash holds of these bytes, and reading them returns the batches that this crash leaves.
 pub fn a_shown_log_is_a_crashed_one()
     ensures { (f : File) (written shown : List ℕ) (synced : ℕ) (found : List (List ℕ)) (end : ℕ) → AreBytesOf f written synced →
         IsUnforged written synced shown → ReadsOn shown (first_whole f.kept) synced found end →

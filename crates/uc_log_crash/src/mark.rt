@@ -17,7 +17,7 @@ const HEADER_SIZE: usize = 12;
 /// The most bytes of a mark's data.
 const MOST_SIZE: usize = 10;
 
-/// The number that bytes spell, seven bits in each.
+/// The number that bytes encode, seven bits in each.
 #[tactic(auto, unfolding(crate::specs::Marks::number_in))]
 fn number_in(bytes: &[u8]) -> Option<u64>
     requires { length bytes.now ≤ 9 }

@@ -21,7 +21,7 @@ fn room_at(place: u64) -> u64
     BLOCK_SIZE - place % BLOCK_SIZE
 }
 
-/// The place after the record at a place, if it is in the same block, with room for a header.
+/// The place after the record at a place, if it is in the same block, and a header fits after it.
 #[tactic(auto, unfolding(crate::specs::Places::next_place))]
 fn next_place(log: &[u8], place: u64) -> Option<u64>
     requires { place < 2 ^ 63 }
@@ -39,7 +39,7 @@ fn next_place(log: &[u8], place: u64) -> Option<u64>
     Some(place + HEADER_SIZE + length)
 }
 
-/// The first place of a block, from one on, where a batch tells that the log was on the device beyond `end`.
+/// The first place of a block, from one on, with a batch whose mark says that the log was durable beyond `end`.
 fn first_in_block(
     log: &[u8],
     end: u64,
@@ -62,7 +62,7 @@ fn first_in_block(
     }
 }
 
-/// The first place of the blocks from one on where a batch tells that the log was on the device beyond `end`.
+/// The first place of the blocks, from one on, with a batch whose mark says that the log was durable beyond `end`.
 fn first_in_blocks(
     log: &[u8],
     end: u64,

@@ -28,7 +28,7 @@ fn first_of(log: &[u8]) -> &[u8] {
     log.get(..23).unwrap_or(&[])
 }
 
-/// Where a batch tells that a log was on the device beyond its start.
+/// The first place with a batch whose mark says that a log was durable beyond its start.
 fn told_in(alloc: Global, log: &[u8]) -> Result<Option<u64>, Fail> {
     Ok(first_told(log, 0, 0, &mut Vec::new(alloc))?)
 }

@@ -1,4 +1,4 @@
--- What is ahead of a reader, however many places are left to it.
+-- The payloads ahead of a reader, however many places are left to it.
 use Rattle.std.proofs.Common.{◌≡◌, ℕ, zero, suc, ◌+◌, ◌≤◌, ◌<◌, List, [], ◌∷◌, length, take, drop, Option, Some, None, Result, Ok, Err, refl, ap, ◌∙◌, arith}
 use Rattle.uc_logrec.specs.declared.kind.Kind.{Kind}
 use Rattle.uc_logrec.specs.declared.log_record.Stop.{Stop}
@@ -37,6 +37,6 @@ places_enough (suc p) (suc q) unfinished offset left lp lq =
     let shorter = behind_shorter offset left len (found_fits (room (header_place offset)) (here offset left) kind len found) in
     places_enough p q still (header_place offset + 7 + len) (behind offset left len) (omega (arith, shorter)) (omega (arith, shorter)))
 
--- behind the first payload
+-- after the first payload
 pub payload_comes : (all : Reading) (payload : List ℕ) (offset : ℕ) (left : List ℕ) → Completes all (payload ∷ []) None offset left → all ≡ with_payload payload (ahead_at offset left)
 payload_comes all payload offset left c = c.whole ∙ ap (with_payload payload) (places_enough c.places (suc (length left)) None offset left c.enough (omega arith))

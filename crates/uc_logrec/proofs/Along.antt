@@ -22,7 +22,7 @@ pub record CompletesAt (bytes : List ℕ) (s : State) (rest : List ℕ) : Type 0
 CompletesAt-start : (bytes : List ℕ) → CompletesAt bytes (record { front = []; fragments = None; place = 0 }) bytes
 CompletesAt-start bytes = record { offset = 0; left = bytes; completes = Completes-start bytes; place_is = refl; rest_is = refl }
 
--- behind a record that may stand there
+-- after a record that is valid there
 abbrev Moved : List ℕ → State → LogRecord → List ℕ → StepWithData → Type 0
 Moved bytes s found left (Complete payload) = CompletesAt bytes (record { front = s.front ++ payload ∷ []; fragments = None; place = next_place s.place found }) (past_trailer s.place found left)
 Moved bytes s found left (Open fragments) = CompletesAt bytes (record { front = s.front; fragments = Some fragments; place = next_place s.place found }) (past_trailer s.place found left)

@@ -1,4 +1,4 @@
--- What a payload takes at an offset depends on the offset's place in its block alone.
+-- The bytes that a payload takes at an offset depend only on the offset's place in its block.
 use Rattle.std.proofs.Common.{◌≡◌, ℕ, ◌+◌, ◌-◌, ◌%◌, List, [], ◌++◌, length, replicate, inl, inr, refl, ap, ap₂, ◌∙◌, arith}
 use Rattle.std.proofs.lemmas.Bool.{cases_lt}
 use Rattle.uc_logrec.specs.Format.{room, header_place}
@@ -23,7 +23,7 @@ pub payload_alike : (a b : ℕ) (payload : List ℕ) → a % 32768 ≡ b % 32768
 payload_alike a b payload e =
     ap₂ (λ (n : ℕ) (text : List ℕ). replicate n 0 ++ text) (skipped_alike a b e) (records_alike (header_place a) (header_place b) payload (room_alike a b e))
 
--- behind nothing, at that place
+-- appended to nothing, at that place
 pub payload_alone : (length_before : ℕ) (old new payload : List ℕ) → old ≡ [] → new ≡ old ++ payload_text (length_before % 32768 + length old) payload → new ≡ payload_text length_before payload
 payload_alone length_before old new payload none e =
     let place : (length_before % 32768 + length old) % 32768 ≡ length_before % 32768 = omega (arith, ap length none) in

@@ -92,7 +92,7 @@ pub zeros-add : (m n : ℕ) → zeros (m + n) ≡ zeros m ++ zeros n
 unfolding zeros
 zeros-add m n = sym (replicate-append-replicate m n false)
 
--- zeros behind a list do not change it, but for its length
+-- zeros after a list don't change it, except for its length
 pub xor_bits-zeros_more : (bits : List Bool) (n : ℕ) → xor_bits bits (zeros (length bits + n)) ≡ bits ++ zeros n
 xor_bits-zeros_more bits n =
     let m = length bits in

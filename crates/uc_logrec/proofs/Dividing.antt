@@ -9,7 +9,7 @@ pub length-polynomial : length polynomial ≡ 32
 unfolding polynomial lowest_first
 length-polynomial = refl
 
--- what a leading bit adds to the bits behind it
+-- the bits that a leading bit adds to the bits after it
 abbrev pub carried : Bool → List Bool
 carried bit = cond bit polynomial []
 
@@ -73,7 +73,7 @@ pub divide_steps-none : (bits : List Bool) → divide_steps 0 bits ≡ bits
 unfolding divide_steps
 divide_steps-none bits = refl
 
--- what the steps over the front make of the register is all that the bits behind the front see
+-- the bits after the front depend only on the register after the steps over the front
 pub divide_steps-front : (register front rest : List Bool) → length register ≡ 32 → 32 ≤ length rest
     → divide_steps (length front) (xor_bits register (front ++ rest)) ≡ xor_bits (divide_steps (length front) (xor_bits register (front ++ zeros 32))) rest
 divide_steps-front register front rest e le =
@@ -88,7 +88,7 @@ divide_steps-front register front rest e le =
     ∙ divide_steps-xor_bits n alone (zeros n ++ rest) long rest_long
     ∙ ap (xor_bits (divide_steps n alone)) (divide_steps-zeros n rest)
 
--- what the steps leave of bits is the sum of what they leave of the front, with zeros behind it, and of the rest
+-- the remainder of bits is the sum of the remainder of the front, with zeros after it, and of that of the rest
 pub divide_steps-split : (n m : ℕ) (front rest : List Bool) → length front ≡ n → length rest ≡ m + 32
     → divide_steps (n + m) (front ++ rest) ≡ xor_bits (divide_steps (n + m) (front ++ zeros (m + 32))) (divide_steps m rest)
 divide_steps-split n m front rest e le =

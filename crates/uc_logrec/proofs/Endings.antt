@@ -94,7 +94,7 @@ row_is fragments place rest =
     let code = stored_code rest in
     by_tests (list_all (λ byte. eqb byte 0) rest) (ltb (length rest) 7) (ltb (room place - 7) len) (ltb (length rest - 7) len) (eqb (stored_checksum rest) (checksum_of code (take len (drop 7 rest)))) fragments place code len
 
--- where a record is refused
+-- if a record is rejected
 refused_none : (place : ℕ) (kind : Kind) (fragment : List ℕ) (fault : LogFault) → step_at None place kind fragment ≡ Refused fault → kind_row None place kind ≡ Some (Fault fault place)
 refused_none place Full fragment fault e = absurd cc
 refused_none place First fragment fault e = absurd cc

@@ -15,9 +15,9 @@ use Rattle.uc_logrec.proofs.Writing.{blocks_text-last, blocks_text-middle, recor
 use Rattle.uc_logrec.proofs.RoundTrip.{place_here, header_fits, past_trailer, length-trailer}
 use Rattle.uc_logrec.proofs.Standing.{Stand-append}
 
--- ---- a record, and what stands behind it
+-- ---- a record, and what comes after it
 
--- a record that fills its block: the next one stands right behind it
+-- a record that fills its block: the next one comes directly after it
 full_stands : (place next : ℕ) (found : LogRecord) (left : List ℕ) (records : List LogRecord) (rest : List ℕ) → 7 + length found.1 ≡ room place → next ≡ place + 7 + length found.1 → next % 32768 ≡ 0 → Stand next left records rest → Stand place (record_text found.0 found.1 ++ left) (found ∷ records) rest
 full_stands place next found left records rest fills at start stand =
     let behind = place + 7 + length found.1 in
@@ -26,7 +26,7 @@ full_stands place next found left records rest fills at start stand =
     let there : Stand behind (drop (behind - behind) left) records rest = rw none (subst (λ (p : ℕ). Stand p left records rest) at stand) in
     (left, omega (arith, fills), refl, subst (λ (p : ℕ). Stand p (drop (p - behind) left) records rest) (sym same) there)
 
--- the place behind it
+-- the place after it
 full_behind : (place next : ℕ) (found : LogRecord) (records : List LogRecord) → next ≡ place + 7 + length found.1 → next % 32768 ≡ 0 → place_behind place (found ∷ records) ≡ place_behind next records
 full_behind place next found records at start =
     let same : header_place (place + 7 + length found.1) ≡ next = place_here (place + 7 + length found.1) (omega (arith, at)) ∙ sym at in

@@ -1,4 +1,4 @@
--- What is read at a place looks at no byte behind the record there.
+-- Reading at a place depends on no byte after the record there.
 use Rattle.std.proofs.Common.{◌≡◌, ℕ, ◌+◌, ◌-◌, ◌≤◌, false, eqb, List, [], ◌∷◌, ◌++◌, length, take, drop, Option, Some, None, Ok, sym, ap, subst, ◌∙◌, append_assoc, length-append, length-take, length-drop, arith}
 use Rattle.std.proofs.Math.Seq.{take-add}
 use Rattle.std.proofs.lemmas.List.{take_at, drop_at, drop-append-le, drop-take, length-take-le}
@@ -16,7 +16,7 @@ use Rattle.uc_logrec.proofs.Ahead.{payload_comes}
 
 -- ---- a record
 
--- a record's bytes, and others behind them
+-- a record's bytes, and others after them
 abbrev followed : List ℕ → ℕ → List ℕ → List ℕ
 followed rest len more = take (7 + len) rest ++ more
 
@@ -76,7 +76,7 @@ CompletesAlone-start first all more =
     let none : 0 ≡ first - first = omega arith in
     subst (λ (n : ℕ). Completes (ahead_at first (take n all ++ more)) [] None first more) none (Completes-here first more)
 
--- the next record, behind a trailer, and what it does
+-- the next record, after a trailer, and its effect
 pub record Follows (first : ℕ) (all : List ℕ) (unfinished : Option Fragments) (offset : ℕ) (left : List ℕ) (kind : Kind) (len : ℕ) (turn : StepWithData) : Type 0 where
   pub later : first ≤ offset
   pub left_is : left ≡ drop (offset - first) all
@@ -85,7 +85,7 @@ pub record Follows (first : ℕ) (all : List ℕ) (unfinished : Option Fragments
   pub within : 7 + len ≤ length (here offset left)
   pub turns : turn ≡ step_at unfinished (header_place offset) kind (take len (drop 7 (here offset left)))
 
--- the bytes up to its end, and others behind them
+-- the bytes up to its end, and others after them
 abbrev up_to : ℕ → List ℕ → ℕ → List ℕ → List ℕ
 up_to offset left len more = take (header_place offset - offset + (7 + len)) left ++ more
 
@@ -135,7 +135,7 @@ comes_alone first all unfinished offset left kind len payload f more =
     let text = take (place - first) all ++ more in
     payload_comes (ahead_at first text) payload place more (subst (λ (bs : List ℕ). Completes (ahead_at first text) (payload ∷ []) None place bs) (behind_alone offset left len more f.within) (goes_alone first all unfinished offset left kind len (Complete payload) f more))
 
--- a record that was found behind a trailer, and what it does
+-- a record that was found after a trailer, and its effect
 pub follows : (first : ℕ) (all : List ℕ) (unfinished : Option Fragments) (offset : ℕ) (left : List ℕ) (place : ℕ) (rest fragment : List ℕ) (kind : Kind) (len : ℕ) (turn : StepWithData)
     → first ≤ offset → left ≡ drop (offset - first) all → CompletesAlone first all unfinished offset → place ≡ header_place offset → rest ≡ here offset left → record_of (room place) rest ≡ Ok (kind, len) → 7 + len ≤ length rest
     → fragment ≡ take len (drop 7 rest) → turn ≡ step_at unfinished place kind fragment → Follows first all unfinished offset left kind len turn

@@ -71,7 +71,7 @@ odd_value zero l = refl
 odd_value (suc zero) l = refl
 odd_value (suc (suc p)) l = absurd (omega arith)
 
--- a number of so many bits is what its bits write
+-- a number below 2^count is the number that its lowest `count` bits encode
 pub number_of-lowest_first : (count a : ℕ) → a < 2 ^ count → number_of (lowest_first count a) ≡ a
 unfolding lowest_first number_of
 number_of-lowest_first zero a l = omega arith
@@ -166,7 +166,7 @@ bits_of-to_le_bytes x =
     let whole : x / 256 ^ 0 ≡ x = omega arith in
     bits_of-bytes_low_first 0 8 x ∙ ap (lowest_first 64) whole
 
--- a register that is shifted by a byte has zeros behind
+-- a register that is shifted by a byte ends with zeros
 pub lowest_first-high : (x : ℕ) → x < 2 ^ 32 → lowest_first 32 (x / 256) ≡ lowest_first 24 (x / 256) ++ zeros 8
 lowest_first-high x l =
     let none : x / 256 / 2 ^ 24 ≡ 0 = omega arith in

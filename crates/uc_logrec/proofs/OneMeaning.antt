@@ -1,4 +1,4 @@
--- What is read of a log is what it holds.
+-- Reading a log returns its contents.
 use Rattle.std.proofs.Common.{◌≡◌, ℕ, zero, suc, ◌+◌, ◌-◌, ◌≤◌, ◌<◌, List, [], ◌∷◌, ◌++◌, length, map, take, drop, Option, Some, None, Result, Ok, Err, ◌⊎◌, inl, inr, refl, sym, ap, subst, ◌∙◌, length-append, length-drop, get_or-drop, slice_index, arith}
 use Rattle.std.proofs.lemmas.List.{get_or-append-add}
 use Rattle.uc_logrec.specs.declared.ending.Ending.{Ending}

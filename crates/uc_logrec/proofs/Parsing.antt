@@ -14,7 +14,7 @@ use Rattle.uc_logrec.specs.Grammar.{LogRecord, next_place, place_behind, Group, 
 
 -- ---- a run of the reader over records
 
--- the complete payloads so far, the one that is open, and the place behind the records
+-- the complete payloads read up to now, the one that is open, and the place after the records
 pub record State : Type 0 where
   pub front : List (List ℕ)
   pub fragments : Option Fragments
@@ -167,7 +167,7 @@ run_records groups (Some u) =
     ∙ (ap (λ (p : ℕ). at front (Some (with_middles (begun p u.first) u.middles)) (place_behind there records)) (sym (place_behind-append 0 (sentence groups) (empty_firsts u.dropped)))
     ∙ ap (at front (fragments_of groups (Some u))) (sym (place_behind-append 0 (sentence groups) records)))
 
--- no record of what begins a sentence is refused
+-- no record at the beginning of a sentence is rejected
 pub begins_runs : (records : List LogRecord) → BeginSentence records → run start records ≡ None → ⊥
 begins_runs records (more, groups, whole) refused =
     let all : run start (sentence groups) ≡ None = ap (run start) (sym whole) ∙ (run-append start records more ∙ (ap (λ (s : Option State). run s more) refused ∙ run-none more)) in
@@ -187,7 +187,7 @@ empty_firsts-push : (count : ℕ) (records : List LogRecord) → empty_firsts co
 empty_firsts-push zero records = refl
 empty_firsts-push (suc count) records = ap (λ (rs : List LogRecord). (First, []) ∷ rs) (empty_firsts-push count records)
 
--- with a LAST behind them
+-- with a LAST after them
 with_last : (groups : List Group) (count : ℕ) (first : List ℕ) (middles : List (List ℕ)) (last : List ℕ)
     → records_of groups (Some (record { dropped = count; first = first; middles = middles })) ++ (Last, last) ∷ [] ≡ records_of (groups ++ Pieces count first middles last ∷ []) None
 with_last groups count first middles last =
@@ -206,7 +206,7 @@ with_middle groups count first middles middle =
     ∙ (ap (λ (rs : List LogRecord). sentence groups ++ rs) (append_assoc es begun_ones ((Middle, middle) ∷ []))
     ∙ ap (λ (rs : List LogRecord). sentence groups ++ (es ++ (First, first) ∷ rs)) (sym (map-append (λ (fragment : List ℕ). let r : LogRecord = (Middle, fragment) in r) middles (middle ∷ []))))
 
--- behind an E
+-- after an E
 with_empty : (groups : List Group) (count : ℕ) (found : LogRecord)
     → records_of groups (Some (record { dropped = count; first = []; middles = [] })) ++ found ∷ [] ≡ sentence groups ++ (empty_firsts (suc count) ++ found ∷ [])
 with_empty groups count found =
@@ -221,7 +221,7 @@ pub begin_sentence : (groups : List Group) (unfinished : Option Unfinished) → 
 begin_sentence groups None = ([], groups, append-nil (records_of groups None) ∙ append-nil (sentence groups))
 begin_sentence groups (Some u) = ((Last, []) ∷ [], groups ++ Pieces u.dropped u.first u.middles [] ∷ [], with_last groups u.dropped u.first u.middles [] ∙ append-nil (sentence (groups ++ Pieces u.dropped u.first u.middles [] ∷ [])))
 
--- The record is one of a longer row, or it is refused, at any place.
+-- The record is one of a longer row, or it is rejected, at any place.
 pub record Longer (groups : List Group) (unfinished : Option Unfinished) (found : LogRecord) : Type 0 where
   pub groups_then : List Group
   pub unfinished_then : Option Unfinished
@@ -279,7 +279,7 @@ pub judged : (groups : List Group) (unfinished : Option Unfinished) (found : Log
 judged groups None found = judged_none groups found.0 found.1
 judged groups (Some u) found = judged_open groups u.dropped u.first u.middles found.0 found.1
 
--- what is refused doesn't begin a sentence
+-- a rejected record doesn't begin a sentence
 pub refused_longer : (groups : List Group) (unfinished : Option Unfinished) (found : LogRecord) → IsRefused (fragments_of groups unfinished) found → BeginSentence (records_of groups unfinished ++ found ∷ []) → ⊥
 refused_longer groups unfinished found r begins =
     let ran = run_records groups unfinished in

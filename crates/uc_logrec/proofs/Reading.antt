@@ -10,7 +10,7 @@ use Rattle.uc_logrec.specs.Format.{room, header_place, record_of}
 use Rattle.uc_logrec.specs.Position.{ahead_at}
 use Rattle.uc_logrec.specs.Log.{step_at, ending_at, Reading, ended, after_step, after_record, reading_from, reading_of}
 
--- what was read before, and what is read behind it
+-- the payloads that were read before, and those after it
 abbrev pub with_front : List (List ℕ) → Reading → Reading
 with_front front reading = record { payloads = front ++ reading.payloads; ending = reading.ending }
 
@@ -31,7 +31,7 @@ Completes-start bytes = Completes-here 0 bytes
 abbrev pub here : ℕ → List ℕ → List ℕ
 here offset left = drop (header_place offset - offset) left
 
--- what reading from a place on is, where one place less is left for what stands behind it
+-- the result of reading from a place on, where one place less is left for what comes after it
 abbrev from_place : ℕ → Option Fragments → ℕ → List ℕ → Reading
 from_place places unfinished offset left = after_record (reading_from places) unfinished (header_place offset) (here offset left) (record_of (room (header_place offset)) (here offset left))
 
@@ -60,7 +60,7 @@ stops all front unfinished offset left stop c e =
     let p = one_place all front unfinished offset left c in
     p.2 ∙ rw e (stopped_front front (ending_at stop unfinished (header_place offset)))
 
--- the bytes behind a record
+-- the bytes after a record
 abbrev pub behind : ℕ → List ℕ → ℕ → List ℕ
 behind offset left len = drop len (drop 7 (here offset left))
 
@@ -91,7 +91,7 @@ goes all front unfinished offset left kind len turn c found within turns =
     let turned : from_place p.0 unfinished offset left ≡ after_step (λ still. reading_from p.0 still (header_place offset + 7 + len) (behind offset left len)) (header_place offset) turn = rw (found, turns) refl in
     goes_on all front unfinished offset left kind len turn p.0 p.1 within (p.2 ∙ ap (with_front front) turned)
 
--- what was found behind a trailer is what stands at the header place
+-- the record that was found after a trailer is the one at the header place
 pub found_there : (offset : ℕ) (left : List ℕ) (place : ℕ) (rest : List ℕ) (found : Result (Kind × ℕ) Stop) → place ≡ header_place offset → rest ≡ here offset left → record_of (room place) rest ≡ found
     → record_of (room (header_place offset)) (here offset left) ≡ found
 found_there offset left place rest found e f h = sym (sym h ∙ rw (e, f) refl)
@@ -102,7 +102,7 @@ pub turned_there : (unfinished : Option Fragments) (offset : ℕ) (left : List �
 turned_there unfinished offset left place rest fragment kind len turn e f g h =
     h ∙ (ap (λ (p : ℕ). step_at unfinished p kind fragment) e ∙ ap (step_at unfinished (header_place offset) kind) (g ∙ ap (λ (r : List ℕ). take len (drop 7 r)) f))
 
--- the bytes behind it, and how many they are
+-- the bytes after it, and their number
 pub behind_there : (offset : ℕ) (left rest after : List ℕ) (len : ℕ) → rest ≡ here offset left → after ≡ drop len (drop 7 rest) → after ≡ behind offset left len
 behind_there offset left rest after len f g = g ∙ ap (λ (r : List ℕ). drop len (drop 7 r)) f
 
@@ -124,7 +124,7 @@ still_behind first offset all left len le e =
     ∙ (ap (drop len) (drop-drop 7 (offset - first + skipped) all)
     ∙ (drop-drop len (offset - first + skipped + 7) all ∙ ap (λ (n : ℕ). drop n all) (omega (arith, later, le)))))
 
--- its data are the last of the bytes from the first place to that behind it
+-- its data are the last of the bytes from the first place to the one after it
 pub last_there : (first offset place after : ℕ) (all left rest fragment : List ℕ) → first ≤ offset → left ≡ drop (offset - first) all → place ≡ header_place offset → rest ≡ here offset left
     → fragment ≡ take (length fragment) (drop 7 rest) → 7 + length fragment ≤ length rest → after ≡ place + 7 + length fragment
     → fragment ≡ drop (length (take (after - first) all) - length fragment) (take (after - first) all)
@@ -143,7 +143,7 @@ last_there first offset place after all left rest fragment le e p r f fits a =
     subst (λ (k : ℕ). fragment ≡ drop (length (take k all) - len) (take k all)) (sym ends)
     (subst (λ (k : ℕ). fragment ≡ drop k (take (n + len) all)) (omega (arith, whole)) (there ∙ sym (drop-take n len all)))
 
--- a record that was found behind a trailer, and what it does
+-- a record that was found after a trailer, and its effect
 pub goes_there : (all : Reading) (front : List (List ℕ)) (unfinished : Option Fragments) (offset : ℕ) (left : List ℕ) (place : ℕ) (rest fragment : List ℕ) (kind : Kind) (len : ℕ) (turn : StepWithData)
     → Completes all front unfinished offset left → place ≡ header_place offset → rest ≡ here offset left → record_of (room place) rest ≡ Ok (kind, len) → 7 + len ≤ length rest
     → fragment ≡ take len (drop 7 rest) → turn ≡ step_at unfinished place kind fragment → Goes all front offset left len turn

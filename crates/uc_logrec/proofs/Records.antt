@@ -1,4 +1,4 @@
--- The text of a record is read as that record, whatever follows it.
+-- The bytes of a record are read as that record, whatever follows them.
 use Rattle.std.proofs.Common.{◌≡◌, ℕ, ◌+◌, ◌-◌, ◌^◌, ◌≤◌, ◌<◌, false, eqb, List, ◌++◌, length, take, drop, Some, Ok, refl, sym, ap, ◌∙◌, length-append, arith}
 use Rattle.std.specs.List.{list_all}
 use Rattle.std.proofs.lemmas.Bool.{le-ltb, eq-eqb}

@@ -12,7 +12,7 @@ use Rattle.uc_logrec.proofs.Dividing.{length-divide_steps}
 use Rattle.uc_logrec.proofs.Numbers.{length-lowest_first, lowest_first-number_of, lowest_first-mod, lowest_first-zero}
 use Rattle.uc_logrec.proofs.Shifts.{register_after-byte, register_after-append, shifted}
 
--- the entry of a byte in front of so many zero bytes
+-- the entry of a byte in front of `behind` zero bytes
 abbrev pub entry : ℕ → ℕ → ℕ
 entry behind byte = get_or (get_or REMAINDERS behind []) byte 0
 
@@ -85,7 +85,7 @@ replicate-back n =
     let e : suc n ≡ n + 1 = omega arith in
     ap (λ (i : ℕ). replicate {A = ℕ} i 0) e ∙ sym (replicate-append-replicate n 1 0)
 
--- each entry is what remains of its byte and the zero bytes behind it
+-- each entry is the remainder of its byte and the zero bytes after it
 pub entry_at : (behind byte : ℕ) → behind < 8 → byte < 256 → lowest_first 32 (entry behind byte) ≡ register_after (zeros 32) (byte ∷ replicate behind 0)
 entry_at zero byte l k = first_entry byte k
 entry_at (suc behind) byte l k =

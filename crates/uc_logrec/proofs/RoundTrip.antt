@@ -1,4 +1,4 @@
--- What the writer writes is read again.
+-- Reading returns what the writer wrote.
 use Rattle.std.proofs.Common.{◌≡◌, ℕ, zero, suc, ◌+◌, ◌-◌, ◌%◌, ◌≤◌, ◌<◌, Bool, false, cond, eqb, List, [], ◌∷◌, ◌++◌, length, take, drop, Option, Some, None, Ok, inl, inr, refl, sym, ap, subst, ◌∙◌, append_assoc, length-append, length-take, length-drop, arith}
 use Rattle.std.proofs.lemmas.Bool.{cases_lt, le-ltb, lt-ltb}
 use Rattle.std.proofs.lemmas.List.{append-nil, take-append-drop, drop_at, length-replicate}
@@ -67,7 +67,7 @@ read_record places unfinished offset left kind fragment after e fits =
 
 -- ---- a payload's records
 
--- what is read of records that complete a payload: the payload, and what stands behind
+-- the result of reading records that complete a payload: the payload, and what comes after it
 pub record Completed (payload : List ℕ) (unfinished : Option Fragments) (offset : ℕ) (text after : List ℕ) (places : ℕ) : Type 0 where
   pub fewer : ℕ
   pub enough : length after < fewer
@@ -96,7 +96,7 @@ read_last (suc places) open_one offset fragment after start le enough =
 abbrev longer : Fragments → List ℕ → Fragments
 longer begun fragment = record { start = begun.start; payload = begun.payload ++ fragment; is_empty_first = false }
 
--- a MIDDLE that fills its block, and what stands behind it
+-- a MIDDLE that fills its block, and what comes after it
 read_middle : (places : ℕ) (begun : Fragments) (offset : ℕ) (fragment rest text behind after : List ℕ) → offset % 32768 ≡ 0 → length fragment ≡ 32761 → text ≡ record_text Middle fragment ++ behind
     → Completed ((begun.payload ++ fragment) ++ rest) (Some (longer begun fragment)) (offset + 32768) behind after places → Completed (begun.payload ++ (fragment ++ rest)) (Some begun) offset text after (suc places)
 read_middle places begun offset fragment rest text behind after start full e completed =
@@ -206,7 +206,7 @@ read_all (payload ∷ payloads) places offset enough =
     let first = read_payload places offset payload (text_from (offset + length (payload_text offset payload)) payloads) enough in
     first.reads ∙ ap (with_payload payload) (read_all payloads first.fewer (offset + length (payload_text offset payload)) first.enough)
 
--- what is read of payloads' text from an offset on
+-- the result of reading payloads' bytes from an offset on
 pub read_from : (payloads : List (List ℕ)) (offset : ℕ) → ahead_at offset (text_from offset payloads) ≡ record { payloads = payloads; ending = Clean }
 unfolding clean
 read_from payloads offset = read_all payloads (suc (length (text_from offset payloads))) offset (omega arith)
@@ -234,7 +234,7 @@ text_from-push (first ∷ payloads) payload offset =
 pub log_text-push : (payloads : List (List ℕ)) (payload : List ℕ) → log_text (payloads ++ payload ∷ []) ≡ log_text payloads ++ payload_text (length (log_text payloads)) payload
 log_text-push payloads payload = let same : 0 + length (log_text payloads) ≡ length (log_text payloads) = omega arith in text_from-push payloads payload 0 ∙ ap (λ (o : ℕ). log_text payloads ++ payload_text o payload) same
 
--- ---- a text that is a log
+-- ---- bytes that are a log
 
 abbrev pub IsLog : List ℕ → Type 0
 IsLog text = text ≡ log_text (payloads_of text)

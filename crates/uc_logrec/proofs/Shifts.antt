@@ -30,7 +30,7 @@ unfolding bits_of divide_steps
 register_after-nil register e =
     register_after-steps register [] e ∙ xor_bits_comm register (zeros 32) ∙ xor_bits-zeros 32 register (omega arith)
 
--- bytes behind other bytes go on from the register to which those lead
+-- the register after bytes that follow others is computed from the register after those others
 pub register_after-append : (register : List Bool) (front back : List ℕ) → length register ≡ 32 → register_after register (front ++ back) ≡ register_after (register_after register front) back
 register_after-append register front back e =
     let f = bits_of front in

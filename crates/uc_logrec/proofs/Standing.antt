@@ -96,7 +96,7 @@ text_of header size fragment left code kind p q e =
     ∙ (ap (λ (c : ℕ). to_le_bytes w32 (checksum_of (code_of kind) fragment) ++ (to_le_bytes w16 (length fragment) ++ c ∷ (fragment ++ left))) e
     ∙ regrouped (to_le_bytes w32 (checksum_of (code_of kind) fragment)) (to_le_bytes w16 (length fragment)) fragment left (code_of kind)))
 
--- the bytes of a record are its text
+-- the bytes of a record are its encoding
 text_there : (space : ℕ) (rest : List ℕ) (kind : Kind) (len : ℕ) → AreBytes rest → IsRecord space rest kind len
     → rest ≡ record_text kind (take len (drop 7 rest)) ++ drop len (drop 7 rest)
 text_there space rest kind len bytes r =
@@ -133,7 +133,7 @@ left_there rest found left text = ap (λ (r : List ℕ). drop (length found.1) (
 
 -- ---- one record at most stands at a place
 
--- a record, and what is left behind it
+-- a record, and what is left after it
 abbrev Found : Type 0
 Found = Kind × List ℕ × List ℕ
 

@@ -66,7 +66,7 @@ nothing_past log offset le = ap (ahead_at offset) (drop_all offset log le) ∙ n
 
 -- ---- a payload that is added to it
 
--- a text that is read whatever follows lies in the log
+-- bytes that are read the same whatever follows are in the log
 lies_there : (payload log : List ℕ) (offset behind : ℕ) → offset < behind → behind ≤ length log → IsTextOf payload offset (between offset behind log) behind → LiesIn payload log offset behind
 lies_there payload log offset behind lt le alone =
     let sum : offset + (behind - offset) ≡ behind = omega (arith, lt) in
@@ -100,7 +100,7 @@ walks_still log to more payloads offset within at_start le = at_start
 walks_still log to more payloads offset within (one_more before from payload behind walk lies) le =
     one_more before from payload behind (walks_still log to more before from within walk (omega (arith, le, lies.later))) (lies_still payload log from behind to more lies le within)
 
--- the text that the writer adds is a payload's
+-- the bytes that the writer adds are a payload's
 written_alone : (offset : ℕ) (payload : List ℕ) → IsTextOf payload offset (payload_text offset payload) (offset + length (payload_text offset payload))
 written_alone offset payload more =
     let text = payload_text offset payload in

@@ -13,7 +13,7 @@ use Rattle.uc_logrec.proofs.Dividing.{divide_steps-split}
 use Rattle.uc_logrec.proofs.Numbers.{length-lowest_first, lowest_first-xor, lowest_first-add, lowest_first-zero, bits_of-cons, length-bits_of, bits_of-zero_bytes, bits_of-to_le_bytes}
 use Rattle.uc_logrec.proofs.Shifts.{register_after-steps, register_after-append, alone-steps}
 
--- ---- a register and a word behind it
+-- ---- a register and a word after it
 
 -- the register's bits are added to the first 32 of the word's number
 added_bits : (x n : ℕ) → x < 2 ^ 32 → xor_bits (lowest_first 32 x) (lowest_first 64 n ++ zeros 32) ≡ lowest_first 64 (bit_xor n x) ++ zeros 32
@@ -35,7 +35,7 @@ added_bits x n l =
     ∙ sym (append_assoc (xor_bits low register) high (zeros 32))
     ∙ ap (λ (bits : List Bool). bits ++ zeros 32) (sym sum)
 
--- behind a register, a word leads where it leads alone once the register is added to its number
+-- after a register, a word gives the result that the sum of the register and its number gives alone
 pub behind_register : (x n : ℕ) (word bytes : List ℕ) → x < 2 ^ 32 → to_le_bytes w64 n ≡ word → bytes ≡ to_le_bytes w64 (bit_xor n x) → register_after (lowest_first 32 x) word ≡ register_after (zeros 32) bytes
 behind_register x n word bytes l is_word is_sum =
     let over_word : bits_of word ≡ lowest_first 64 n = ap bits_of (sym is_word) ∙ bits_of-to_le_bytes n in
@@ -47,7 +47,7 @@ behind_register x n word bytes l is_word is_sum =
 
 -- ---- the sum over the bytes
 
--- what remains of bytes is the sum of what remains of the first, with zero bytes behind it, and of the others alone
+-- the remainder of bytes is the sum of the remainder of the first, with zero bytes after it, and of that of the others alone
 alone-cons : (byte : ℕ) (bytes : List ℕ) → register_after (zeros 32) (byte ∷ bytes) ≡ xor_bits (register_after (zeros 32) (byte ∷ replicate (length bytes) 0)) (register_after (zeros 32) bytes)
 alone-cons byte bytes =
     let n = length bytes in
@@ -63,7 +63,7 @@ alone-cons byte bytes =
     ∙ divide_steps-split 8 (8 * n) b rest (length-lowest_first 8 byte) (length-append (bits_of bytes) (zeros 32) ∙ omega (arith, length-bits_of bytes, length-zeros 32))
     ∙ ap₂ xor_bits (sym (alone-steps (8 + 8 * n) (byte ∷ replicate n 0) padded ∙ ap (divide_steps (8 + 8 * n)) padding)) (sym (alone-steps (8 * n) bytes (length-bits_of bytes)))
 
--- the entry is that of a byte in front of so many zero bytes
+-- the entry is that of a byte in front of `behind` zero bytes
 abbrev pub IsEntry : ℕ → ℕ → ℕ → Type 0
 IsEntry behind byte entry = lowest_first 32 entry ≡ register_after (zeros 32) (byte ∷ replicate behind 0)
 

@@ -51,7 +51,7 @@ pub records_text-pieces : (place : ℕ) (payload : List ℕ) → room place - 7 
 unfolding records_text
 records_text-pieces place payload lt = rw (lt-leb (length payload) (room place - 7) lt) refl
 
--- what stands behind what was added stands behind the whole
+-- bytes after an appended part are after the whole
 pub Extends-then : (a b c : List ℕ) → Extends a b → Extends b c → Extends a c
 Extends-then a b c p q = (p.0 ++ q.0, q.1 ∙ (ap (λ (t : List ℕ). t ++ q.0) p.1 ∙ append_assoc a p.0 q.0))
 

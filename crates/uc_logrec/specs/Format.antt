@@ -51,8 +51,8 @@ stored_length rest = from_le_bytes w16 (slice_index rest 4 ∷ slice_index rest 
 abbrev pub stored_code : List ℕ → ℕ
 stored_code rest = slice_index rest 6
 
--- What is at a header place, if the block has `space` bytes left and the log has the rest: a record of this kind with
--- this number of data bytes, or the first reason why there is none.
+-- The record at a header place, if the block has `space` bytes left and the log has the rest: its kind and its number of data
+-- bytes, or the first reason why there is none.
 unfoldable pub record_of : ℕ → List ℕ → Result (Kind × ℕ) Stop
 record_of space rest =
     let len = stored_length rest in

@@ -1,5 +1,5 @@
--- What a log means, in the words of LevelDB's `log_format.md`: records one after the other, the grammar of their types,
--- and how the log ends if no record that may follow comes.
+-- The meaning of a log, in the words of LevelDB's `log_format.md`: records one after the other, the grammar of their types, and how
+-- the log ends if no valid record follows.
 use Rattle.std.specs.Prelude.{◌≡◌, ℕ, ◌+◌, ◌-◌, ◌<◌, ◌≤◌, Bool, not, ◌&&◌, ◌||◌, List, [], ◌∷◌, ◌++◌, length, map, take, drop, replicate, flat_map, Option, Some, None, is_some, is_none, slice_index, nat_lt, ◌==◌, if◌then◌else◌}
 use Rattle.std.specs.List.{list_all, concat}
 use Rattle.uc_logrec.specs.declared.fault.LogFault.TheVariants.{BadLength, BadChecksum, UnsupportedType, MiddleAlone, LastAlone, FullInside, FirstInside}

@@ -1,4 +1,4 @@
--- What a log means, and the log of payloads.
+-- The meaning of a log, and the log of payloads.
 use Rattle.std.specs.Prelude.{ℕ, zero, suc, ◌+◌, ◌-◌, false, List, [], ◌∷◌, ◌++◌, length, take, drop, Option, Some, None, Result, Ok, Err, replicate, nat_le, ◌≡◌, ◌==◌, if◌then◌else◌}
 use Rattle.uc_logrec.specs.declared.fault.LogFault.TheVariants.{MiddleAlone, LastAlone, FullInside, FirstInside}
 use Rattle.uc_logrec.specs.declared.ending.Ending.{Ending}
@@ -96,7 +96,7 @@ blocks_text (suc blocks) payload =
 abbrev pub rest_text : List ℕ → List ℕ
 rest_text payload = blocks_text (suc (length payload)) payload
 
--- the records of a payload at a header place: each has as much data as its block has room for
+-- the records of a payload at a header place: each has as much data as fits its block
 unfoldable pub records_text : ℕ → List ℕ → List ℕ
 records_text place payload =
     let fits = room place - 7 in

@@ -17,14 +17,14 @@ ahead_at offset left = reading_from (suc (length left)) None offset left
 abbrev pub ComesFirst : List ℕ → Position → Position → Type 0
 ComesFirst payload old new = (old.ahead ≡ with_payload payload new.ahead) × (new.payloads_read ≡ old.payloads_read + 1)
 
--- What comes next at a position, and the position after it: the first payload ahead, or the ending if none is ahead. A
--- payload of several pieces is the one joined in the buffer.
+-- The next result at a position, and the position after it: the first payload ahead, or the ending if none is ahead. A payload of
+-- several pieces is the one joined in the buffer.
 abbrev pub Comes : Next → List ℕ → Position → Position → Type 0
 Comes (Whole payload) joined old new = ComesFirst payload.now old new
 Comes Joined joined old new = ComesFirst joined old new
 Comes (Ended ending) joined old new = (old.ahead ≡ ended ending) × (new ≡ old)
 
--- This text is a payload's from one place to another: whatever follows it, the payload is read, and then what follows.
+-- These bytes are a payload's from one place to another: whatever follows them, the payload is read, and then what follows.
 abbrev pub IsTextOf : List ℕ → ℕ → List ℕ → ℕ → Type 0
 IsTextOf payload place text after = (more : List ℕ) → ahead_at place (text ++ more) ≡ with_payload payload (ahead_at after more)
 
@@ -32,7 +32,7 @@ IsTextOf payload place text after = (more : List ℕ) → ahead_at place (text +
 abbrev pub StandsBetween : List ℕ → ℕ → List ℕ → ℕ → List ℕ → Type 0
 StandsBetween payload place left after behind = (ahead_at place left ≡ with_payload payload (ahead_at after behind)) × (place < after) × (after + length behind ≡ place + length left) × IsTextOf payload place (take (after - place) left) after
 
--- What comes next from a place, and the place after that payload.
+-- The next result from a place, and the place after that payload.
 abbrev pub Leads : Next → List ℕ → ℕ → List ℕ → ℕ → List ℕ → Type 0
 Leads (Whole payload) joined place left after behind = StandsBetween payload.now place left after behind
 Leads Joined joined place left after behind = StandsBetween joined place left after behind
@@ -60,10 +60,10 @@ pub record LiesIn (payload log : List ℕ) (offset behind : ℕ) : Type 0 where
   pub comes : ahead_in log offset ≡ with_payload payload (ahead_in log behind)
   pub later : offset < behind
   pub within : behind ≤ length log
-  -- and no byte behind it matters
+  -- and no byte after it matters
   pub alone : IsTextOf payload offset (between offset behind log) behind
 
--- What comes at an offset of a log, and the offset behind that payload. Where the log ends it is the same offset.
+-- The next result at an offset of a log, and the offset after that payload. Where the log ends it is the same offset.
 abbrev pub LeadsIn : Next → List ℕ → List ℕ → ℕ → ℕ → Type 0
 LeadsIn (Whole payload) joined log offset behind = LiesIn payload.now log offset behind
 LeadsIn Joined joined log offset behind = LiesIn joined log offset behind

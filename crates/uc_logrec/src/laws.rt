@@ -34,8 +34,8 @@ pub fn walk_is_kept()
         Walks log payloads offset → (rest : List ℕ) → Walks (cut_and_added log offset rest) payloads offset }
 {}
 
-/// A log goes on where a walk stands: cut there and continued by more payloads, it is read as the walk's and these. So
-/// a log that is torn or faulty after the offset is mended.
+/// A log continues at the position of a walk: cut there and followed by more payloads, it is read as the walk's and these. So a log
+/// that is torn or faulty after the offset can be repaired.
 pub fn log_goes_on()
     ensures { (log : List ℕ) (payloads : List (List ℕ)) (offset : ℕ) →
         Walks log payloads offset → (more : List (List ℕ)) → GoesOn log payloads offset more }

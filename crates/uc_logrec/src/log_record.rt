@@ -15,7 +15,7 @@ pub(crate) const BLOCK_SIZE: usize = 32768;
 /// The bytes of a header: checksum 4, length 2, type 1.
 pub(crate) const HEADER_SIZE: usize = 7;
 
-/// The most data that a record has: what a block has room for after a header.
+/// The most data that a record has: the rest of a block after a header.
 pub(crate) const MAX_FRAGMENT: usize = BLOCK_SIZE - HEADER_SIZE;
 
 /// A record: a part of a payload.
@@ -45,7 +45,7 @@ pub(crate) fn room(offset: usize) -> usize
     BLOCK_SIZE - offset % BLOCK_SIZE
 }
 
-/// The most data for a record at a header place: what its block has room for after the header.
+/// The most data for a record at a header place: the rest of its block after the header.
 pub(crate) fn fragment_room(place: usize) -> usize
     requires { 7 ≤ format.room place }
     ensures { result ≡ format.room place - 7 }

@@ -76,7 +76,7 @@ pub fn payload_bytes(alloc: Global, log_length: u64, payload: &[u8]) -> Result<V
     Ok(text)
 }
 
-// Below, `start` is the offset in its block at which the text begins.
+// Below, `start` is the offset in its block at which the bytes begin.
 
 /// Writes a record at the end.
 #[tactic(auto, using(std::proofs::lemmas::List::append_assoc), unfolding(crate::specs::Format::record_text))]

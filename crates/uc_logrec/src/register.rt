@@ -27,9 +27,8 @@ pub(crate) fn shift_in_bytes(mut register: u32, bytes: &[u8]) -> u32
     register
 }
 
-/// The remainder of a sum is the sum of the remainders. So each byte is looked up by itself, as if the others were
-/// zeros, and the register is added to the first four bytes. Those four come last in the sum, since they alone wait for
-/// the word before.
+/// The remainder of a sum is the sum of the remainders. So each byte is looked up alone, as if the others were zeros, and the
+/// register is added to the first four bytes. Those four come last in the sum, since they alone wait for the word before.
 fn shift_in_word(register: u32, word: &[u8; 8]) -> u32
     ensures { lowest_first 32 result ≡ register_after (lowest_first 32 register) word.now }
 {

@@ -8,7 +8,7 @@ use crate::kind::Kind;
 use crate::log_record::Record;
 use std::alloc::AllocError;
 
-/// A payload whose LAST has not come yet. A buffer beside it has the joined data of its fragments.
+/// A payload whose LAST has not come yet. A separate buffer has the joined data of its fragments.
 #[derive(Clone, Copy)]
 pub(crate) struct Unfinished {
     /// The offset of its FIRST in the log.

@@ -30,7 +30,7 @@ rising_from ms i h =
     subst (λ (ns : List (List Write)). IsRising 0 (all_of ns)) (sym (all_from ms i))
     (rising_alone 0 (all_of (take i ms)) (all_of (drop i ms)) (subst (IsRising 0) (all_of-split ms i) h))
 
--- the one at a place rises behind those before it
+-- the one at a place rises after those before it
 pub rising_at : (ms : List (List Write)) (i : ℕ) (ws : List Write) → i < length ms → ws ≡ get_or ms i ws → IsRising 0 (all_of ms) → IsRising (last_of 0 (all_of (take i ms))) ws
 rising_at ms i ws lt e h =
     let rest : drop i ms ≡ ws ∷ drop (i + 1) ms = drop_more ms i ws lt ∙ ap (λ (us : List Write). us ∷ drop (i + 1) ms) (sym e) in
@@ -38,7 +38,7 @@ rising_at ms i ws lt e h =
     rising_front (last_of 0 (all_of (take i ms))) ws (all_of (drop (i + 1) ms))
     (subst (λ (ns : List (List Write)). IsRising (last_of 0 (all_of (take i ms))) (all_of ns)) rest behind)
 
--- ---- what is told of them
+-- ---- their totals
 
 last_some : (n m : ℕ) (ws : List Write) → ws ≢ [] → last_of n ws ≡ last_of m ws
 last_some n m [] some = absurd (some refl)
@@ -47,7 +47,7 @@ last_some n m (w ∷ ws) some = refl
 size-append : (ws vs : List Write) → memtable_size (ws ++ vs) ≡ min (memtable_size ws + memtable_size vs) (2 ^ 64 - 1)
 size-append ws vs = let sum = sum_by-append write_size ws vs in omega (arith, sum)
 
--- what is told of memtables, over plain data
+-- totals of memtables, over plain data
 pub record Told (ws : List Write) (len size last ranges : ℕ) : Type 0 where
   pub rising : IsRising 0 ws
   pub len_counted : len ≡ length ws
@@ -65,7 +65,7 @@ told_more ws vs len size last ranges told some rising = record {
   ranges_counted = ap (λ n. n + count_by deletes_range vs) told.ranges_counted ∙ sym (sum_by-append _ ws vs);
 }
 
--- what is told of both parts
+-- totals of both parts
 pub told_both : (ws vs : List Write) (len size last ranges len' size' last' ranges' : ℕ) → Told ws len size last ranges → Told vs len' size' last' ranges' → IsRising 0 (ws ++ vs)
     → Told (ws ++ vs) (len + len') (min (size + size') (2 ^ 64 - 1)) (max last last') (ranges + ranges')
 told_both ws vs len size last ranges len' size' last' ranges' told told' rising = record {

@@ -1,4 +1,4 @@
--- The writes of frozen memtables, and of the active one behind them.
+-- The writes of frozen memtables, followed by those of the active one.
 use Rattle.std.proofs.Common.{◌≡◌, ◌+◌, ◌^◌, ◌<◌, ◌≤◌, List, [], ◌∷◌, ◌++◌, length, max, append_assoc, length-append, Result, Ok, Err, refl, sym, ap, ◌∙◌, subst, arith}
 use Rattle.std.specs.Prelude.{OnOk, OnErr, count_by}
 use Rattle.std.proofs.lemmas.List.{append-nil}
@@ -44,7 +44,7 @@ module _ (fs : List Write) (a : Gathering) (rising : IsRising 0 ((fs ++ a.shown)
       let same : (fs ++ a.shown) ++ a.waiting ≡ fs ++ (a.shown ++ a.waiting) = append_assoc fs a.shown a.waiting in
       last_greater fs (a.shown ++ a.waiting) (subst (IsRising 0) same rising) ∙ ap (last_of 0) (sym same)
 
-  -- what comes behind all comes behind what the active one has
+  -- a number after all is after those of the active one
   pub last_behind : last_of 0 (a.shown ++ a.waiting) ≤ last_of 0 ((fs ++ a.shown) ++ a.waiting)
   last_behind =
       let low = last_low (last_of 0 fs) (a.shown ++ a.waiting) in

@@ -12,7 +12,7 @@ use Rattle.uc_memtable.specs.Gathering.{Gathering}
 abbrev with_more : Gathering → List Write → Gathering
 with_more g ws = record { shown = g.shown; waiting = g.waiting ++ ws }
 
--- The writes from one place to below another wait, and the rest up to an end rises behind them.
+-- The writes from one place to below another are prepared, and the rest up to an end rises after them.
 abbrev pub HasCopied : Gathering → Gathering → List Write → ℕ → ℕ → ℕ → Type 0
 HasCopied start now ws first place end =
     (now ≡ record { shown = start.shown; waiting = start.waiting ++ drop first (take place ws) }) × IsRising (last_of 0 (now.shown ++ now.waiting)) (drop place (take end ws))
@@ -28,7 +28,7 @@ module _ (start now : Gathering) (ws : List Write) (first place end : ℕ) (has 
       drop_more (take end ws) place w (omega (arith, long))
       ∙ ap (λ (v : Write). v ∷ drop (place + 1) (take end ws)) (get_or-take end ws place w below ∙ here)
 
-  -- the next one comes behind those before it
+  -- the next one comes after those before it
   pub comes_next : IsRising (last_of 0 (now.shown ++ now.waiting)) (w ∷ drop (place + 1) (take end ws))
   comes_next = subst (λ (us : List Write). IsRising (last_of 0 (now.shown ++ now.waiting)) us) next has.1
 

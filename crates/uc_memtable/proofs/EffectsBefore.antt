@@ -1,4 +1,4 @@
--- What memtables do to a key, one after the other.
+-- The effect of memtables on a key, one after the other.
 use Rattle.std.proofs.Common.{◌≡◌, ℕ, ◌+◌, ◌<◌, List, [], ◌∷◌, ◌++◌, length, get_or, take, ap, sym, ◌∙◌}
 use Rattle.std.proofs.lemmas.List.{take_more}
 use Rattle.uc_bytes.specs.declared.write.Write.{Write}

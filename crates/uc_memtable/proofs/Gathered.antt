@@ -106,7 +106,7 @@ pub none_waits : (ws : List Write) → (ws ≢ [] → ⊥) → ws ≡ []
 none_waits [] h = refl
 none_waits (w ∷ ws) h = absurd (h (λ (e : w ∷ ws ≡ []). absurd cc))
 
--- whether some wait is told by how many are shown
+-- the number of shown writes decides whether some are only prepared
 module _ (n : ℕ) (ws waiting : List Write) (dropped : drop n ws ≡ waiting) where
   some_wait : (b : Bool) → ltb n (length ws) ≡ b → waiting ≢ [] → b ≡ true
   some_wait true e some = refl

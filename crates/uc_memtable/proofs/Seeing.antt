@@ -1,4 +1,4 @@
--- What a lookup sees, place by place.
+-- The writes that a lookup sees, place by place.
 use Rattle.std.proofs.Common.{◌≡◌, ℕ, zero, suc, ◌+◌, ◌-◌, ◌<◌, ◌≤◌, Bool, true, false, cond, List, [], ◌∷◌, ◌++◌, length, Option, Some, None, refl, ap, sym, ◌∙◌, arith, fold, filter, leb, get_or, map, take, min}
 use Rattle.std.specs.Prelude.{◌&&◌, IfSome}
 use Rattle.std.specs.List.{slice_get}
@@ -64,7 +64,7 @@ onto_all m key at (w ∷ ws) effect =
     ∙ onto_all m key at ws (then_seen m effect (if_seen key at (Some w)))
     ∙ sym (onto-first m (seen_at (w ∷ ws) key at) effect (length ws))
 
--- what writes do is what is seen below any end behind them
+-- the effect of writes is that of the writes seen below any end after them
 pub effect_on-seen : (m : Operation) (writes : List Write) (key : List ℕ) (at n : ℕ) → length writes ≤ n → effect_on m writes key at ≡ effect_below m (seen_at writes key at) n
 effect_on-seen m writes key at n le =
     onto_all m key at writes Keep
@@ -135,7 +135,7 @@ labels-from s end none place le = both (seen_by s place) (none place le) (seen-n
     both None a b = tt
     both (Some w) a b = b a
 
--- what a lookup sees below an end behind all writes is what the first ones do
+-- the effect that a lookup sees below an end after all writes is that of the first ones
 pub effect_on-sight : (m : Operation) (s : Sight) → effect_on m (take s.shown s.writes.now) s.key.now s.at ≡ effect_below m (seen_by s) (length s.writes.now)
 effect_on-sight m s =
     let short : length (take s.shown s.writes.now) ≡ min s.shown (length s.writes.now) = length-take s.shown s.writes.now in

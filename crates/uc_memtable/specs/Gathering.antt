@@ -1,8 +1,8 @@
--- What a memtable that takes writes holds.
+-- The contents of a memtable that takes writes.
 use Rattle.std.specs.Prelude.{ℕ, List}
 use Rattle.uc_bytes.specs.declared.write.Write.{Write}
 
--- the writes that reads see, and those behind them that were prepared and wait
+-- the writes that reads see, and the newer ones that are only prepared
 pub record Gathering : Type 0 where
   pub shown : List Write
   pub waiting : List Write

@@ -10,7 +10,7 @@ use Rattle.uc_memtable.specs.declared.frozen_memtables.FrozenMemtables.TheInside
 abbrev pub all_frozen : Inside → List Write
 all_frozen f = all_of f.memtables.items
 
--- the sequences of all writes rise, and what is told of them is counted
+-- the sequence numbers of all writes rise, and their totals are right
 pub record AreFrozen (f : Inside) : Type 0 where
   pub rising : IsRising 0 (all_of f.memtables.items)
   pub len_counted : f.len ≡ length (all_of f.memtables.items)

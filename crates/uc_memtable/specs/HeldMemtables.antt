@@ -1,4 +1,4 @@
--- How gathered memtables are held.
+-- Representation of memtables.
 use Rattle.std.specs.Prelude.{◌++◌}
 use Rattle.uc_batch.specs.Rising.{IsRising}
 use Rattle.uc_memtable.specs.Gathering.{Gathering}

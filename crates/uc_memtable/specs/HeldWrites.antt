@@ -10,7 +10,7 @@ use Rattle.uc_memtable.specs.declared.active_memtable.ActiveMemtable.TheInside.{
 abbrev pub gathered : Inside → Gathering
 gathered m = record { shown = take m.shown m.writes; waiting = drop m.shown m.writes }
 
--- the sequences of all writes rise, each has its label, and what is told of the shown ones is counted
+-- the sequence numbers of all writes rise, each has its label, and the totals of the shown ones are right
 pub record IsGathered (m : Inside) : Type 0 where
   pub within : m.shown ≤ length m.writes
   pub rising : IsRising 0 m.writes

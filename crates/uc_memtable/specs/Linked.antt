@@ -3,7 +3,7 @@ use Rattle.std.specs.Prelude.{◌≡◌, ◌==◌, ℕ, ◌<◌, ◌-◌, Bool, 
 use Rattle.std.specs.Int.RustNames.{bit_and}
 use Rattle.uc_memtable.specs.Ends.{newest_end}
 
--- the bucket of a label, among so many
+-- the bucket of a label, among `buckets` of them
 abbrev pub bucket_of : ℕ → ℕ → ℕ
 bucket_of buckets label = bit_and label (buckets - 1)
 

@@ -1,4 +1,4 @@
--- What a read of a key at a sequence sees at each place of a list of writes, and what that does to the key.
+-- The write that a read of a key at a sequence number sees at each place of a list of writes, and its effect on the key.
 use Rattle.std.specs.Prelude.{ℕ, zero, suc, Bool, false, List, [], ◌∷◌, Option, Some, None, take, if◌then◌else◌}
 use Rattle.std.specs.List.{slice_get}
 use Rattle.uc_bytes.specs.declared.write.Write.{Write}

@@ -157,8 +157,8 @@ impl ActiveMemtable {
         let _ = &self.shown;
     }
 
-    /// Takes a write, which then waits after the others. Its sequence is above all of theirs and at most
-    /// [`MAX_SEQUENCE`](uc_bytes::MAX_SEQUENCE). It costs a copy of the texts, amortized. An `Err` changes nothing.
+    /// Appends a write, which isn't shown yet. Its sequence number is above all others and at most
+    /// [`MAX_SEQUENCE`](uc_bytes::MAX_SEQUENCE). It costs a copy of the key and value, amortized. An `Err` changes nothing.
     pub fn prepare(&mut self, write: &WriteRef<'_>) -> Result<(), AllocError>
         requires above { last_of 0 (self.old.shown ++ self.old.waiting) < write.now.seq }
         requires below { write.now.seq < 2 ^ 56 }
@@ -214,8 +214,8 @@ impl ActiveMemtable {
         }
     }
 
-    /// Takes and shows copies of the writes that another memtable shows, which lie after all of these. It costs a copy
-    /// of the texts. An `Err` changes nothing.
+    /// Appends and shows copies of the writes that another memtable shows. Their sequence numbers are above all of these. It costs
+    /// a copy of the keys and values. An `Err` changes nothing.
     pub(crate) fn take_shown(&mut self, other: &ActiveMemtable) -> Result<(), AllocError>
         requires none { self.old.waiting ≡ [] }
         requires rising { IsRising (last_of 0 self.old.shown) other.now.shown }
@@ -254,10 +254,9 @@ impl ActiveMemtable {
             .into_effect(alloc)
     }
 
-    /// The effect of the shown writes at or below a sequence on a key. It looks at the range deletions, the newest
-    /// first, down to one over the key, and then at the writes of the key above it, down to a put or a delete. Merges
-    /// above that one cost the length of the text that they give. A value that is put, and that nothing is merged into, stays
-    /// where it is.
+    /// The effect of the shown writes at or below a sequence number on a key. It searches the range deletions, newest first, for
+    /// one over the key, and then reads the writes of the key above it, down to a put or a delete. Merges above that one cost the
+    /// length of their result. A value that is put, and into which nothing is merged, isn't copied.
     pub fn effect_of_sought<O: Operator>(
         &self,
         alloc: Global,

@@ -1,4 +1,4 @@
-//! [`FlushableMemtables`]: gathered memtables, of which the oldest may be set apart for a flush.
+//! [`FlushableMemtables`]: memtables, the oldest of which may be set apart for a flush.
 ghost use Rattle.std.specs.Prelude.{◌≡◌, ◌≢◌, ◌<◌, ◌^◌, ◌↔◌, ◌∷◌, ◌++◌, [], IsTrue, IfOk, IfSome, OnOk, OnErr};
 ghost use Rattle.std.specs.Prelude.{length, count_by, drop};
 ghost use Rattle.uc_batch.specs.Rising.{IsRising, last_of};
@@ -17,8 +17,8 @@ use uc_model::effects_of_parts_compose;
 use uc_oper::{Effect, EffectRef, Operator};
 use uc_run::{Memtable, Run, SoughtKey};
 
-/// Gathered memtables after older ones that are set apart, so that another thread flushes them. A contract sees them as
-/// [`GatheredMemtables`] of all their writes, and how many of the shown ones are set apart.
+/// Memtables after older ones that are set apart, so that another thread flushes them. A contract sees them as
+/// [`GatheredMemtables`] of all their writes, and the number of shown ones that are set apart.
 ///
 /// Memtables that are set apart stay as they are until they are dropped, and are joined with no others.
 pub struct FlushableMemtables {
@@ -163,7 +163,7 @@ impl FlushableMemtables {
         self.behind.give_up();
     }
 
-    /// Forgets all writes, and keeps their memory as [`ActiveMemtable::clear`] does, but for those that are set apart or frozen.
+    /// Removes all writes, and keeps their memory as [`ActiveMemtable::clear`] does, except for those that are set apart or frozen.
     pub fn clear(&mut self, alloc: Global, most: u64)
         ensures { self.new ≡ record { shown = []; waiting = []; apart = 0 } }
     {
@@ -183,8 +183,8 @@ impl FlushableMemtables {
         })
     }
 
-    /// Sets all that is shown apart, and gives a share of it, which shows the same from now on. No text is copied, but of
-    /// the writes that wait. It is refused for want of memory, and changes nothing then.
+    /// Sets all shown writes apart for a flush, and returns another handle to them, which shows the same from now on. It copies no
+    /// key or value except those of prepared writes. Fails only if allocation fails, and changes nothing then.
     pub fn set_apart(&mut self, alloc: Global) -> Result<FlushableMemtables, AllocError>
         ensures shared { IfOk result (λ shared. (shared.shown ≡ self.old.shown) × (shared.waiting ≡ [])) }
         ensures ok { OnOk result (self.new ≡ record self.old { apart = length self.old.shown }) }

@@ -1,4 +1,4 @@
-//! [`GatheredMemtables`]: writes that are looked into while more come, and which threads share as they are at a moment.
+//! [`GatheredMemtables`]: memtables that are read while they take writes, and whose present contents threads can share.
 ghost use Rattle.std.specs.Prelude.{◌≡◌, ◌≢◌, ◌<◌, ◌^◌, ◌↔◌, ◌∷◌, ◌++◌, [], IsTrue, IfOk, IfSome, OnOk, OnErr};
 ghost use Rattle.std.specs.Prelude.{length, count_by};
 ghost use Rattle.uc_batch.specs.Rising.{IsRising, last_of};
@@ -180,7 +180,7 @@ impl GatheredMemtables {
         self.active.give_up();
     }
 
-    /// Forgets all writes, and keeps their memory as [`ActiveMemtable::clear`] does, but for those that are frozen.
+    /// Removes all writes, and keeps their memory as [`ActiveMemtable::clear`] does, except for those that are frozen.
     pub fn clear(&mut self, alloc: Global, most: u64)
         ensures { self.new ≡ record { shown = []; waiting = [] } }
     {
@@ -188,11 +188,11 @@ impl GatheredMemtables {
         self.active.clear(alloc, most);
     }
 
-    /// A share of what is shown, for other threads: it shows the same from now on, whatever is written here. Nothing
-    /// waits in it.
+    /// Another handle to what is shown, for other threads: it shows the same from now on, whatever is written here. It has no
+    /// prepared write.
     ///
-    /// Freezes the shown writes. It copies the bytes of small frozen memtables, which are joined, and of
-    /// the writes that wait. It is refused for want of memory. No write changes here.
+    /// Freezes the shown writes. It copies the bytes of small frozen memtables, which are joined, and of prepared writes. Fails
+    /// only if allocation fails. No write changes here.
     pub fn share(&mut self, alloc: Global) -> Result<GatheredMemtables, AllocError>
         ensures shared { IfOk result (λ shared. shared ≡ record { shown = self.old.shown; waiting = [] }) }
         ensures same { self.new ≡ self.old }

@@ -144,7 +144,7 @@ pub(crate) fn effect_before<'a, O: Operator>(
         if effect.is_set() {
             return Ok(effect);
         }
-        // It lends no value, so this copies nothing.
+        // It borrows no value, so this copies nothing.
         let newer = effect.into_effect(alloc)?;
         let older = memtables[place]
             .memtable()

@@ -47,8 +47,8 @@ fn link_all(heads: &mut [usize], before: &mut [usize], labels: &[u64])
     }
 }
 
-/// Makes room for one more label, if there isn't any: twice as many buckets, in which all places are linked anew. An `Err`
-/// changes nothing.
+/// Makes space for one more label, if there is none: twice as many buckets, in which all places are linked anew. An `Err` changes
+/// nothing.
 pub(crate) fn make_room(
     heads: &mut Vec<usize>,
     before: &mut [usize],

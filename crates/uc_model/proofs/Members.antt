@@ -1,4 +1,4 @@
--- What stands in a list, by its first element and the others.
+-- The elements of a list: its first one and the others.
 use Rattle.std.proofs.Common.{◌≡◌, ℕ, zero, suc, ◌<◌, List, [], ◌∷◌, length, get_or, Contains, Any, ◌⊎◌, inl, inr, refl, sym, subst, arith}
 
 module _ {X : Type 0} where

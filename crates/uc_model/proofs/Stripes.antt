@@ -47,7 +47,7 @@ at_front true false r w ps qs rs e f h = absurd cc
 at_front false true r w ps qs rs e f h = absurd cc
 at_front p q true w ps qs rs e f h = absurd cc
 
--- a write behind the first part, which has none any more
+-- a write after the first part, which has none any more
 at_back : (p q r : Bool) (w : Write) (ps qs rs : List Write) → q ≡ false → p ≡ r → qs ≡ [] → ps ≡ qs ++ rs → cond p (w ∷ ps) ps ≡ cond q (w ∷ qs) qs ++ cond r (w ∷ rs) rs
 at_back true false true w ps qs rs e f n h = ap (λ (l : List Write). w ∷ l) (h ∙ ap (λ (l : List Write). l ++ rs) n) ∙ sym (ap (λ (l : List Write). l ++ w ∷ rs) n)
 at_back false false false w ps qs rs e f n h = h

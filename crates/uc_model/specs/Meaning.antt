@@ -1,4 +1,4 @@
--- What a read means (RocksDB wiki: "Merge Operator", "DeleteRange", "Snapshot").
+-- The meaning of a read (RocksDB wiki: "Merge Operator", "DeleteRange", "Snapshot").
 --
 -- Lists of writes are oldest first, and each of these folds goes in the order of the list.
 use Rattle.std.specs.Prelude.{◌≡◌, ℕ, Bool, ◌&&◌, List, Option, Some, None, nat_le, nat_lt, filter, fold}

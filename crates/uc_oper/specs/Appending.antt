@@ -1,4 +1,4 @@
--- Texts joined by a delimiter (RocksDB, `StringAppendOperator`).
+-- Byte strings joined by a delimiter (RocksDB, `StringAppendOperator`).
 use Rattle.std.specs.Prelude.{ℕ, List, ◌∷◌, ◌++◌}
 use Rattle.std.proofs.Common.{rules}
 use Rattle.std.proofs.lemmas.Grind.{common_steps}

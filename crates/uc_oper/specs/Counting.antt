@@ -5,7 +5,7 @@ use Rattle.std.proofs.Common.{ap, ◌∙◌, sym, arith}
 use Rattle.std.proofs.lemmas.Nat.{from_le_bytes-to_le_bytes_8}
 use Rattle.uc_oper.specs.Operation.{Operation, IsLawful}
 
--- the number that a text encodes: 8 bytes, low byte first; otherwise 0
+-- the number that a value encodes: 8 bytes, low byte first; otherwise 0
 abbrev pub number : List ℕ → ℕ
 number x = if length x == 8 then from_le_bytes w64 x else 0
 

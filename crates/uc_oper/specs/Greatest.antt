@@ -1,4 +1,4 @@
--- The greater text in byte order (RocksDB, `MaxOperator`).
+-- The greater byte string in byte order (RocksDB, `MaxOperator`).
 use Rattle.std.specs.Prelude.{◌≡◌, ℕ, Bool, true, false, List, if◌then◌else◌}
 use Rattle.std.specs.declared.cmp.Ordering.{Ordering}
 use Rattle.std.specs.declared.cmp.Ordering.TheVariants.{Less, Equal, Greater}

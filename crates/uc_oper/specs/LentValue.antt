@@ -1,4 +1,4 @@
--- Values that may be lent.
+-- Values that may be borrowed.
 use Rattle.std.specs.Prelude.{ℕ, List}
 use Rattle.uc_oper.specs.declared.value_ref.Place.{Place}
 use Rattle.uc_oper.specs.declared.value_ref.Place.TheVariants.{Lent, Own}

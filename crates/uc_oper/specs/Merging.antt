@@ -1,4 +1,4 @@
--- What an operand makes of a value, or of none.
+-- The result of merging an operand into a value, or into none.
 use Rattle.std.specs.Prelude.{ℕ, List, Option, Some, None}
 use Rattle.uc_oper.specs.Operation.{Operation}
 

@@ -1,4 +1,4 @@
--- What a merge operator means, and its laws (RocksDB wiki, "Merge Operator").
+-- The meaning of a merge operator, and its laws (RocksDB wiki, "Merge Operator").
 use Rattle.std.specs.Prelude.{◌≡◌, ℕ, List}
 
 -- an operator's three functions, on lists of bytes

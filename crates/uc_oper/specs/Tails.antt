@@ -1,4 +1,4 @@
--- The last bytes of texts put together.
+-- The last bytes of concatenated byte strings.
 use Rattle.std.specs.Prelude.{◌≡◌, ℕ, ◌+◌, ◌-◌, ◌≤◌, List, [], ◌++◌, length, drop}
 use Rattle.std.proofs.Common.{ap, ◌∙◌, sym, arith, inl, inr, length-drop, length-append, drop-drop}
 use Rattle.std.proofs.Math.Seq.{drop-append-add}
@@ -6,11 +6,11 @@ use Rattle.std.proofs.lemmas.Bool.{cases_lt}
 use Rattle.std.proofs.lemmas.List.{append_assoc, drop-append-le, drop_all}
 use Rattle.uc_oper.specs.Operation.{Operation, IsLawful}
 
--- the last so many bytes of a text, or all if it has fewer
+-- the last `count` bytes, or all if there are fewer
 abbrev pub last_bytes : ℕ → List ℕ → List ℕ
 last_bytes count text = drop (length text - count) text
 
--- the last bytes of an older text with a newer one behind it
+-- the last bytes of an older byte string followed by a newer one
 abbrev pub last_of_both : ℕ → List ℕ → List ℕ → List ℕ
 last_of_both count older newer = last_bytes count (older ++ newer)
 
@@ -21,14 +21,14 @@ module _ (n : ℕ) where
   counted : (a b whole rest : ℕ) → whole ≡ a + b → rest ≡ whole - (a - n) → (a - n) + (rest - n) ≡ whole - n
   counted a b whole rest p q = omega (arith, p, q)
 
-  -- what is cut from the older text doesn't come back
+  -- bytes that are cut from the older byte string don't come back
   last_left : (x y : List ℕ) → last_of_both n (last_bytes n x) y ≡ last_of_both n x y
   last_left x y =
       ap (last_bytes n) (sym (drop-append-le (length x - n) x y (omega arith)))
       ∙ drop-drop (length (drop (length x - n) (x ++ y)) - n) (length x - n) (x ++ y)
       ∙ ap (λ (i : ℕ). drop i (x ++ y)) (counted (length x) (length y) (length (x ++ y)) (length (drop (length x - n) (x ++ y))) (length-append x y) (length-drop (length x - n) (x ++ y)))
 
-  -- the newer text alone decides if it is long
+  -- the newer byte string alone decides if it is long
   long_newer : (x y : List ℕ) → n ≤ length y → last_of_both n x y ≡ last_bytes n y
   long_newer x y le =
       let index : length (x ++ y) - n ≡ length x + (length y - n) = let e = length-append x y in omega (arith, e, le) in
@@ -43,7 +43,7 @@ module _ (n : ℕ) where
   last_twice : (y : List ℕ) → n ≤ length y → last_bytes n (last_bytes n y) ≡ last_bytes n y
   last_twice y le = let e = last_long y le in short_stays (last_bytes n y) (omega (arith, e))
 
-  -- what is cut from the newer text doesn't come back
+  -- bytes that are cut from the newer byte string don't come back
   last_right : (x y : List ℕ) → last_of_both n x (last_bytes n y) ≡ last_of_both n x y
   last_right x y =
       elim (cases_lt (length y) n) [
@@ -61,7 +61,7 @@ module _ (n : ℕ) where
     pair_assoc = λ x y z. sym (joins_pairs x y z);
   }
 
-  -- it is the newer text's last bytes behind those of the older one for which there is room
+  -- the newer byte string's last bytes, after as many of the older one's last bytes as still fit
   pub last_parts : (x y : List ℕ) → last_of_both n x y ≡ last_bytes (n - length (last_bytes n y)) x ++ last_bytes n y
   last_parts x y =
       elim (cases_lt (length y) n) [

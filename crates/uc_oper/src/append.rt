@@ -1,15 +1,15 @@
-//! [`Append`]: texts with a delimiter between them.
+//! [`Append`]: byte strings with a delimiter between them.
 ghost use Rattle.uc_oper.specs.Appending as appending;
 ghost use Rattle.std.specs.Prelude.{◌≡◌, IfOk, OnOk};
 
 use crate::operator::Operator;
 use std::alloc::{AllocError, Global};
 
-/// Joins texts with the byte `D` between them, as RocksDB's `StringAppendOperator` does.
+/// Joins byte strings with the byte `D` between them, as RocksDB's `StringAppendOperator` does.
 pub enum Append<const D: u8> {}
 
-/// The older text, the delimiter, then the newer text.
-// Inlined, so that the text's parts stay in registers: passing them through memory costs half of a fold's time.
+/// The older byte string, the delimiter, then the newer one.
+// Inlined, so that the parts stay in registers: passing them through memory costs half of a fold's time.
 #[inline]
 fn appended(mut older: Vec<u8>, delimiter: u8, newer: &[u8]) -> Result<Vec<u8>, AllocError>
     ensures { IfOk result (λ text. text.items ≡ appending.appended delimiter older.items newer.now) }
@@ -36,12 +36,12 @@ impl<const D: u8> Operator for Append<D> {
         appended(Vec::from_slice(alloc, older)?, D, newer)
     }
 
-    /// Extends the value. It allocates only if the value has no room left.
+    /// Extends the value. It allocates only if the value has no spare capacity.
     fn join_onto(_: Global, base: Vec<u8>, operand: &[u8]) -> Result<Vec<u8>, AllocError> {
         appended(base, D, operand)
     }
 
-    /// Extends the older operand. It allocates only if that has no room left.
+    /// Extends the older operand. It allocates only if that has no spare capacity.
     fn pair_onto(_: Global, older: Vec<u8>, newer: &[u8]) -> Result<Vec<u8>, AllocError> {
         appended(older, D, newer)
     }

@@ -5,10 +5,9 @@ ghost use Rattle.std.specs.Prelude.{◌≡◌, ◌+◌, ◌%◌, ◌^◌, IfOk};
 use crate::operator::Operator;
 use std::alloc::{AllocError, Global};
 
-/// Adds numbers of 64 bits, as RocksDB's `UInt64AddOperator` does.
+/// Adds 64-bit integers, as RocksDB's `UInt64AddOperator` does.
 ///
-/// A text of 8 bytes is a number, low byte first; any other counts as 0. Sums wrap at 2^64, and
-/// every result has 8 bytes.
+/// A value of 8 bytes is an integer, low byte first; any other value counts as 0. Sums wrap at 2^64, and every result has 8 bytes.
 pub enum Counter {}
 
 /// The number that the bytes encode.
@@ -63,12 +62,12 @@ impl Operator for Counter {
         sum_of(alloc, older, newer)
     }
 
-    /// Writes the sum in place. It allocates only if the value has no room for 8 bytes.
+    /// Writes the sum in place. It allocates only if the value has no capacity for 8 bytes.
     fn join_onto(_: Global, base: Vec<u8>, operand: &[u8]) -> Result<Vec<u8>, AllocError> {
         add_onto(base, operand)
     }
 
-    /// Writes the sum in place. It allocates only if the older operand has no room for 8 bytes.
+    /// Writes the sum in place. It allocates only if the older operand has no capacity for 8 bytes.
     fn pair_onto(_: Global, older: Vec<u8>, newer: &[u8]) -> Result<Vec<u8>, AllocError> {
         add_onto(older, newer)
     }

@@ -19,8 +19,8 @@ pub enum Effect {
 }
 
 impl Effect {
-    /// Composes both effects, this one first. It writes into this effect's text instead of copying it. So composing
-    /// many newer effects in turn costs the length of their texts and of the last one. An `Err` loses both.
+    /// Composes both effects, this one first. It appends to this effect's buffer instead of copying it. So composing many newer
+    /// effects in turn costs their total length plus the length of the last one. An `Err` loses both.
     pub fn then<O: Operator>(self, alloc: Global, newer: Effect) -> Result<Effect, AllocError>
         ensures { IfOk result (λ both. both ≡ composition.composed O.meaning self newer) }
     {

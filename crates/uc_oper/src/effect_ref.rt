@@ -1,4 +1,4 @@
-//! [`EffectRef`]: an effect whose value may be lent.
+//! [`EffectRef`]: an effect whose value may be borrowed.
 ghost use Rattle.std.specs.Prelude.{◌≡◌, ◌↔◌, Some, true, IsTrue, IfOk};
 ghost use Rattle.uc_oper.specs.Composition as composition;
 ghost use Rattle.uc_oper.specs.declared.effect.Effect.TheVariants as variants;
@@ -14,9 +14,9 @@ use uc_bytes::Bytes;
 /// Where an effect lies.
 #[derive(Drop)]
 enum Kind<'a> {
-    /// The value is put, and its text lies where it was written.
+    /// The value is put, and its bytes are where they were written.
     Put(&'a [u8]),
-    /// The effect has its own text.
+    /// The effect owns its bytes.
     Own(Effect),
 }
 
@@ -47,7 +47,7 @@ impl<'a> EffectRef<'a> {
         }
     }
 
-    /// An effect that has its own text.
+    /// An effect that owns its bytes.
     #[inline]
     pub fn own(effect: Effect) -> EffectRef<'a>
         ensures { result ≡ effect }
@@ -68,7 +68,7 @@ impl<'a> EffectRef<'a> {
         }
     }
 
-    /// The effect, with a copy of a value that is lent.
+    /// The effect, with a copy of a borrowed value.
     #[inline]
     pub fn into_effect(self, alloc: Global) -> Result<Effect, AllocError>
         ensures { IfOk result (λ effect. effect ≡ self.entry) }
@@ -79,8 +79,7 @@ impl<'a> EffectRef<'a> {
         }
     }
 
-    /// Composes this effect and a newer operand, which may be written into this effect's own text. An `Err` loses the
-    /// effect.
+    /// Composes this effect and a newer operand, which may be written into this effect's own buffer. An `Err` loses the effect.
     pub fn folded<O: Operator>(self, alloc: Global, operand: &[u8]) -> Result<Effect, AllocError>
         ensures { IfOk result (λ both. both ≡ composition.folded O.meaning self.entry operand.now) }
     {
@@ -112,8 +111,7 @@ impl<'a> EffectRef<'a> {
         }
     }
 
-    /// The value that it makes of a value, or of none, as [`Effect::apply`] does: one that is lent stays where it is. An `Err`
-    /// loses both.
+    /// The value that it makes of a value, or of none, as [`Effect::apply`] does: a borrowed one isn't copied. An `Err` loses both.
     #[inline]
     pub fn apply<O: Operator>(
         self,

@@ -1,4 +1,4 @@
-//! [`Maximum`]: the greatest text.
+//! [`Maximum`]: the greatest byte string.
 ghost use Rattle.uc_oper.specs.Greatest as greatest;
 ghost use Rattle.std.specs.Prelude.{◌≡◌, IfOk};
 
@@ -6,10 +6,10 @@ use crate::operator::Operator;
 use std::alloc::{AllocError, Global};
 use std::cmp::Ordering;
 
-/// Keeps the greater text in byte order, as RocksDB's `MaxOperator` does.
+/// Keeps the greater operand in byte order, as RocksDB's `MaxOperator` does.
 pub enum Maximum {}
 
-/// The greater of two texts.
+/// The greater of two byte strings.
 fn greater_of<'a>(older: &'a [u8], newer: &'a [u8]) -> &'a [u8]
     ensures { result.now ≡ greatest.greater_of older.now newer.now }
 {
@@ -19,7 +19,7 @@ fn greater_of<'a>(older: &'a [u8], newer: &'a [u8]) -> &'a [u8]
     }
 }
 
-/// The greater text in the memory of the older one.
+/// The greater byte string, in the memory of the older one.
 #[inline]
 fn keep_greater(mut older: Vec<u8>, newer: &[u8]) -> Result<Vec<u8>, AllocError>
     ensures { IfOk result (λ text. text.items ≡ greatest.greater_of older.items newer.now) }
@@ -48,12 +48,12 @@ impl Operator for Maximum {
         Vec::from_slice(alloc, greater_of(older, newer))
     }
 
-    /// Keeps the value if it is the greater. It allocates only if the value has no room for the operand.
+    /// Keeps the value if it is the greater. It allocates only if the value has no capacity for the operand.
     fn join_onto(_: Global, base: Vec<u8>, operand: &[u8]) -> Result<Vec<u8>, AllocError> {
         keep_greater(base, operand)
     }
 
-    /// Keeps the older operand if it is the greater. It allocates only if that has no room for the newer one.
+    /// Keeps the older operand if it is the greater. It allocates only if that has no capacity for the newer one.
     fn pair_onto(_: Global, older: Vec<u8>, newer: &[u8]) -> Result<Vec<u8>, AllocError> {
         keep_greater(older, newer)
     }

@@ -7,9 +7,9 @@ use std::alloc::{AllocError, Global};
 /// A rule by which the operands of merges combine (RocksDB wiki, "Merge Operator": an associative merge with a partial merge that
 /// may always be made).
 ///
-/// An operator is a type without values, so values of two operators are never mixed. An implementation provides the
-/// first three functions. The two that take the older text by value mean the same. Those that write into its memory
-/// save a copy of it.
+/// An operator is a type without values, so values of two operators are never mixed. An implementation provides the first three
+/// functions. The two that take the older byte string by value have the same result. Those that write into its memory save a copy
+/// of it.
 pub trait Operator {
     /// The three functions, on lists of bytes.
     ghost meaning: { Operation };

@@ -1,24 +1,24 @@
-//! [`Tail`]: the last bytes of texts put together.
+//! [`Tail`]: the last bytes of concatenated operands.
 ghost use Rattle.uc_oper.specs.Tails as tails;
 ghost use Rattle.std.specs.Prelude.{◌≡◌, ◌≤◌, length, drop, IfOk};
 
 use crate::operator::Operator;
 use std::alloc::{AllocError, Global};
 
-/// Puts texts after one another and keeps the last `N` bytes, as a log of bounded length does. A value that was put
-/// stays whole until an operand meets it.
+/// Concatenates byte strings and keeps the last `N` bytes, as a log of bounded length does. A value that was put stays whole until
+/// it is merged with an operand.
 ///
-/// A join or a pair copies at most `N` bytes.
+/// Joining two byte strings copies at most `N` bytes.
 pub enum Tail<const N: usize> {}
 
-/// The last bytes of a text, or all if it has fewer.
+/// The last `count` bytes, or all if there are fewer.
 fn last_bytes(text: &[u8], count: usize) -> &[u8]
     ensures { result.now ≡ tails.last_bytes count text.now }
 {
     &text[text.len().saturating_sub(count)..]
 }
 
-/// The last bytes of an older text and a newer one, in memory of their own.
+/// The last bytes of an older byte string and a newer one, in new memory.
 fn last_of_both(
     alloc: Global,
     count: usize,
@@ -35,7 +35,7 @@ fn last_of_both(
     Ok(text)
 }
 
-/// The text without its first bytes, in its memory.
+/// The bytes without the first `count`, in the same memory.
 fn without_front(mut text: Vec<u8>, count: usize) -> Vec<u8>
     requires { count ≤ length text.items }
     ensures { result.items ≡ drop count text.items }
@@ -46,8 +46,8 @@ fn without_front(mut text: Vec<u8>, count: usize) -> Vec<u8>
     text
 }
 
-/// The last bytes of an older text and a newer one, in the memory of the older one. If that is longer than what stays, its
-/// memory is let go.
+/// The last bytes of an older byte string and a newer one, in the memory of the older one. If that is longer than the result, its
+/// memory is freed.
 fn keep_last(
     alloc: Global,
     count: usize,
@@ -83,14 +83,14 @@ impl<const N: usize> Operator for Tail<N> {
         last_of_both(alloc, N, older, newer)
     }
 
-    /// Moves what stays of the value to its front. It allocates only if the value is longer than `N` bytes, or has no
-    /// room for the operand.
+    /// Moves the rest of the value to its front. It allocates only if the value is longer than `N` bytes, or has no capacity for
+    /// the operand.
     fn join_onto(alloc: Global, base: Vec<u8>, operand: &[u8]) -> Result<Vec<u8>, AllocError> {
         keep_last(alloc, N, base, operand)
     }
 
-    /// Moves what stays of the older operand to its front. It allocates only if that is longer than `N` bytes, or has
-    /// no room for the newer one.
+    /// Moves the rest of the older operand to its front. It allocates only if that is longer than `N` bytes, or has no capacity for
+    /// the newer one.
     fn pair_onto(alloc: Global, older: Vec<u8>, newer: &[u8]) -> Result<Vec<u8>, AllocError> {
         keep_last(alloc, N, older, newer)
     }

@@ -1,4 +1,4 @@
-//! [`ValueRef`]: a value that may be lent.
+//! [`ValueRef`]: a value that may be borrowed.
 ghost use Rattle.std.specs.Prelude.{◌≡◌, IfOk};
 ghost use Rattle.uc_oper.specs.LentValue.{text_of};
 
@@ -62,7 +62,7 @@ impl<'a> ValueRef<'a> {
         }
     }
 
-    /// The value in memory of its own: a copy, if it is lent.
+    /// The value in its own memory: a copy, if it is borrowed.
     #[inline]
     pub fn into_bytes(self, alloc: Global) -> Result<Bytes, AllocError>
         ensures { IfOk result (λ value. value ≡ self.entry) }
@@ -74,7 +74,7 @@ impl<'a> ValueRef<'a> {
     }
 }
 
-/// A value, if there is one, in memory of its own: a copy, if it is lent.
+/// A value, if there is one, in its own memory: a copy, if it is borrowed.
 pub fn owned_value(alloc: Global, value: Option<ValueRef<'_>>) -> Result<Option<Bytes>, AllocError>
     ensures { IfOk result (λ owned. owned ≡ value.entry) }
 {

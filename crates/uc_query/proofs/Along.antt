@@ -14,7 +14,7 @@ use Rattle.uc_query.specs.Turns.{Turn, FailsWith, Rises, turn_of}
 use Rattle.uc_query.specs.Running.{Ran, unless_error, run_of}
 use Rattle.uc_query.specs.Stepping.{RunsTo, Halts}
 
--- what comes of calls behind others
+-- the results of calls after others
 abbrev pub behind_all : Ran → Ran → Ran
 behind_all first rest = record { replies = first.replies ++ rest.replies; state = rest.state; error = rest.error }
 

@@ -90,7 +90,7 @@ module _ (m : Operation) (owners : OwnersStay m) (grows : Grows m) where
   abbrev Along : History → State → Type 0
   Along h s = IsLegal m h × IsOwner s.owner × AreHeld s.owner s.names × (s.owner.version ≡ version_after h)
 
-  -- what a turn leaves goes on along it
+  -- the state after a turn continues along it
   along_still : (h : History) (s : State) (x : Call) (turn : Turn) → Along h s → Steps m s x turn → turn.state.owner.version ≡ s.owner.version → Along h turn.state
   along_still h s x turn a step same = (a.0, step.owner, step.held, same ∙ a.3)
 

@@ -1,4 +1,4 @@
--- What holds of the claims under names when one is made, given back or installed.
+-- Invariant of the claims under names when one is made, given back or installed.
 use Rattle.std.proofs.Common.{◌≡◌, ◌≢◌, ℕ, zero, suc, ◌+◌, ◌-◌, ◌<◌, ◌≤◌, Bool, true, false, cond, ltb, List, [], ◌∷◌, length, get_or, set, map, refl, sym, ap, ◌∙◌, subst, ◌⊎◌, inl, inr, get_or-set_other, arith}
 use Rattle.std.specs.Prelude.{Option, Some, None}
 use Rattle.std.specs.List.{AllByRecursion}
@@ -54,7 +54,7 @@ moved_ids first count (Some h) d = by_test (ltb first h.first)
     by_test true = refl
     by_test false = refl
 
--- and where stretches behind some runs move up
+-- and if stretches move up, after new runs
 pub held_moved : (o : Owner) (d : Claim) (first count : ℕ) (cs : List (Option HeldStretch)) → has_ids (get_or cs d.number None) d ≡ true → has_ids (get_or (map (moved_up first count) cs) d.number None) d ≡ true
 held_moved o d first count cs held = held_changed (moved_up first count) refl d (λ c. moved_ids first count c d) cs held
 

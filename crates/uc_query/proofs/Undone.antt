@@ -1,4 +1,4 @@
--- What changes nothing in the end.
+-- Changes that are undone in the end.
 use Rattle.std.proofs.Common.{◌≡◌, ℕ, false, cond, List, get_or, set, sym, ap, ◌∙◌}
 use Rattle.std.specs.Prelude.{Option, Some, None}
 use Rattle.std.proofs.lemmas.List.{set-set, set-get_or}

@@ -25,7 +25,7 @@ known_then k _ _ = k
 abbrev pub IsFedOrFull : Reply → Type 0
 IsFedOrFull reply = ((count : ℕ) × (reply ≡ Fed count)) ⊎ (reply ≡ NotFed TooManyRuns) ⊎ (reply ≡ NotFed IdsSpent)
 
--- the reply to writes behind a last sequence, which are turned back exactly if the first of them isn't above it
+-- the reply to writes after a last sequence number, which are rejected exactly if the first of them isn't above it
 abbrev pub IsFeedAnswered : ℕ → Bool → Reply → Type 0
 IsFeedAnswered last false reply = reply ≡ NotFed (Back last)
 IsFeedAnswered last true reply = IsFedOrFull reply
@@ -45,7 +45,7 @@ IsAnswered m k (call.Feed writes) reply =
 IsAnswered m k call.Keep reply = reply ≡ Kept (last_of 0 k.writes)
 IsAnswered m k (call.Release seq) reply = reply ≡ (if is_protected k.keeps seq then Released seq else NotReleased seq)
 
--- each reply is one by what is known then; what is fed, kept and released counts for the calls behind it
+-- each reply is one by what is known then; what is fed, kept and released counts for the calls after it
 abbrev pub AreAnswered : Operation → Known → List Call → List Reply → Type 0
 AreAnswered m k [] [] = ⊤
 AreAnswered m k (c ∷ cs) (reply ∷ replies) = IsAnswered m k c reply × AreAnswered m (known_then k c reply) cs replies

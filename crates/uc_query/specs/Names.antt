@@ -42,7 +42,7 @@ IsNamedHeld o (Some c) = is_held o c ≡ true
 abbrev pub numbers_of : List (Option Claim) → List ℕ
 numbers_of names = filter_map (option_map (λ c. c.number)) names
 
--- What holds between a store and the claims under names.
+-- Invariant of a store and the claims under names.
 pub record AreHeld (o : Owner) (names : List (Option Claim)) : Type 0 where
   pub count : length names ≡ MOST_CLAIMS
   pub held : AllByRecursion (IsNamedHeld o) names

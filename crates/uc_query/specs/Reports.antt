@@ -1,4 +1,4 @@
--- What a report says of a version, and the fields that are printed of it.
+-- The report of a version, and the fields that are printed of it.
 use Rattle.std.specs.Prelude.{ℕ, List, [], ◌∷◌, length, map, fold, codes}
 use Rattle.uc_run_entry.specs.Size.{size_of}
 use Rattle.uc_fold.specs.declared.totals.Totals.{Totals}
@@ -34,11 +34,11 @@ report_of v =
     let lines = map line_of v.runs in
     record { lines = lines; total = total lines; keeps = v.keeps; last = v.last }
 
--- a name, and what stands behind it
+-- a name and its figure
 abbrev pub Field : Type 0
 Field = List ℕ × Figure
 
--- the fields of a run, which are printed behind its number
+-- the fields of a run, which are printed after its number
 abbrev pub run_fields : RunLine → List Field
 run_fields r =
     (codes "slot", Number r.slot)
@@ -48,7 +48,7 @@ run_fields r =
     ∷ (codes "seqs", Range r.low r.high)
     ∷ []
 
--- the fields of all runs together, which are printed behind how many there are
+-- the fields of all runs together, which are printed after the number of runs
 abbrev pub total_fields : Totals → List Field
 total_fields t =
     (codes "points", Number t.points)

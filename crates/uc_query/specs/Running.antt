@@ -1,4 +1,4 @@
--- What a list of calls does.
+-- The results of a list of calls.
 use Rattle.std.specs.Prelude.{◌≡◌, List, [], ◌∷◌, ◌++◌, Option, Some, None, Result, Ok, Err, replicate}
 use Rattle.uc_oper.specs.Operation.{Operation}
 use Rattle.uc_version.specs.declared.held_stretch.TheConstants.{MOST_CLAIMS}
@@ -15,7 +15,7 @@ pub record Ran : Type 0 where
   pub state : State
   pub error : Option AskError
 
--- a reply, and what comes of the calls behind it
+-- a reply, and the results of the calls after it
 abbrev pub behind : Reply → Ran → Ran
 behind reply ran = record ran { replies = reply ∷ ran.replies }
 
@@ -39,8 +39,8 @@ pub record RunsAll (m : Operation) (old : Owner) (calls : List Call) (replies : 
   pub replied : replies ≡ (run_of m (unnamed old) calls).replies
   pub left : new ≡ released (run_of m (unnamed old) calls).state
 
--- Some calls were made, and the next one failed: as its turn says, or for want of memory where it has one. Those before it
--- stand, it changes nothing, and the claims that were still under names were given back.
+-- Some calls were made, and the next one failed: as its turn says, or because allocation failed in its turn. The results of the
+-- calls before it stay, it changes nothing, and the claims that were still under names were given back.
 pub record Stops (m : Operation) (old : Owner) (calls : List Call) (error : AskError) (new : Owner) : Type 0 where
   pub made : List Call
   pub failed : Call

@@ -1,4 +1,4 @@
--- What a list of calls does from any state on.
+-- The results of a list of calls from any state on.
 use Rattle.std.specs.Prelude.{◌≡◌, List, ◌∷◌, ◌++◌, None}
 use Rattle.std.specs.List.{AllByRecursion}
 use Rattle.uc_oper.specs.Operation.{Operation}

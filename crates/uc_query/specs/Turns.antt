@@ -1,4 +1,4 @@
--- What a call does: its reply, and what the store and the names are then.
+-- The result of a call: its reply, and the store and the names after it.
 use Rattle.std.specs.Prelude.{◌≡◌, ◌⊎◌, IsOk, ℕ, ◌-◌, ◌^◌, ◌<◌, Bool, true, false, ⊤, List, length, Option, Some, None, Result, Ok, Err, nat_lt, if◌then◌else◌}
 use Rattle.uc_oper.specs.Operation.{Operation}
 use Rattle.uc_bytes.specs.declared.write.Write.{Write}
@@ -68,7 +68,7 @@ replied s reply = record { reply = reply; state = s }
 abbrev pub has_id : Stored → Bool
 has_id v = nat_lt v.next_id (2 ^ 64 - 1)
 
--- the owner once the stretch of a claim was compacted, under the keeps of this moment, and installed
+-- the owner once the stretch of a claim was compacted, under the present keeps, and installed
 abbrev pub compacted : Operation → Owner → Claim → Owner
 compacted m o c = after_install m o c (compaction_of o.version (stretch_of o c))
 
@@ -76,7 +76,7 @@ compacted m o c = after_install m o c (compaction_of o.version (stretch_of o c))
 abbrev pub claimed : Owner → Stretch → Owner
 claimed o stretch = with_claim o (claim_of o stretch) stretch
 
--- ---- a claim under a name: a name that is held is refused before the stretch is looked at
+-- ---- a claim under a name: a name that is held is rejected before the stretch is checked
 
 abbrev pub claimed_unless : State → ℕ → Stretch → Option ClaimError → Turn
 claimed_unless s name stretch (Some error) = replied s (Refused error)
@@ -145,6 +145,6 @@ turn_of m s (call.Feed writes) = Ok (feed_turn s writes.list (feed_refusal s.own
 turn_of m s call.Keep = Ok (keep_turn s)
 turn_of m s (call.Release seq) = Ok (release_turn s seq (is_protected s.owner.version.keeps seq))
 
--- Why a call fails: as its turn says, or for want of memory where it has one.
+-- The error of a failed call: the one of its turn, or a failed allocation if it has a turn.
 abbrev pub FailsWith : Result Turn AskError → AskError → Type 0
 FailsWith turn error = (turn ≡ Err error) ⊎ ((error ≡ Memory) × IsOk turn)

@@ -33,7 +33,7 @@ fn failure_without_memory(call: &Call) -> AskError
     }
 }
 
-/// The replies to calls, in their order, up to the first one that can't be made so or that is refused memory.
+/// The replies to calls, in their order, up to the first one that isn't valid or whose allocation fails.
 fn replies_to<O: Operator + Sync>(
     rt: &(impl Threads + Sync),
     alloc: Global,
@@ -52,7 +52,7 @@ fn replies_to<O: Operator + Sync>(
     let mut replies = Vec::new(alloc);
     for call in calls {
         call.recall();
-        // The reply has room before the call changes anything.
+        // Space for the reply is reserved before the call changes anything.
         if replies.reserve(1).is_err() {
             return Err(failure_without_memory(call));
         }
@@ -67,12 +67,12 @@ fn replies_to<O: Operator + Sync>(
 
 /// The replies to a list of calls, in their order. At the end the claims that are still held under names are given back.
 ///
-/// The first batch of queries that can't be asked so, or the first want of memory, ends the list: the calls before it stand,
-/// that call changes nothing, and the claims are given back too. A batch that can't be asked so is told as that, whatever
-/// memory there is.
+/// The first batch of queries that isn't valid, or the first failed allocation, ends the list: the effects of the calls before it
+/// stay, that call changes nothing, and the claims are given back too. A batch that isn't valid is reported as that, even if
+/// allocation would fail.
 ///
-/// Whatever is claimed, compacted and installed in between, each batch has the answers of the plain writes that the store was
-/// given until then, at the sequences that it keeps then, and the store goes on along its history.
+/// Whatever is claimed, compacted and installed between the calls, each batch has the answers of the plain writes that the store
+/// was given until then, at the sequence numbers that it keeps then, and the store continues along its history.
 pub fn run_calls<O: Operator + Sync>(
     rt: &(impl Threads + Sync),
     alloc: Global,

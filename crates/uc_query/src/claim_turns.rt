@@ -9,7 +9,7 @@ use crate::reply::Reply;
 use uc_oper::Operator;
 use uc_version::{MOST_CLAIMS, Owned, OwnedClaim, Stretch, claims_are_held};
 
-/// Claims a stretch under a name that is free. One that is held is refused before the stretch is looked at.
+/// Claims a stretch under a name that is free. A name that is held is rejected before the stretch is checked.
 pub(crate) fn claim_under<O: Operator>(
     claims: &mut [Option<OwnedClaim>],
     owned: &mut Owned<O>,

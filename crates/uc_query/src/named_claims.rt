@@ -44,8 +44,8 @@ impl NamedClaims {
         }
     }
 
-    /// Carries a call out, and gives its reply. A name that is held is refused before its stretch is looked at. It fails for a
-    /// batch's wrong number of workers or piece of no query, and for want of memory, and then nothing is changed.
+    /// Executes a call and returns its reply. A name that is held is rejected before its stretch is checked. Fails if a batch has a
+    /// wrong number of workers or a piece without queries, or if allocation fails, and changes nothing then.
     pub fn call<O: Operator + Sync>(
         &mut self,
         rt: &(impl Threads + Sync),

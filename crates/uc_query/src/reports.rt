@@ -33,8 +33,8 @@ fn parts_of(alloc: Global, lines: &[RunLine]) -> Result<Vec<Totals>, AllocError>
     Ok(parts)
 }
 
-/// The report of a version: a line for each run, the newest first, their sums, the sequences that it keeps, and the last one.
-/// It fails only for want of memory.
+/// The report of a version: a line for each run, newest first, their sums, the snapshots' sequence numbers, and the last sequence
+/// number. Fails only if allocation fails.
 pub fn report(
     rt: &(impl Threads + Sync),
     alloc: Global,

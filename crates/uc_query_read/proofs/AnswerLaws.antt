@@ -60,7 +60,7 @@ is_false : (b : Bool) → (b ≡ true → ⊥) → b ≡ false
 is_false true never = absurd (never refl)
 is_false false never = refl
 
--- a query is refused exactly where its sequence isn't protected
+-- a query fails exactly if its sequence number isn't protected
 pub refused : (m : Operation) (ws : List Write) (keeps : List ℕ) (query : Query) (seq : ℕ) → (answer_of m ws keeps query ≡ NotProtected seq) ↔ ((at_of query ≡ seq) × (¬ Contains keeps seq))
 refused m ws keeps query seq = (
   λ e.

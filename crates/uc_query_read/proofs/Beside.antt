@@ -1,4 +1,4 @@
--- Cursors beside their next keys, and what those that aren't at a key say of it.
+-- Cursors with their next keys, and facts from those that aren't at a key.
 use Rattle.std.proofs.Common.{◌≡◌, ◌≢◌, ℕ, zero, suc, ◌+◌, ◌-◌, ◌<◌, ◌≤◌, arith, Bool, true, false, List, [], ◌∷◌, ◌++◌, map, take, drop, set, length, get_or, max, Contains, Option, Some, None, refl, sym, ap, ◌∙◌, subst, ltb, inl, inr}
 use Rattle.std.specs.Prelude.{option_map}
 use Rattle.std.specs.List.{AllByRecursion, AllWithin, HoldsAt, slice_get}
@@ -66,7 +66,7 @@ module _ (keys : List (Option (List ℕ))) (cs : List Standing) (beside : keys �
   pub is_other : (key : List ℕ) (found : Bool) → (slice_get keys i ≡ Some (Some key) → found ≡ true) → found ≡ false → next_key (get_or cs i d) ≢ Some key
   is_other key found finds not same = false≢true (sym not ∙ finds (key_there ∙ ap (λ (k : Option (List ℕ)). Some k) same))
 
--- a cursor moves, and its next key beside it
+-- a cursor moves, and its next key with it
 pub moved : (keys : List (Option (List ℕ))) (cs : List Standing) (i : ℕ) (c : Standing) (own : Option (List ℕ)) → keys ≡ map next_key cs → own ≡ next_key c → set keys i own ≡ map next_key (set cs i c)
 moved keys cs i c own beside is =
     ap (λ (ks : List (Option (List ℕ))). set ks i own) beside

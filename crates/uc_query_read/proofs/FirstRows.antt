@@ -64,7 +64,7 @@ module _ (f : List ℕ → Option (List ℕ)) where
     first = λ row p. ⊎_elim (λ same. absurd (let v = p.1 in cc)) (λ c. s.first row (c, p.1)) (contains_cases key row.0 keys p.0);
   }
 
-  -- no room for a row is left
+  -- the limit of rows is reached
   full : (keys : List (List ℕ)) → Shows keys 0 []
   unfolding IsStrictlySortedBy
   full keys = record {
@@ -130,12 +130,12 @@ rows_first m ws low high at limit =
 abbrev HasOneEach : (Row → Type 0) → Type 0
 HasOneEach P = (row other : Row) → P row → P other → row.0 ≡ other.0 → row ≡ other
 
--- the pairs behind a row
+-- the pairs after a row
 abbrev IsBehind : (Row → Type 0) → Row → Row → Type 0
 IsBehind P row other = P other × (bytes_cmp row.0 other.0 ≡ Less)
 
 module _ (P : Row → Type 0) where
-  -- the others are the first of those behind the first one
+  -- the others are the first of those after the first one
   others_first : (limit : ℕ) (row : Row) (rows : List Row) → AreFirst P (suc limit) (row ∷ rows) → AreFirst (IsBehind P row) limit rows
   unfolding IsStrictlySortedBy
   others_first limit row rows s =

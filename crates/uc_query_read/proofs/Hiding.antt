@@ -73,7 +73,7 @@ module _ (m : Operation) (at : ℕ) where
     found_without : (run : Contents) → AllByRecursion IsOther run.points → effect_found m run x at ≡ above_newest m [] (seen (over run.fragments))
     found_without run h = ap (λ (ps : List Entry). above_newest m ps (seen (over run.fragments))) (no_points run.points h)
 
--- ---- a fragment that hides a key hides those behind it that it covers
+-- ---- a fragment that hides a key hides those after it that it covers
 
 pub any_later : (test : ℕ → Bool) (xs ys : List ℕ) → list_any test ys ≡ true → list_any test (xs ++ ys) ≡ true
 any_later test [] ys h = h

@@ -1,4 +1,4 @@
--- What comes later in a history is above all that was kept before.
+-- Later writes of a history are above all that was kept before.
 use Rattle.std.proofs.Common.{◌≡◌, ℕ, ◌<◌, ◌≤◌, List, [], ◌∷◌, ◌++◌, Contains, ⊎_elim, fold, refl, sym, ap, ◌∙◌, subst, arith}
 use Rattle.std.specs.List.{AllByRecursion, flat_map}
 use Rattle.std.proofs.lemmas.List.{append_assoc}
@@ -21,7 +21,7 @@ all_above : (low : ℕ) (ws : List Write) (at : ℕ) → IsRising low ws → at 
 all_above low [] at rise le = tt
 all_above low (w ∷ ws) at rise le = (omega (arith, rise.0), all_above w.seq ws at rise.2 (omega (arith, rise.0)))
 
--- those behind others are above the last of these
+-- those after others are above the last of these
 later_above : (low : ℕ) (ws later : List Write) (at : ℕ) → IsRising low (ws ++ later) → at ≤ last_of low ws → AllByRecursion (λ w. at < w.seq) later
 later_above low [] later at rise le = all_above low later at rise le
 later_above low (w ∷ ws) later at rise le = later_above w.seq ws later at rise.2 le
@@ -31,7 +31,7 @@ kept_below last keep [] below there = absurd (contains_nothing keep there)
 kept_below last keep (k ∷ ks) below there =
     ⊎_elim (λ (same : k ≡ keep). subst (λ (n : ℕ). n ≤ last) same below.0) (λ rest. kept_below last keep ks below.1 rest) (contains_cases k keep ks there)
 
--- ---- a history with more events behind it
+-- ---- a history followed by more events
 
 abbrev longer : History → List Event → History
 longer h events = record h { events = h.events ++ events }

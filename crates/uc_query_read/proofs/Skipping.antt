@@ -1,4 +1,4 @@
--- A walk that goes on behind dead keys shows the same rows.
+-- A walk that skips dead keys shows the same rows.
 use Rattle.std.proofs.Common.{◌≡◌, ℕ, ◌≤◌, max, Bool, true, false, cond, List, [], ◌∷◌, map, filter, filter_map, length, Option, None, refl, sym, ap, ◌∙◌, subst, arith}
 use Rattle.std.specs.Prelude.{not, ◌&&◌, option_map}
 use Rattle.std.specs.List.{AllByRecursion, cons_option}
@@ -48,7 +48,7 @@ module _ {X Y : Type 0} (f : X → Option Y) (p q : X → Bool) (weaker : (x : X
   no_more_given [] = omega arith
   no_more_given (x ∷ xs) = fewer_by x (filter p xs) (filter q xs) (p x) (q x) refl refl (no_more_given xs)
 
--- ---- who stands behind a key goes to a bound above it
+-- ---- a cursor after a key moves to a bound above it
 
 module _ (key bound : List ℕ) (less : bytes_cmp key bound ≡ Less) where
   passed_too : (x : List ℕ) → is_le (bytes_cmp x key) ≡ true → is_lt (bytes_cmp x bound) ≡ true

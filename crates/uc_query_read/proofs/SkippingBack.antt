@@ -1,4 +1,4 @@
--- A walk against the order of keys that goes on before dead ones shows the same rows.
+-- A walk in descending order that skips dead keys shows the same rows.
 use Rattle.std.proofs.Common.{◌≡◌, ℕ, ◌≤◌, min, Bool, true, false, List, [], ◌∷◌, map, filter, filter_map, length, Option, Some, None, refl, sym, ap, ◌∙◌, subst, arith}
 use Rattle.std.specs.Prelude.{not, ◌&&◌, option_map, reverse}
 use Rattle.std.specs.List.{AllByRecursion}
@@ -30,7 +30,7 @@ use Rattle.uc_query_read.proofs.Skipping.{same_given, no_more_given}
 use Rattle.uc_query_read.proofs.Standing.{more_length}
 use Rattle.uc_query_read.proofs.Walking.{and_left, and_right, and_none}
 
--- ---- who stands before a key goes back to a bound that isn't above it
+-- ---- a cursor before a key moves back to a bound that isn't above it
 
 module _ (key bound : List ℕ) (le : is_le (bytes_cmp bound key) ≡ true) where
   passed_too : (x : List ℕ) → is_lt (bytes_cmp x bound) ≡ true → is_lt (bytes_cmp x key) ≡ true

@@ -1,4 +1,4 @@
--- Where the cursors of a walk stand: before the least key, and behind it once it was passed.
+-- The positions of the cursors of a walk: before the least key, and after it once it was passed.
 use Rattle.std.proofs.Common.{◌≡◌, ℕ, suc, ◌<◌, ◌≤◌, max, Bool, true, false, cond, List, [], ◌∷◌, ◌++◌, map, take, drop, filter, length, get_or, Option, Some, None, refl, sym, ap, ◌∙◌, subst, arith}
 use Rattle.std.specs.List.{AllByRecursion}
 use Rattle.std.specs.declared.cmp.Ordering.{Ordering}
@@ -85,7 +85,7 @@ module _ (low : List ℕ) (strict : Bool) (key : List ℕ) (fresh : is_passed lo
     before_it cs h.1 (all-back IsFrom c.run.points (points_of (runs_of cs)) from),
   )
 
--- ---- and behind it once it was passed
+-- ---- and after it once it was passed
 
 module _ (key : List ℕ) where
   further : (ps : List Entry) → seek_place ps key false ≤ seek_place ps key true
@@ -106,7 +106,7 @@ module _ (key : List ℕ) where
   runs_stay [] = refl
   runs_stay (c ∷ cs) = ap (λ (runs : List Contents). c.run ∷ runs) (runs_stay cs)
 
--- the cursors that were lent and moved come back
+-- the cursors that were borrowed and moved come back
 pub come_back : (moves : Standing → Standing) (cs lent new : List Standing) (len : ℕ) → length cs ≡ len → lent ≡ cs → new ≡ map moves lent → take len (new ++ drop (length new) cs) ≡ map moves cs
 come_back moves cs lent new len long same made =
     let all : new ≡ map moves cs = made ∙ ap (map moves) same in

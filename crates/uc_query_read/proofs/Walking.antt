@@ -1,4 +1,4 @@
--- The keys ahead of a walk: the least comes first, and the others are ahead behind it.
+-- The keys ahead of a walk: the least comes first, and the others are ahead after it.
 use Rattle.std.proofs.Common.{◌≡◌, ℕ, Bool, true, false, List, [], ◌∷◌, map, filter, cond, Option, Some, None, ◌⊎◌, inl, inr, ⊎_elim, refl, sym, ap, ◌∙◌, subst}
 use Rattle.std.specs.Prelude.{not, ◌&&◌}
 use Rattle.std.specs.List.{AllByRecursion}

@@ -1,4 +1,4 @@
--- What is known of the cursors of several runs.
+-- Invariant of the cursors of several runs.
 use Rattle.std.specs.Prelude.{◌≡◌, IfSome, map, option_map}
 use Rattle.std.specs.List.{AllByRecursion}
 use Rattle.uc_run.specs.Cursors.{has_ranges}
@@ -9,7 +9,7 @@ use Rattle.uc_query_read.specs.declared.walkers.Walkers.TheInside.{Inside}
 abbrev pub numbered : Inside → Numbered
 numbered w = record { front = w.heads.front; cursors = w.cursors.items }
 
--- they are in runs, and beside them are the newer ones' next keys, the least of these, and which runs have range deletions
+-- they are in runs, and the next keys of the newer ones, the least of these, and the flags of runs with range deletions are known
 pub record AreKnown (w : Inside) : Type 0 where
   pub of_runs : AllByRecursion IsOfRun w.cursors.items
   pub heads : w.heads.keys ≡ map next_key (newer_of w.cursors.items)

@@ -1,4 +1,4 @@
--- What a query names.
+-- The keys and sequence number of a query.
 use Rattle.std.specs.Prelude.{ℕ}
 use Rattle.uc_query_read.specs.declared.query.Query.{Query}
 use Rattle.uc_query_read.specs.declared.query.Query.TheVariants.{Get, Scan}

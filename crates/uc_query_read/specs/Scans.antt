@@ -1,4 +1,4 @@
--- What a scan shows: the first rows, in byte order, of the keys that can be shown.
+-- The rows of a scan: the first rows, in byte order, of the keys that can be shown.
 use Rattle.std.specs.Prelude.{◌≡◌, ℕ, ◌≤◌, List, Option, Some, All, Any, Contains, IsTrue, length, ◌⊎◌}
 use Rattle.std.specs.declared.cmp.Ordering.TheVariants.{Less}
 use Rattle.uc_bytes.specs.Bytes.{bytes_cmp}

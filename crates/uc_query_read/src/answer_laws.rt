@@ -48,7 +48,7 @@ pub fn scan_is_answered_by_first_rows<O: Operator>()
         ↔ IsScan O.meaning writes low high at limit rows }
 {}
 
-/// A query is refused exactly if no snapshot protects its sequence, and the refusal names it.
+/// A query fails exactly if no snapshot protects its sequence number, and the error names that number.
 pub fn unprotected_is_refused<O: Operator>()
     ensures { (writes : List Write) (keeps : List ℕ) (query : Query) (seq : ℕ) →
         (answer_of O.meaning writes keeps query ≡ NotProtected seq)

@@ -101,8 +101,8 @@ fn pass_each(cursors: &mut [BackCursor<'_>], key: &[u8])
     }
 }
 
-/// Moves each cursor back to before the points at and above a key, or above it if that is included. It moves none if memory is refused,
-/// and tells whether it moved them.
+/// Moves each cursor back to before the points at and above a key, or above it if that is included. It moves none if allocation
+/// fails, and returns whether it moved them.
 fn pass_all(alloc: Global, cursors: &mut [BackCursor<'_>], bound: &[u8], is_included: bool) -> bool
     ensures { cursors.new ≡ (if result then map (passed_back (bound_at bound.now is_included)) cursors.old else cursors.old) }
 {
@@ -146,7 +146,7 @@ fn effect_of_each<'a, O: Operator>(
         if both.is_set() {
             return Ok(both);
         }
-        // It lends no value, so this copies nothing.
+        // It borrows no value, so this copies nothing.
         newer = both.into_effect(alloc)?;
     }
     Ok(EffectRef::own(newer))
@@ -195,8 +195,8 @@ impl<'a> BackWalk<'a> {
         })
     }
 
-    /// The greatest of the keys that are ahead, with its value at a sequence, if it has one. It passes the key, also if that ends with an
-    /// `Err`. It costs a step for each run, and for each of the key's points up to the last put or delete.
+    /// The greatest of the keys that are ahead, with its value at a sequence number, if it has one. It passes the key, even if it
+    /// returns an `Err`. It costs a step for each run, and for each of the key's points up to the last put or delete.
     pub(crate) fn next<O: Operator>(
         &mut self,
         alloc: Global,
@@ -220,9 +220,9 @@ impl<'a> BackWalk<'a> {
         Ok(Some((key, value)))
     }
 
-    /// Passes keys without a value at a sequence: those before the last passed key, as far as a run's range deletion hides it and
-    /// neither that run nor a newer one has a point. It does nothing if no run hides that key, or memory is refused. It costs a step for
-    /// each run, and a search for those whose points are passed.
+    /// Passes keys without a value at a sequence number: those before the last passed key, as far as a run's range deletion hides
+    /// it and neither that run nor a newer one has a point. It does nothing if no run hides that key, or if allocation fails. It
+    /// costs a step for each run, and a search for those whose points are passed.
     pub(crate) fn skip_dead<O: Operator>(&mut self, alloc: Global, at: u64)
         ensures { Skips O.meaning at self.old self.new }
     {

@@ -35,7 +35,7 @@ pub fn value_behind<'a, O: Operator>(
         return newer.apply::<O>(alloc, None);
     }
     let older = value_of_runs::<O>(alloc, version.runs(), key, at)?;
-    // It lends no value, so this copies nothing.
+    // It borrows no value, so this copies nothing.
     match newer.into_effect(alloc)? {
         Effect::Keep => Ok(older),
         newer => after::<O>(alloc, older, newer),

@@ -45,7 +45,7 @@ fn effect_of_runs<'a, O: Operator>(
         if both.is_set() {
             return Ok(both);
         }
-        // It lends no value, so this copies nothing.
+        // It borrows no value, so this copies nothing.
         newer = both.into_effect(alloc)?;
     }
     Ok(EffectRef::own(newer))

@@ -1,4 +1,4 @@
--- Answers between two moments of a reader.
+-- Answers between two points in time of a reader.
 use Rattle.std.proofs.Common.{◌≡◌, true, Bool, inl, inr, List, [], ◌∷◌, fold, map, ap, ◌∙◌, subst}
 use Rattle.std.specs.List.{AllZip}
 use mathlib.Core.List.{IsPrefix}
@@ -74,7 +74,7 @@ module _ (m : Operation) (stay : Bool) (base : Stored) where
     abbrev pub Given : Query → Answer → Type 0
     Given query answer = GivenBySome (λ before after query answer. MayBeGiven m stay base query answer before after) old new query answer
 
-    -- each answer is one between two moments of some reader
+    -- each answer is one between two points in time of some reader
     pub all_between : (queries : List Query) (answers : List Answer) → AllZip Given queries answers → AllZip (λ query answer. SomeZip (IsAnswerBetween m base query answer) old new) queries answers
     all_between queries answers all =
         all_weaker Given (λ query answer. SomeZip (IsAnswerBetween m base query answer) old new) queries answers

@@ -17,12 +17,12 @@ answers_given m h queries = map (answer_of m (writes_given h) (version_after h).
 abbrev pub ForEachHistory : Operation → Stored → (History → Type 0) → Type 0
 ForEachHistory m base holds = (h : History) → IsLegal m h → version_after h ≡ base → holds h
 
--- a history with more events behind it
+-- a history followed by more events
 abbrev pub longer : History → List Event → History
 longer h events = record h { events = h.events ++ events }
 
--- An answer between two moments of a reader: the writes and the keeps after some events give it, in every history of a store that
--- begins with this version. The events begin with all that the reader had seen, and it has seen them; they don't depend on the
+-- An answer between two points in time of a reader: the writes and the keeps after some events give it, in every history of a store
+-- that begins with this version. The events begin with all that the reader had seen, and it has seen them; they don't depend on the
 -- history before the opening.
 pub record IsAnswerBetween (m : Operation) (base : Stored) (query : Query) (answer : Answer) (old new : List Event) : Type 0 where
   pub events : List Event
@@ -30,8 +30,8 @@ pub record IsAnswerBetween (m : Operation) (base : Stored) (query : Query) (answ
   pub seen : IsPrefix events new
   pub given : ForEachHistory m base (λ h. answer ≡ answer_of m (writes_given (longer h events)) (version_after (longer h events)).keeps query)
 
--- What a store may answer between two moments of a reader. If the keeps of the store stay, it is also what the writes give that the
--- store was opened with.
+-- An answer that a store may give between two points in time of a reader. If the keeps of the store stay, it is also the answer
+-- that the writes give with which the store was opened.
 pub record MayBeGiven (m : Operation) (stay : Bool) (base : Stored) (query : Query) (answer : Answer) (old new : List Event) : Type 0 where
   pub between : IsAnswerBetween m base query answer old new
   pub stays : stay ≡ true → ForEachHistory m base (λ h. answer ≡ answer_of m (writes_given h) (version_after h).keeps query)

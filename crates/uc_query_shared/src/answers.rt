@@ -31,19 +31,19 @@ pub fn batch_refusal(readers: usize, workers: usize, piece: usize) -> Option<Ask
 }
 
 /// The answers to a batch of queries of a shared store, in their order, by `workers` that each have one of the readers. The batch
-/// is cut into pieces of `piece` queries. A worker draws a piece, calls the gate, pins the version that is shown then, and answers
-/// the piece from it, until no piece is left. Each worker has a thread if one can be made, and else runs after another.
+/// is cut into pieces of `piece` queries. A worker takes a piece, calls the gate, pins the current version, and answers the piece
+/// from it, until no piece is left. Each worker has a thread if one can be made, and else runs after another.
 ///
-/// Whatever the workers draw, and whatever happens to the store meanwhile, each answer is that of all the plain writes that the
-/// store was given up to a moment of its history, at the sequences that it kept then; a query at another sequence is answered
-/// `NotProtected`. The moment lies between what the reader of some worker had seen before and what it has seen then. Each query may
-/// have a moment of its own.
+/// Whichever pieces the workers take, and whatever happens to the store while they run, each answer is that of all the plain writes
+/// that the store was given up to a point of its history, at the sequence numbers that it kept then; a query at another number is
+/// answered `NotProtected`. That point is between the history that the reader of some worker had seen before and the one that it
+/// has seen after the call. Each query may have a different point.
 ///
-/// Where the store's keeps stay, the answers are those of the plain writes that the store was opened with, at the sequences that it
-/// keeps, whatever is fed and installed meanwhile.
+/// Where the store's keeps stay, the answers are those of the plain writes that the store was opened with, at the sequence numbers
+/// that it keeps, whatever is fed and installed while the workers run.
 ///
-/// It is refused for a number of workers that isn't 1 to [`MOST_WORKERS`](uc_query_workers::MOST_WORKERS) or is above the number
-/// of readers, and then for a piece of no query. The readers come back in their order, also after an `Err`. They have seen no less
+/// Fails for a number of workers that isn't 1 to [`MOST_WORKERS`](uc_query_workers::MOST_WORKERS) or is above the number of
+/// readers, and then for a piece of no query. The readers are returned in their order, even after an `Err`. They have seen no less
 /// than before.
 pub fn answer_all<O: Operator + Sync, N: Name + Send, G: Gate>(
     rt: &(impl Threads + Sync),

@@ -1,14 +1,14 @@
-//! Batches of queries, answered by workers from the versions that a shared store shows meanwhile.
+//! Batches of queries, answered by workers from the current versions of a shared store.
 //!
-//! A batch is cut into pieces, which workers draw as they come free, each once. For each piece a worker pins the version that is
+//! A batch is cut into pieces, and each piece is taken by the next free worker. For each piece a worker pins the version that is
 //! shown then, so a batch and what happens to the store meanwhile never wait for each other. Each answer is that of all the plain
-//! writes that the store was given up to some moment of its history, which the worker's reader has seen, at the sequences that were
-//! kept then. So while writes are fed and sequences are kept and released, two answers may be of two moments. Where a store's keeps
-//! stay, there is one answer for good: whatever the workers draw and whichever versions they pin, the answers are those of one
-//! thread that folds the plain writes that the store was opened with.
+//! writes that the store was given up to some point of its history, which the worker's reader has seen, at the sequence numbers
+//! that were kept then. So while writes are fed and snapshots are taken and released, two answers may be of two points in time.
+//! Where a store's keeps stay, there is one answer for good: whichever pieces the workers take and whichever versions they pin, the
+//! answers are those of one thread that folds the plain writes that the store was opened with.
 //!
-//! Read `specs/Given.antt` first, then `answers.rt`. The machine that draws stands in `uc_query_workers`; `pinned_piece.rt` has what
-//! a reader gives it.
+//! Read `specs/Given.antt` first, then `answers.rt`. The workers are in `uc_query_workers`; `pinned_piece.rt` has what a reader
+//! gives it.
 //!
 //! An `Err(AllocError)`, or an error `Memory`, comes only if an allocation fails.
 //!

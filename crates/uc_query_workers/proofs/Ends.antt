@@ -7,7 +7,7 @@ use Rattle.uc_query_workers.specs.Given.{GivenBySome}
 use Rattle.uc_query_workers.proofs.Zips.{some_before, some_last}
 
 module _ {X : Type 0} (R : X → X → Type 0) where
-  -- one more stands behind them
+  -- one more is appended
   zip_more : (xs ys : List X) (x y : X) → AllZip R xs ys → R x y → AllZip R (xs ++ x ∷ []) (ys ++ y ∷ [])
   zip_more [] [] x y all one = (one, tt)
   zip_more [] (z ∷ ys) x y all one = absurd all
@@ -25,7 +25,7 @@ module _ {X : Type 0} (R : X → X → Type 0) where
   zip_length (x ∷ xs) [] all = absurd all
   zip_length (x ∷ xs) (y ∷ ys) all = ap suc (zip_length xs ys all.1)
 
--- what one of them may give, of which one more stands behind the others
+-- an answer that one of them may give, where one more is appended to the others
 module _ {X : Type 0} (gives : X → X → Query → Answer → Type 0) (all more xs ys : List X) (x y : X) (is : all ≡ xs ++ x ∷ []) (now : more ≡ ys ++ y ∷ []) (query : Query) (answer : Answer) where
   at_ends : GivenBySome gives (xs ++ x ∷ []) (ys ++ y ∷ []) query answer → GivenBySome gives all more query answer
   at_ends some =

@@ -1,4 +1,4 @@
--- What is left of lists of rising numbers.
+-- The rest of lists of rising numbers.
 use Rattle.std.proofs.Common.{◌≡◌, ◌≢◌, ℕ, zero, suc, ◌+◌, ◌-◌, ◌<◌, ◌≤◌, Bool, true, false, cond, eqb, ltb, List, [], ◌∷◌, ◌++◌, length, get_or, set, drop, sym, refl, ap, ◌∙◌, subst, arith, eq-eqb, ne_eqb, max}
 use Rattle.std.specs.Prelude.{Some, slice_get}
 use Rattle.std.specs.List.{sum_by, AllByRecursion}
@@ -26,7 +26,7 @@ times_push k xs x = sum_by_push (λ y. one y k) xs x
 pub times-append : (k : ℕ) (xs ys : List ℕ) → times k (xs ++ ys) ≡ times k xs + times k ys
 times-append k xs ys = sum_by-append (λ y. one y k) xs ys
 
--- a number behind rising ones that are all below it
+-- a number after rising ones that are all below it
 pub rises_push : (xs : List ℕ) (n : ℕ) → Rises xs → AllByRecursion (λ x. x < n) xs → Rises (xs ++ n ∷ [])
 rises_push [] n rising below = (tt, tt)
 rises_push (x ∷ xs) n rising below = (all_push xs rising.0 below.0, rises_push xs n rising.1 below.1)
@@ -140,7 +140,7 @@ module _ {D : Type 0} (numbers : D → List ℕ) where
 
   -- ---- what workers drew
 
-  -- one worker's numbers, and the end behind them
+  -- one worker's numbers, and the end after them
   pub lone : (k pieces end : ℕ) (d : D) → k < pieces → pieces ≤ end → times_over k (d ∷ []) ≡ times k (numbers d ++ end ∷ [])
   lone k pieces end d less past = omega (arith, over_cons k d [], times_push k (numbers d) end, one_other end k (λ same. absurd (omega (arith, same, less, past))))
 

@@ -15,7 +15,7 @@ flat_push piece_of (m ∷ numbers) n =
     ap (λ queries. piece_of m ++ queries) (flat_push piece_of numbers n)
     ∙ sym (append_assoc (piece_of m) (flat_map piece_of numbers) (piece_of n))
 
--- behind the answers that were there stand what one function makes of each query
+-- the results of one function for each query are appended to the answers
 pub mapped_behind : (answer_to : Query → Answer) (queries : List Query) (before after : List Answer) → after ≡ before ++ map answer_to queries → Appended (λ query answer. answer ≡ answer_to query) queries before after
 mapped_behind answer_to queries before after are = record {
   given = map answer_to queries;
@@ -43,7 +43,7 @@ module _ (gives : Query → Answer → Type 0) where
       subst (λ queries. AllZip gives queries after) (sym (ap (flat_map piece_of) is ∙ flat_push piece_of numbers n))
       (more_queries (flat_map piece_of numbers) (piece_of n) before after all one)
 
-  -- the first piece's answers go behind others
+  -- the first piece's answers are appended to others
   pub first_taken : (piece others : List Query) (answers before after : List Answer) (count : ℕ) → AllZip gives (piece ++ others) answers → count ≡ length piece → after ≡ before ++ take count answers → Appended gives piece before after
   first_taken piece others answers before after count all count_is after_is = record {
     given = take (length piece) answers;

@@ -1,4 +1,4 @@
--- What places were, and what became of them.
+-- Places before and after a change.
 use Rattle.std.proofs.Common.{List, [], ◌∷◌}
 use Rattle.std.specs.List.{AllZip}
 

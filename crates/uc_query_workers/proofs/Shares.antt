@@ -1,4 +1,4 @@
--- What workers drew, and what is left of it.
+-- The numbers that workers took, and the ones that are left.
 use Rattle.std.proofs.Common.{◌≡◌, ◌≢◌, ℕ, ◌+◌, ◌<◌, List, [], ◌∷◌, ◌++◌, length, get_or, set, take, drop, sym, inl, inr, subst, ap, ◌∙◌, arith}
 use Rattle.std.specs.Prelude.{Some, slice_get, Result, Ok, Err, IfOk}
 use Rattle.std.specs.List.{AllByRecursion, AllZip, flat_map}
@@ -89,7 +89,7 @@ module _ (gives : Query → Answer → Type 0) (batch : Batch) (pieces : ℕ) (s
     answered = (drawn, tt);
   })
 
-  -- it stands behind what others drew
+  -- it comes after the numbers of other workers
   pub another_worker : (others joined : List ℕ) (draws more : List Drawn) → HaveDrawn gives batch pieces others draws → joined ≡ others ++ seen → more ≡ draws ++ d ∷ [] → HaveDrawn gives batch pieces joined more
   another_worker others joined draws more have joined_is more_is = subst (λ ds. HaveDrawn gives batch pieces joined ds) (sym more_is) (record {
     rising = all_and (λ (x : Drawn). Rises (numbers_of x)) draws d have.rising rises;

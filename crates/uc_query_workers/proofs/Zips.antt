@@ -15,14 +15,14 @@ module _ {A B : Type 0} where
   all_weaker R Q weaker (x ∷ xs) [] all = absurd all
   all_weaker R Q weaker (x ∷ xs) (y ∷ ys) all = (weaker x y all.0, all_weaker R Q weaker xs ys all.1)
 
-  -- what each place tells, some place does
+  -- a consequence of each place is one of some place
   pub some_tells : (P : A → B → Type 0) (F : Type 0) → ((x : A) (y : B) → P x y → F) → (xs : List A) (ys : List B) → SomeZip P xs ys → F
   some_tells P F tells [] ys some = absurd some
   some_tells P F tells (x ∷ xs) [] some = absurd some
   some_tells P F tells (x ∷ xs) (y ∷ ys) (inl here) = tells x y here
   some_tells P F tells (x ∷ xs) (y ∷ ys) (inr behind) = some_tells P F tells xs ys behind
 
-  -- ---- lists behind lists
+  -- ---- concatenated lists
   module _ (R : A → B → Type 0) where
     pub all_append : (xs more : List A) (ys given : List B) → AllZip R xs ys → AllZip R more given → AllZip R (xs ++ more) (ys ++ given)
     all_append [] more [] given all others = others

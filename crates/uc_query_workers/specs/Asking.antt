@@ -9,11 +9,11 @@ use Rattle.uc_query_workers.specs.declared.ask_error.TheConstants.{MOST_WORKERS}
 use Rattle.uc_query_workers.specs.declared.ask_error.AskError.{AskError}
 use Rattle.uc_query_workers.specs.declared.ask_error.AskError.TheVariants.{BadWorkers, BadPiece}
 
--- whether so many workers can be
+-- whether this number of workers is allowed
 abbrev pub are_workers : ℕ → Bool
 are_workers workers = nat_lt 0 workers && nat_lt workers (MOST_WORKERS + 1)
 
--- why so many workers can't be given pieces of so many queries: it is looked at the workers first
+-- why this number of workers can't be given pieces of this number of queries: the number of workers is checked first
 abbrev pub ask_refusal : ℕ → ℕ → Option AskError
 ask_refusal workers piece =
     if are_workers workers then (if piece == 0 then Some BadPiece else None) else Some BadWorkers

@@ -8,12 +8,12 @@ use Rattle.uc_query_workers.specs.Given.{SomeZip}
 use Rattle.uc_query_workers.specs.Pieces.{Batch, piece_of}
 use Rattle.uc_query_workers.specs.declared.drawn.Drawn.{Drawn}
 
--- each number is below those behind it
+-- each number is below those after it
 abbrev pub Rises : List ℕ → Type 0
 Rises [] = ⊤
 Rises (x ∷ xs) = AllByRecursion (λ y. x < y) xs × Rises xs
 
--- the answers to the queries of the pieces with these numbers, those to one piece behind the other
+-- the answers to the queries of the pieces with these numbers, piece by piece
 abbrev pub AnswerNumbers : (Query → Answer → Type 0) → Batch → List ℕ → List Answer → Type 0
 AnswerNumbers gives batch numbers answers = AllZip gives (flat_map (piece_of batch) numbers) answers
 

@@ -1,4 +1,4 @@
--- The rule of the counter of pieces, what a step tells the seat that makes it, and what a contract sees.
+-- The rule of the counter of pieces, the effect of a step on the seat that makes it, and the state that a contract sees.
 use Rattle.std.specs.Prelude.{◌≡◌, ℕ, ◌+◌, ◌-◌, ◌<◌, ◌≤◌, ◌==◌, ◌^◌, nat_lt, nat_le, List, [], ◌∷◌, ◌++◌, length, slice_index, count_by, if◌then◌else◌}
 use Rattle.std.specs.List.{sum_by, AllByRecursion}
 use mathlib.Core.Option.{some}
@@ -51,7 +51,7 @@ pub record Draws (shares : Shares) (words : List ℕ) (drawers : List Drawer) : 
 abbrev pub Sitting : Type 0
 Sitting = Me (Unit {0}) Drawer
 
--- what the word was goes behind the list, whose numbers are all below it
+-- the word's old value is appended to the list, whose numbers are all below it
 abbrev pub Drew : Step (Unit {0}) → Sitting → ℕ → Sitting → Type 0
 Drew at before found after = (after.1 ≡ before.1) × (after.0 ≡ record { all = before.0.all; parts = before.0.parts; numbers = before.0.numbers ++ found ∷ [] }) × AllByRecursion (λ number. number < found) before.0.numbers
 
@@ -76,7 +76,7 @@ pub record Drawing : Type 0 where
   pub parts : ℕ
   pub numbers : List ℕ
 
--- a table of one word, whose rule was told how many pieces and workers there are
+-- a table of one word, whose rule has the numbers of pieces and workers as parameters
 pub record IsLaid (pieces : ℕ) (key : Shares) (table : TableId) : Type 0 where
   pub kept : pieces ≡ key.pieces
   pub within : key.pieces + key.workers < 2 ^ 64

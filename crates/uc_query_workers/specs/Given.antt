@@ -4,7 +4,7 @@ use Rattle.std.specs.List.{AllZip}
 use Rattle.uc_query_read.specs.declared.query.Query.{Query}
 use Rattle.uc_query_read.specs.declared.answer.Answer.{Answer}
 
--- behind the answers that were there stand others, one to each query, each such as may be given to it
+-- one answer for each query is appended, each such as may be given to it
 pub record Appended (gives : Query → Answer → Type 0) (queries : List Query) (before after : List Answer) : Type 0 where
   pub given : List Answer
   pub are : after ≡ before ++ given

@@ -16,7 +16,8 @@ use std::marker::{Send, Sync};
 use std::thread::Threads;
 use uc_query_read::Answer;
 
-/// The room of each worker's list, in answers: twice its share, since one may draw more than another, and all for one worker.
+/// The capacity of each worker's list, in answers: twice its share, since one may take more pieces than another, and all for one
+/// worker.
 fn room_of_each(queries: usize, workers: usize) -> usize
     requires { 0 < workers }
 {

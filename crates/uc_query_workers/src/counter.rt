@@ -37,7 +37,7 @@ impl Model for PieceCounter {
 }
 
 impl PieceCounter {
-    /// A counter of which nothing is drawn, with a seat that has the parts of all workers. No other call allocates.
+    /// A counter from which nothing is taken yet, with a seat that has the parts of all workers. No other call allocates.
     pub fn new(
         alloc: Global,
         pieces: u64,
@@ -52,7 +52,7 @@ impl PieceCounter {
         Ok((PieceCounter { table, pieces }, PieceSeat { token }))
     }
 
-    /// A seat with one of the parts of another, which has one less then. The other has drawn nothing yet.
+    /// A seat with one of the parts of another, which has one part less then. The other has taken nothing yet.
     pub fn split(&self, seat: &mut PieceSeat) -> PieceSeat
         requires table { seat.old.table ≡ self.now.table }
         requires parts { 0 < seat.old.parts }
@@ -83,8 +83,8 @@ impl PieceCounter {
             .join_seat::<IntoOne>(&mut seat.token, token);
     }
 
-    /// Draws the next piece, by one addition, if one is left. A seat may meet the end once for each of its parts, and draws no
-    /// more then. What was drawn, a piece or none, is appended to the seat's numbers, which rise.
+    /// Takes the next piece, by one addition, if one is left. A seat may reach the end once for each of its parts, and takes no
+    /// more then. The result, a piece or none, is appended to the seat's numbers, which rise.
     pub fn draw(&self, seat: &mut PieceSeat) -> Option<u64>
         requires table { seat.old.table ≡ self.now.table }
         requires may { past self.now.pieces seat.old.numbers < seat.old.parts }
@@ -109,7 +109,7 @@ impl PieceCounter {
         }
     }
 
-    /// Says that each piece was drawn once: a seat that has all parts, and that met the end, has the number of each in its
+    /// States that each piece was taken once: a seat that has all parts, and that reached the end, has the number of each in its
     /// list. It reads the word, and nothing changes.
     pub fn recall_all_drawn(&self, seat: &mut PieceSeat)
         requires table { seat.old.table ≡ self.now.table }

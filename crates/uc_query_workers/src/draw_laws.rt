@@ -4,9 +4,9 @@ ghost use Rattle.uc_query_workers.specs.declared.rule.Drawer.{Drawer};
 ghost use Rattle.uc_query_workers.specs.declared.rule.Shares.{Shares};
 ghost use Rattle.uc_query_workers.specs.Draws.{Draws, times_in_all};
 
-/// No number is drawn twice, and the word never wraps: wherever the rule holds, which is between any two steps of any number of
-/// threads, each number below the word stands once in the seats' lists together, no other does, and the word is at most the
-/// number of pieces and of workers together.
+/// No number is taken twice, and the word never wraps: wherever the rule holds, which is between any two steps of any number of
+/// threads, each number below the word stands once in the seats' lists together, no other does, and the word is at most the number
+/// of pieces and of workers together.
 ///
 /// It does nothing: it stands for its contract, which speaks of the rule alone.
 pub fn numbers_are_drawn_once()

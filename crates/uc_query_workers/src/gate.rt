@@ -1,10 +1,10 @@
 //! [`Gate`]: what a worker calls between drawing a piece and answering it.
 use std::marker::Sync;
 
-/// A gate, which each worker calls when it has drawn a piece, before the source answers it. A gate may hold a worker up, for as
-/// long as it likes, so that tests choose from which state a piece is answered; what is promised of the answers is the same for every gate.
+/// A gate, which each worker calls when it has taken a piece, before the source answers it. A gate may delay a worker as long as it
+/// likes, so that tests choose from which state a piece is answered; the guarantees on the answers are the same for every gate.
 pub trait Gate: Sync {
-    /// Called with the number of a piece, from 0, by the worker who drew it.
+    /// Called with the number of a piece, from 0, by the worker that took it.
     fn at(&self, piece: usize);
 }
 

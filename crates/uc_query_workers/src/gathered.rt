@@ -12,7 +12,7 @@ use crate::seat::PieceSeat;
 use std::alloc::{AllocError, Global};
 use uc_query_read::Answer;
 
-/// The index of the worker who has piece `number` next, where one does.
+/// The index of the worker that has piece `number` next, if one does.
 fn holder(draws: &[Drawn], number: usize) -> usize
     requires { ¬ All (λ d. slice_get d.numbers.items 0 ≢ Some number) draws.now }
     ensures within { result < length draws.now }

@@ -4,8 +4,8 @@ ghost use Rattle.uc_query_workers.specs.Pieces.{AreNumbers};
 use crate::batch::Batch;
 use crate::counter::PieceCounter;
 
-/// The parts of a batch that its workers share: its pieces, the counter that these are drawn from, the gate, the source of answers, and
-/// the number of answers that each worker's list has room for.
+/// The parts of a batch that its workers share: its pieces, the counter from which they take these, the gate, the source of
+/// answers, and the capacity of each worker's list.
 #[derive(Drop)]
 pub(crate) struct Job<'a, S, G> {
     pub(crate) batch: &'a Batch<'a>,

@@ -52,11 +52,11 @@ fn answers_of<O: Operator + Sync, R: Threads + Sync>(
     answers
 }
 
-/// The answers to a batch of queries of a version, in their order. It is cut into pieces of `piece` queries, which the workers
-/// draw as they come free. Each worker has a thread if one can be made.
+/// The answers to a batch of queries of a version, in their order. It is cut into pieces of `piece` queries, each taken by the next
+/// free worker. Each worker has a thread if one can be started.
 ///
-/// Whatever the workers and the pieces are, the answers are those of [`answer_one`](uc_query_read::answer_one) to one query
-/// after the other. It is refused for a number of workers that isn't 1 to [`MOST_WORKERS`], and then for a piece of no query.
+/// Whatever the workers and the pieces are, the answers are those of [`answer_one`](uc_query_read::answer_one) to one query after
+/// the other. Fails for a number of workers that isn't 1 to [`MOST_WORKERS`], and then for a piece of no query.
 pub fn answer_plain<O: Operator + Sync>(
     rt: &(impl Threads + Sync),
     alloc: Global,

@@ -28,7 +28,7 @@ pub struct Shares {
     pub workers: u64,
 }
 
-/// The rule over the word and what all seats know. It is told how many pieces and workers there are.
+/// The rule over the word and the seats' states. Its parameters are the numbers of pieces and workers.
 pub struct DrawRule;
 
 impl TableRule<(), Drawer, Shares> for DrawRule {
@@ -57,7 +57,7 @@ impl Play<(), Drawer> for Look {
     ghost then = { Looked };
 }
 
-/// The seat gives one of its parts to the new one, which has drawn nothing.
+/// The seat gives one of its parts to the new one, which has taken nothing.
 pub(crate) struct OnePart;
 
 impl Split<Drawer> for OnePart {

@@ -3,7 +3,7 @@ use crate::rule::Drawer;
 use atomic_table::Seat as Token;
 use std::marker::Model;
 
-/// A place at one [`PieceCounter`](crate::PieceCounter), with the numbers that were drawn by it. It has no bytes and may go
+/// A place at one [`PieceCounter`](crate::PieceCounter), with the numbers that were taken by it. It has no bytes and may be moved
 /// to another thread.
 ///
 /// Contracts see it as a `Drawing`: its counter, the parts of all seats together, its own, and its list of numbers.

@@ -3,8 +3,8 @@ use std::alloc::{AllocError, Global};
 use std::marker::Sync;
 use uc_query_read::{Answer, Query};
 
-/// Where workers get the answers to pieces from. Each worker has a place of its own at it: a reader at a shared store, and nothing
-/// at a version. Each query may be answered from another state, as the worker's place goes on.
+/// The source of answers to pieces. Each worker has its own place at it: a reader of a shared store, and nothing for a version.
+/// Each query may be answered from another state, as the worker's place advances.
 pub trait Source<Place>: Sync {
     ghost use Rattle.std.specs.Prelude.{List, OnOk};
     ghost use Rattle.uc_query_read.specs.declared.answer.Answer.{Answer as AnswerOf};
@@ -14,7 +14,7 @@ pub trait Source<Place>: Sync {
     /// The answers that may be given to a query while a worker's place goes from one state to another.
     ghost gives: { Self → Place → Place → QueryOf → AnswerOf → Type 0 };
 
-    /// The states that a worker's place may go on to.
+    /// The states to which a worker's place may advance.
     ghost goes_on: { Place → Place → Type 0 };
 
     /// Appends an answer to each query of a piece. After an `Err` some of them are there.
@@ -32,7 +32,7 @@ pub trait Source<Place>: Sync {
     /// A place may stay as it is.
     ghost stays: { (place : Place) → goes_on place place };
 
-    /// It may go on from where it went.
+    /// Advancing is transitive.
     ghost goes_further: { (first second third : Place) → goes_on first second → goes_on second third →
         goes_on first third };
 

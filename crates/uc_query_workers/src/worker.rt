@@ -11,8 +11,8 @@ use crate::source::Source;
 use std::alloc::{AllocError, Global};
 use uc_query_read::Answer;
 
-/// Draws pieces as long as there are any, and appends the answers to each to `answers`, which is empty. Their numbers are given,
-/// in the order in which they were drawn.
+/// Takes pieces as long as there are any, and appends the answers to each to `answers`, which is empty. Returns their numbers, in
+/// the order in which they were taken.
 fn draw_pieces<P, S: Source<P>, G: Gate>(
     alloc: Global,
     job: &Job<'_, S, G>,
@@ -42,7 +42,7 @@ fn draw_pieces<P, S: Source<P>, G: Gate>(
 /// The pieces that a worker drew by a seat, which comes back with them.
 pub(crate) type Share = Result<(PieceSeat, Drawn), AllocError>;
 
-/// Lets a worker draw pieces. Its place comes back also if memory ran out. `answers` is empty.
+/// Runs one worker. Its place is returned even if allocation fails. `answers` is empty.
 pub(crate) fn drawn_by_one<P, S: Source<P>, G: Gate>(
     alloc: Global,
     job: &Job<'_, S, G>,

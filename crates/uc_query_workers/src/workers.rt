@@ -51,7 +51,7 @@ fn together(
     Ok((seat, draws))
 }
 
-/// Puts a place back after the others, for which there is room.
+/// Appends a place to the others, for which capacity is reserved.
 fn put_back<P: Drop>(places: &mut Vec<P>, place: P)
     requires { vec_len places.old < vec_capacity places.old }
     ensures items { places.new.items ≡ places.old.items ++ place ∷ [] }
@@ -62,8 +62,7 @@ fn put_back<P: Drop>(places: &mut Vec<P>, place: P)
     }
 }
 
-/// Lets one worker draw pieces, in the calling thread, and puts its place back after the others, for which there is room.
-/// `answers` is empty.
+/// Runs one worker in the calling thread, and appends its place to the others, for which capacity is reserved. `answers` is empty.
 fn drawn_here<P: Drop, S: Source<P>, G: Gate>(
     alloc: Global,
     job: &Job<'_, S, G>,
@@ -91,13 +90,13 @@ fn drawn_here<P: Drop, S: Source<P>, G: Gate>(
     }
 }
 
-/// Lets workers draw pieces, each with one of the places: the calling thread, and a thread of its own for each other one if it
-/// can be made. The seat has as many parts as there are workers. The places come back in their order, also if memory ran out.
+/// Runs workers, each with one of the places: one in the calling thread, and each other one in its own thread if that can be
+/// started. The seat has as many parts as there are workers. The places are returned in their order, even if allocation fails.
 ///
-/// The calling thread starts all the others, one after the other. Threads that start threads at the same moment (as in a tree of
-/// halves) don't see each other's yet, and the system puts two on one processor while another has nothing to do. It also makes
-/// each worker's list, with room for the answers: the memory of a new thread grows page by page, and each page costs a call of
-/// the system.
+/// The calling thread starts all the others, one after the other. Threads that start threads at the same time (as in a tree of
+/// halves) don't see each other's yet, and the system puts two on one processor while another is idle. It also allocates each
+/// worker's list, with the capacity for its answers: the memory of a new thread grows page by page, and each page costs a system
+/// call.
 #[cycle(workers)]
 pub(crate) fn drawn_by_workers<P: Send + Drop, S: Source<P>, G: Gate, R: Threads + Sync>(
     rt: &R,

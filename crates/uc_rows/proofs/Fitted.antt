@@ -14,7 +14,7 @@ length_of_row row =
     let eight_too : length (to_le_bytes w64 (length row.1)) ≡ 8 = refl in
     omega (arith, both, key, value, eight, eight_too)
 
--- the row behind the first few is the next
+-- the row after the first few is the next
 taken_suc : (all rest : List Row) (row : Row) (n : ℕ) → drop n all ≡ row ∷ rest → take (suc n) all ≡ take n all ++ row ∷ []
 taken_suc all rest row zero e = ap (λ (rows : List Row). take 1 rows) e
 taken_suc [] rest row (suc n) e = absurd (let none : 0 ≡ suc (length rest) = ap (λ (rows : List Row). length rows) e in omega (arith, none))

@@ -21,7 +21,7 @@ below_all : (x y : List ℕ) (rows : List Row) → bytes_cmp x y ≡ Less → Al
 below_all x y [] e below = tt
 below_all x y (row ∷ rows) e below = (nat_list_cmp_total.trans x y row.0 e below.0, below_all x y rows e below.1)
 
--- what rises behind a first row: its value is of no account
+-- the rows that rise after a first row, whatever its value
 abbrev pub RiseAbove : List ℕ → List Row → Type 0
 RiseAbove key rows = KeysRise ((key, []) ∷ rows)
 

@@ -1,4 +1,4 @@
--- Rows that were spelled are read again.
+-- Reading returns the rows that were encoded.
 use Rattle.std.proofs.Common.{◌≡◌, ℕ, zero, suc, ◌+◌, ◌-◌, ◌<◌, ◌≤◌, ◌^◌, List, [], ◌∷◌, ◌++◌, length, take, drop, refl, sym, ap, ◌∙◌, subst, append_assoc, length-append, arith}
 use Rattle.std.specs.Int.{w64, to_le_bytes, from_le_bytes}
 use Rattle.std.specs.List.{AllByRecursion}
@@ -52,7 +52,7 @@ rows_again (row ∷ rows) rest fits =
     let again : row_from ((row_bytes row ++ rows_bytes rows) ++ rest) ≡ (row, rows_bytes rows ++ rest) = ap row_from (append_assoc (row_bytes row) (rows_bytes rows) rest) ∙ row_again row (rows_bytes rows ++ rest) fits.0 in
     ap (λ (q : Row × List ℕ). q.0 ∷ rows_from (length rows) q.1) again ∙ ap (λ (xs : List Row). row ∷ xs) (rows_again rows rest fits.1)
 
--- what the bytes of rows spell
+-- the rows that the bytes of rows encode
 spelled_by : (rows : List Row) → AllByRecursion Fits rows → (count : ℕ) → count ≡ length rows → (bytes : List ℕ) → bytes ≡ rows_bytes rows → rows_from count bytes ≡ rows
 spelled_by rows fits count many bytes e =
     ap (λ n. rows_from n bytes) many ∙ ap (rows_from (length rows)) (e ∙ sym (append-nil (rows_bytes rows))) ∙ rows_again rows [] fits

@@ -6,6 +6,6 @@ use Rattle.uc_rows.specs.declared.row_buffer.RowBuffer.TheInside.{Inside}
 abbrev pub rows_of : Inside → List Row
 rows_of b = rows_from b.count b.bytes.items
 
--- the bytes spell the rows
+-- the bytes encode the rows
 abbrev pub AreHeld : Inside → Type 0
 AreHeld b = AreSpelled b.count b.bytes.items

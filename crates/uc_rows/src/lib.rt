@@ -1,8 +1,8 @@
 //! Rows: keys with their values, as a scan shows them, in one buffer.
 //!
-//! [`RowBuffer`] keeps rows one after the other, each as the length of its key, the key, the length of its value, and the
-//! value: a row takes no memory of its own. [`Rows`] are those whose keys rise. `specs/RowBytes.antt` says how they are spelled;
-//! read it first, then `row_buffer.rt`.
+//! [`RowBuffer`] keeps rows one after the other, each as the length of its key, the key, the length of its value, and the value: a
+//! row has no separate allocation. [`Rows`] are those whose keys rise. `specs/RowBytes.antt` defines their encoding; read it first,
+//! then `row_buffer.rt`.
 //!
 //! An `Err(AllocError)` comes only if an allocation fails.
 //!

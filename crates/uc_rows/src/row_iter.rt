@@ -6,8 +6,8 @@ ghost use Rattle.uc_rows.specs.RowBytes.{rows_from};
 use crate::spelling::read_row;
 use std::marker::Model;
 
-/// The rows that are still ahead of a walk, in their order: of each its key and its value, both lent. A contract sees their
-/// list.
+/// An iterator over rows, in their order, which returns each row's borrowed key and value. A contract sees the list of the rows
+/// that are ahead.
 #[derive(Drop)]
 pub struct RowIter<'a> {
     /// The bytes from the next row on.

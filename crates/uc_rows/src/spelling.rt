@@ -6,10 +6,10 @@ ghost use Rattle.uc_rows.specs.RowBytes.{Fits, text_bytes, row_bytes};
 
 use std::alloc::AllocError;
 
-/// The bytes of a text's length.
+/// Size in bytes of an encoded length.
 const LENGTH: usize = 8;
 
-/// Pushes a text after its length, 8 bytes, low byte first. An `Err` may leave some of its bytes pushed.
+/// Appends the length of `text`, as 8 bytes with the low byte first, and its bytes. An `Err` may leave some of these appended.
 #[inline]
 pub fn push_text(bytes: &mut Vec<u8>, text: &[u8]) -> Result<(), AllocError>
     ensures pushed { OnOk result (bytes.new.items ≡ bytes.old.items ++ text_bytes text.now) }
@@ -45,7 +45,7 @@ pub(crate) fn push_row(bytes: &mut Vec<u8>, key: &[u8], value: &[u8]) -> Result<
     Ok(())
 }
 
-/// The text at the front, and the bytes after it.
+/// The byte string at the front, and the bytes after it.
 #[inline]
 fn read_text(bytes: &[u8]) -> (&[u8], &[u8])
     ensures text { result.0.now ≡ (spelling.text_from bytes.now).0 }

@@ -1,4 +1,4 @@
--- What holds of the bits that a word has.
+-- Facts of the bits of a word.
 use Rattle.std.proofs.Common.{◌≡◌, ℕ, min, sym, ap, ◌∙◌, arith}
 use Rattle.std.specs.Int.{bit_at}
 use Rattle.std.specs.Int.RustNames.{bit_and, bit_or}

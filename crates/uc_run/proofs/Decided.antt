@@ -1,4 +1,4 @@
--- What prefixes decide of keys in order.
+-- Facts about keys in order that follow from their prefixes.
 use Rattle.std.proofs.Common.{◌≡◌, ℕ, ◌+◌, ◌-◌, ◌<◌, ◌≤◌, Bool, true, false, eqb, ltb, leb, List, [], ◌∷◌, ◌++◌, Some, length, get_or, take, drop, map, refl, sym, ap, ◌∙◌, subst, arith}
 use Rattle.std.specs.List.{All, AllWithin, slice_get}
 use Rattle.std.specs.List.Sorted.{IsNonDecreasing, IsPartitionPoint, IsPartitionedBy}
@@ -150,7 +150,7 @@ module _ (keys : List (List ℕ)) (rising : AreRising keys) (shared : ℕ) (pref
         ap (is_passed low strict) (get_or_default keys k d [] l)
         ∙ ahead_by strict (get_or keys k []) (against k l ∙ higher_prefix (drop shared (get_or keys k [])) rest (held.bytes k [] l) higher)
 
--- what stands behind a front that a key has
+-- the bytes after the front of a key
 pub behind_begin : (low front rest : List ℕ) → same_bytes (take (length front) low) front ≡ true → rest ≡ drop (length front) low → low ≡ front ++ rest
 behind_begin low front rest e rest-is =
     sym (take-append-drop (length front) low)

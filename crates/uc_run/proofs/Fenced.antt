@@ -1,4 +1,4 @@
--- Where a search goes on from the fences of blocks.
+-- The place where a search continues after the fences of blocks.
 use Rattle.std.proofs.Common.{◌≡◌, ℕ, ◌-◌, ◌*◌, ◌<◌, ◌≤◌, Bool, true, false, ltb, List, [], ◌∷◌, ◌++◌, length, get_or, Some, refl, sym, ap, ◌∙◌, arith}
 use Rattle.std.specs.List.{AllWithin, slice_get}
 use Rattle.std.proofs.lemmas.Bool.Decides.{nat_tests}
@@ -45,7 +45,7 @@ module _ (test : List ℕ → Bool) (points : List Entry) (fences : List (List �
   fences_parted i j d le l passed =
       fence_test i d any (omega (arith, le, l)) ∙ parted (16 * i) (16 * j) any (omega (arith, le)) (has_point j l) (sym (fence_test j d any l) ∙ passed)
 
-  -- behind a point that fails the test none passes it
+  -- after a point that fails the test none passes it
   fails_on : (j k : ℕ) (d : Entry) → j ≤ k → k < length points → test (get_or points j d).key ≡ false → test (get_or points k d).key ≡ false
   fails_on j k d le l fails = not_true (test (get_or points k d).key) (λ passed. false≢true (sym fails ∙ parted j k d le l passed))
 

@@ -1,4 +1,4 @@
--- What is found at a place of a run is what the run's writes do.
+-- The effect found at a place of a run is that of the run's writes.
 use Rattle.std.proofs.Common.{◌≡◌, ℕ, List, [], ◌∷◌, filter, sym, ap, ◌∙◌}
 use Rattle.std.specs.Prelude.{nat_le}
 use Rattle.std.specs.List.{AllByRecursion, flat_map}

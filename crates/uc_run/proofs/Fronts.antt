@@ -12,7 +12,7 @@ use Rattle.uc_bytes.specs.Bytes.{bytes_cmp, same_bytes}
 abbrev common : List ℕ → List ℕ → ℕ
 common xs ys = common_prefix_len eqb xs ys
 
--- behind the last byte of the shorter one nothing is common
+-- after the last byte of the shorter one nothing is common
 pub none_behind : (n : ℕ) (xs ys : List ℕ) → n ≡ min (length xs) (length ys) → common (drop n xs) (drop n ys) ≡ 0
 none_behind zero [] ys e = refl
 none_behind (suc n) [] ys e = refl

@@ -33,7 +33,7 @@ module _ (low : List ℕ) (strict : Bool) where
   all_above p [] h = tt
   all_above p (q ∷ qs) h = ((λ asked. key_le p q h.0), all_above p qs h.1)
 
-  -- behind a point that isn't passed over none is
+  -- after a point that isn't passed over none is
   none_passed : (p : Entry) (qs : List Entry) → test p ≡ false → AllByRecursion (λ q. entry_cmp p q ≡ Less) qs → length (filter test qs) ≡ 0
   none_passed p [] e h = refl
   none_passed p (q ∷ qs) e h = by (test q) refl (none_passed p qs e h.1)

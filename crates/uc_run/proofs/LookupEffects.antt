@@ -1,4 +1,4 @@
--- What points do in turn, the newest first.
+-- The effect of points in turn, the newest first.
 use Rattle.std.proofs.Common.{◌≡◌, ℕ, zero, suc, ◌+◌, ◌-◌, ◌<◌, ◌≤◌, true, List, [], ◌∷◌, ◌++◌, length, get_or, take, drop, Some, None, refl, sym, ap, ◌∙◌, arith}
 use Rattle.std.specs.Prelude.{Bool, false, not, filter, nat_lt}
 use Rattle.std.specs.List.{slice_get}

@@ -68,7 +68,7 @@ module _ (key : List ℕ) where
       ∙ none_ended n fs (λ k d low l. partitioned key fs order k (n - 1) d (omega (arith, l)) (omega (arith, some, le))
       (ap (ends_by key) (get_or_default fs (n - 1) d f (omega (arith, some, le)) ∙ sym is) ∙ e)) le
 
-  -- behind one that ends above the key none covers it
+  -- after one that ends above the key none covers it
   above_by : (o : Ordering) → is_le o ≡ false → is_lt (ordering_reverse o) ≡ true
   above_by Less e = absurd (false≢true (sym e))
   above_by Equal e = absurd (false≢true (sym e))

@@ -17,7 +17,7 @@ use Rattle.uc_run_entry.specs.Lookup.{is_visible}
 use Rattle.uc_run_entry.proofs.Sorted.{entry_total}
 use Rattle.uc_run.specs.Places.{is_newer}
 
--- the key of a point is at or below that of one behind it
+-- the key of a point is at or below that of one after it
 key_by : (x y : List ℕ) (a b : ℕ) (o : Ordering) → bytes_cmp x y ≡ o → ordering_then o (nat_cmp a b) ≡ Less → (bytes_cmp x y ≡ Less) ⊎ (x ≡ y)
 key_by x y a b Less e less = inl e
 key_by x y a b Equal e less = inr (exact_bytes x y e)
@@ -37,7 +37,7 @@ passed_by low x y false Greater e f passed = absurd (false≢true (ap is_lt (sym
 pub key_passed : (low x y : List ℕ) (strict : Bool) → bytes_cmp x y ≡ Less → is_passed low strict y ≡ true → is_passed low strict x ≡ true
 key_passed low x y strict e passed = passed_by low x y strict (bytes_cmp y low) e refl passed
 
--- a key is passed over where one behind it is
+-- a key is passed over if one after it is
 pub passed_before : (low : List ℕ) (strict : Bool) (p q : Entry) → entry_cmp p q ≡ Less → is_passed low strict q.key ≡ true → is_passed low strict p.key ≡ true
 passed_before low strict p q less passed =
     ⊎_elim
@@ -50,7 +50,7 @@ less_of Less e = refl
 less_of Equal e = absurd cc
 less_of Greater e = absurd cc
 
--- a point is newer than a sequence of a key where one behind it is
+-- a point is newer than a sequence number of a key if one after it is
 pub newer_before : (key : List ℕ) (at : ℕ) (p q : Entry) → entry_cmp p q ≡ Less → is_newer key at q ≡ true → is_newer key at p ≡ true
 newer_before key at p q less newer =
     let target : Entry = record { key = key; seq = at; what = q.what } in
@@ -102,7 +102,7 @@ module _ (key : List ℕ) (at : ℕ) (p : Entry) where
   here_by Equal e newer passed = both (leb p.seq at) (same_bytes p.key key) (not_less at p.seq newer) (same_key p.key key e)
   here_by Greater e newer passed = absurd cc
 
-  -- what isn't, of a key that is passed over by who looks behind it, is
+  -- a point that isn't newer, of a key that a search after it passes over, is visible
   pub here_visible : is_newer key at p ≡ false → is_passed key true p.key ≡ true → is_visible key at p ≡ true
   here_visible newer passed = here_by (bytes_cmp p.key key) refl newer passed
 
@@ -111,7 +111,7 @@ module _ (key : List ℕ) (at : ℕ) (p : Entry) where
   behind_by Equal e passed = absurd cc
   behind_by Greater e passed = neither (leb p.seq at) (same_bytes p.key key) (other_key p.key key (same_bytes p.key key) refl (λ f. absurd cc))
 
-  -- and of a key behind it isn't
+  -- and one of a key after it isn't
   pub behind_hidden : is_passed key true p.key ≡ false → is_visible key at p ≡ false
   behind_hidden passed = behind_by (bytes_cmp p.key key) refl passed
 
@@ -129,6 +129,6 @@ both_by Less e = refl
 both_by Equal e = absurd cc
 both_by Greater e = absurd cc
 
--- who looks behind a key passes over what he who looks from it on does
+-- a search after a key passes over all that a search from the key on passes over
 pub passed_both : (key : List ℕ) (p : Entry) → is_passed key false p.key ≡ true → is_passed key true p.key ≡ true
 passed_both key p passed = both_by (bytes_cmp p.key key) passed

@@ -30,7 +30,7 @@ kind_below Delete = omega arith
 kind_below Merge = omega arith
 kind_below DeleteRange = omega arith
 
--- a write that a number and the bytes behind it tell
+-- a write that a number and the bytes after it encode
 abbrev told : ℕ → OpKind → ℕ × List ℕ → Write
 told seq kind len = written seq kind (take len.0 len.1) (drop len.0 len.1)
 
@@ -86,7 +86,7 @@ end_at_room room [] (suc n) is = refl
 end_at_room room (x ∷ slots) zero is = cc
 end_at_room room (x ∷ slots) (suc n) is = end_at_room room slots n is
 
--- a slot's bytes end behind where they start
+-- a slot's bytes end after their start
 pub start_within : (room : ℕ) (slots : List Slot) (n : ℕ) (s : Slot) → AreInOrder room slots → slice_get slots n ≡ Some s → s.start ≤ end_before room (drop (suc n) slots)
 start_within room [] n s order is = cc
 start_within room (x ∷ slots) zero s order is =
@@ -127,20 +127,20 @@ module _ (text : List ℕ) (slots : List Slot) (n : ℕ) (s : Slot) (start end :
 
 -- ---- the first writes
 
--- a part of a text that more stands behind
+-- a part of some bytes that more bytes follow
 part_kept : (text more : List ℕ) (start len : ℕ) → start + len ≤ length text → take len (drop start (text ++ more)) ≡ take len (drop start text)
 part_kept text more start len le =
     let room : length (drop start text) ≡ length text - start = length-drop start text in
     ap (take len) (drop-append-le start text more (omega (arith, le))) ∙ take-append-le len (drop start text) more (omega (arith, le, room))
 
--- a part of a text that was cut behind it
+-- a part of some bytes that were cut after it
 part_of_first : (text : List ℕ) (end start len : ℕ) → end ≤ length text → start + len ≤ end → take len (drop start (take end text)) ≡ take len (drop start text)
 part_of_first text end start len within le =
     let long : length (take end text) ≡ end = length-take-le end text within in
     sym (part_kept (take end text) (drop end text) start len (omega arith))
     ∙ ap (λ (t : List ℕ). take len (drop start t)) (take-append-drop end text)
 
--- where the bytes before the first slots end, in an arena that is cut behind them
+-- where the bytes before the first slots end, in an arena that is cut after them
 end_kept : (room end : ℕ) (slots : List Slot) (n : ℕ) → end ≡ end_before room (drop n slots) → end_before end (take n slots) ≡ end_before room slots
 end_kept room end [] zero is = is
 end_kept room end [] (suc n) is = is

@@ -33,7 +33,7 @@ is_number (a ∷ b ∷ c ∷ d ∷ e ∷ f ∷ []) = omega arith
 is_number (a ∷ b ∷ c ∷ d ∷ e ∷ f ∷ g ∷ []) = omega arith
 is_number (a ∷ b ∷ c ∷ d ∷ e ∷ f ∷ g ∷ h ∷ rest) = omega arith
 
--- the bytes behind the eighth don't count
+-- the bytes after the eighth don't count
 pub prefix_of-take : (xs : List ℕ) → prefix_of (take 8 xs) ≡ prefix_of xs
 prefix_of-take [] = refl
 prefix_of-take (a ∷ []) = refl
@@ -110,7 +110,7 @@ outweighs n x y xs ys bytes lt =
     let up : suc x * 256 ^ n ≤ y * 256 ^ n = mul-le-mul_right (256 ^ n) lt in
     omega (arith, up, suc-mul x (256 ^ n), number_below n xs bytes)
 
--- of two lists with one number the shorter is below, if the number tells all of it
+-- of two lists with one number the shorter is below, if the number encodes all of it
 equal_number : (n : ℕ) (xs ys : List ℕ) → AreBytes xs → AreBytes ys → number n xs ≡ number n ys → min (length xs) (length ys) ≤ n → bytes_cmp xs ys ≡ nat_cmp (length xs) (length ys)
 equal_number n [] [] bx by e le = refl
 equal_number n [] (y ∷ ys) bx by e le = sym (less_is 0 (length (y ∷ ys)) (omega arith))

@@ -47,7 +47,7 @@ rank_parts bits prefix number fits =
     let below : high_in bits prefix * room bits < 2 ^ 64 = omega (arith, shr_split prefix (bits % 64), fits) in
     ap (λ n. bit_or n (low_in bits number)) (mod-eq_of_lt below) ∙ or_shifted (high_in bits prefix) (bits % 64) (low_in bits number) (mod_below number (room bits) (room_some bits))
 
--- the bits of a number have room for the places below it
+-- the bits of a number are enough for the places below it
 pub bits_suffice : (count : ℕ) → count < 2 ^ 63 → count ≤ room (64 - count_leading_zeros 64 count)
 bits_suffice count l = by (leading_length 64 count (omega (arith, l)))
   where
@@ -99,7 +99,7 @@ pub record IsRanked (shared bits high : ℕ) (p : Entry) : Type 0 where
   pub prefix : high ≡ high_in bits (prefix_of (drop shared p.key))
   pub bytes : AreBytes (drop shared p.key)
 
--- where two keys have a front, what is behind it decides
+-- if two keys have a front, the bytes after it decide
 behind : (shared : ℕ) (first xs ys : List ℕ) → HasFront shared first xs → HasFront shared first ys → bytes_cmp xs ys ≡ bytes_cmp (drop shared xs) (drop shared ys)
 behind shared first xs ys h k =
     let front : List ℕ = take shared first in
@@ -169,7 +169,7 @@ module _ (writes : List Write) (bits shared : ℕ) (first : List ℕ) (points : 
           ∙ order k 0 (omega arith) next
 
 module _ (writes : List Write) (bits shared : ℕ) where
-  -- a rank tells the number that it had before
+  -- a rank has the number that it had before
   same_point : (r : ℕ) → entry_at writes bits (ranked_at writes shared bits r) ≡ entry_at writes bits r
   same_point r = ap (λ (n : ℕ). entry_or (slice_get writes (length writes - 1 - n))) (low_of_rank bits (prefix_of (drop shared (entry_at writes bits r).key)) r)
 
@@ -190,7 +190,7 @@ module _ (writes : List Write) (bits shared : ℕ) where
         }));
   }
 
--- a vector whose ranks were lent, sorted by key and came back
+-- a vector whose ranks were borrowed, sorted by key and came back
 pub back_by_key : (writes : List Write) (bits : ℕ) (points : List Entry) (held lent sorted tail now : List ℕ) (len : ℕ) → points_of writes bits held ≡ points → length held ≡ len → lent ≡ held → points_of writes bits sorted ≡ by_key (points_of writes bits lent) → length sorted ≡ length lent → now ≡ take len (sorted ++ tail) → points_of writes bits now ≡ by_key points
 back_by_key writes bits points held lent sorted tail now len are long same order kept back =
     ap (points_of writes bits) (back ∙ take_at sorted tail len (kept ∙ ap length same ∙ long))
@@ -225,7 +225,7 @@ module _ (writes : List Write) (bits i : ℕ) (w : Write) (fits : length writes 
   number_missing b before failed told known =
       part_missing part writes i w (points_of writes bits before) is (told ∙ ap (λ t. cond t (Some (entry_in w)) None) failed) known
 
--- what holds of all points holds of those in front and of those behind them
+-- a fact of all points holds of those in front and of those after them
 pub all_front : (P : Entry → Type 0) (ps qs : List Entry) → AllByRecursion P (ps ++ qs) → AllByRecursion P ps
 all_front P [] qs h = tt
 all_front P (p ∷ ps) qs h = (h.0, all_front P ps qs h.1)

@@ -1,4 +1,4 @@
--- Whether texts are equal, by their prefixes.
+-- Equality of byte strings, by their prefixes.
 use Rattle.std.proofs.Common.{◌≡◌, ℕ, ◌≤◌, List, length, drop, refl, sym, ap, ◌∙◌}
 use Rattle.std.specs.declared.cmp.Ordering.{Ordering}
 use Rattle.std.specs.declared.cmp.Ordering.TheVariants.{Less, Equal, Greater}
@@ -13,11 +13,11 @@ same_by xs ys Less e = other_key xs ys (same_bytes xs ys) refl (λ f. absurd cc)
 same_by xs ys Equal e = same_key xs ys e
 same_by xs ys Greater e = other_key xs ys (same_bytes xs ys) refl (λ f. absurd cc)
 
--- texts are equal if they compare so
+-- byte strings are equal if they compare as equal
 pub same_is_eq : (xs ys : List ℕ) → same_bytes xs ys ≡ is_eq (bytes_cmp xs ys)
 same_is_eq xs ys = same_by xs ys (bytes_cmp xs ys) refl
 
--- of two texts with one prefix, what is behind it tells
+-- if two byte strings have one prefix, the bytes after it decide
 pub same_behind : (xs ys : List ℕ) → AreBytes xs → AreBytes ys → prefix_of xs ≡ prefix_of ys → 8 ≤ length xs → 8 ≤ length ys → same_bytes (drop 8 xs) (drop 8 ys) ≡ same_bytes xs ys
 same_behind xs ys bx by e lx ly =
     same_is_eq (drop 8 xs) (drop 8 ys) ∙ ap is_eq (sym (behind_prefix xs ys bx by e lx ly)) ∙ sym (same_is_eq xs ys)

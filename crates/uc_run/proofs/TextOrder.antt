@@ -1,4 +1,4 @@
--- The order of texts whose prefixes are equal.
+-- The order of byte strings whose prefixes are equal.
 use Rattle.std.proofs.Common.{◌≡◌, ℕ, zero, suc, ◌*◌, ◌-◌, ◌^◌, ◌<◌, ◌≤◌, List, [], ◌∷◌, length, take, drop, refl, sym, ap, ◌∙◌, arith}
 use Rattle.std.specs.declared.cmp.Ordering.{Ordering}
 use Rattle.std.specs.declared.cmp.Ordering.TheVariants.{Less, Equal, Greater}
@@ -9,7 +9,7 @@ use Rattle.uc_bytes.specs.Bytes.{bytes_cmp}
 use Rattle.uc_run.specs.Prefixes.{prefix_of, AreBytes}
 use Rattle.uc_run.proofs.PrefixOrder.{number, is_number, outweighs, lower_prefix, higher_prefix}
 
--- of two texts with one number, what is behind the bytes that it tells decides
+-- if two byte strings have one number, the bytes after those that it encodes decide
 behind_number : (n : ℕ) (xs ys : List ℕ) → AreBytes xs → AreBytes ys → number n xs ≡ number n ys → n ≤ length xs → n ≤ length ys → bytes_cmp xs ys ≡ bytes_cmp (drop n xs) (drop n ys)
 behind_number zero xs ys bx by e lx ly = refl
 behind_number (suc n) [] ys bx by e lx ly = absurd (omega (arith, lx))
@@ -37,6 +37,6 @@ other_prefix xs ys Less bx by e other = lower_prefix xs ys by (let lt : prefix_o
 other_prefix xs ys Equal bx by e other = absurd (other (let same : prefix_of xs ≡ prefix_of ys = grind (arith, nat_tests) in same))
 other_prefix xs ys Greater bx by e other = higher_prefix xs ys bx (let lt : prefix_of ys < prefix_of xs = grind (arith, nat_tests) in lt)
 
--- what is cut off behind a front is all of it
+-- cutting at the end leaves all bytes after a front
 pub cut_off : (n : ℕ) (xs : List ℕ) → take (length xs - n) (drop n xs) ≡ drop n xs
 cut_off n xs = take_all (length xs - n) (drop n xs) (let long : length (drop n xs) ≡ length xs - n = length-drop n xs in omega (arith, long))

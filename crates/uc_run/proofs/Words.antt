@@ -2,7 +2,7 @@
 use Rattle.std.proofs.Common.{◌≡◌, ℕ, List, [], ◌∷◌, take, refl}
 use Rattle.uc_run.specs.KeyHash.{first_word}
 
--- the bytes behind the eighth don't count
+-- the bytes after the eighth don't count
 pub first_word-take : (xs : List ℕ) → first_word (take 8 xs) ≡ first_word xs
 unfolding first_word
 first_word-take [] = refl

@@ -15,7 +15,7 @@ one_bit hash = 2 ^ (hash % 64)
 unfoldable pub three_bits : ℕ → ℕ
 three_bits hash = bit_or (bit_or (one_bit hash) (one_bit (hash / 2 ^ 6))) (one_bit (hash / 2 ^ 12))
 
--- where the bits of a key with this hash lie, among so many words
+-- the positions of the bits of a key with this hash, in a filter of `words` words
 unfoldable pub probes_of : ℕ → ℕ → Probes
 probes_of hash words = record {
   first = block_of hash (words / 8) * 8 + hash / 2 ^ 36 % 4;

@@ -1,4 +1,4 @@
--- What a lookup finds before it looks at points.
+-- The result of a lookup before it reads points.
 use Rattle.std.specs.Prelude.{◌≡◌, ℕ, true, List, Option, Some, None}
 use Rattle.std.specs.List.{slice_get}
 use Rattle.uc_oper.specs.declared.effect.Effect.{Effect}

@@ -12,7 +12,7 @@ pub record NextKeys : Type 0 where
   pub front : List ℕ
   pub keys : List (Option (List ℕ))
 
--- A number that doesn't fall as keys rise. It tells keys apart that begin with the front and differ in the eight bytes behind it.
+-- A number that doesn't fall as keys rise. It distinguishes keys that begin with the front and differ in the eight bytes after it.
 abbrev pub number_of : List ℕ → List ℕ → ℕ
 number_of front key =
     if same_bytes (take (length front) key) front
@@ -24,7 +24,7 @@ abbrev pub next_number : List ℕ → Option (List ℕ) → ℕ
 next_number front None = 2 ^ 64 - 1
 next_number front (Some key) = number_of front key
 
--- Beside each key is its number, and keys are bytes.
+-- Each key has its number, and keys are bytes.
 pub record AreNumbered (front : List ℕ) (keys : List (Option (List ℕ))) (numbers : List ℕ) : Type 0 where
   pub each : numbers ≡ map (next_number front) keys
   pub bytes : All (λ key. AreBytes (unwrap_or key [])) keys

@@ -6,6 +6,6 @@ use Rattle.uc_run.specs.declared.heads.Heads.TheInside.{Inside}
 abbrev pub next_keys : Inside → NextKeys
 next_keys h = record { front = h.front.now; keys = map (option_map (λ key. key.now)) h.keys.items }
 
--- each key beside its number
+-- each key with its number
 abbrev pub IsNumbered : Inside → Type 0
 IsNumbered h = AreNumbered h.front.now (map (option_map (λ key. key.now)) h.keys.items) h.numbers

@@ -20,7 +20,7 @@ AreBytes xs = (i : ℕ) → slice_index xs i < 2 ^ 8
 abbrev pub AreRising : List (List ℕ) → Type 0
 AreRising keys = (i j : ℕ) (d : List ℕ) → i ≤ j → j < length keys → is_le (bytes_cmp (slice_index_or keys i d) (slice_index_or keys j d)) ≡ true
 
--- Beside each key is the prefix of its bytes after those that all keys share.
+-- Each key has the prefix of its bytes after those that all keys share.
 pub record ArePrefixes (keys : List (List ℕ)) (shared : ℕ) (prefixes : List ℕ) : Type 0 where
   pub front : shared ≡ shared_front keys
   pub each : prefixes ≡ map (λ key. prefix_of (drop shared key)) keys

@@ -35,11 +35,11 @@ abbrev pub entry_or : Option Write → Entry
 entry_or None = record { key = []; seq = 0; what = what.Delete }
 entry_or (Some w) = entry_in w
 
--- how many numbers of slots ranks tell apart, if their last bits tell the number
+-- number of slots that ranks can distinguish by their last bits
 abbrev pub room : ℕ → ℕ
 room bits = 2 ^ (bits % 64)
 
--- the first bits of the prefix, behind which the number of the slot stands
+-- the first bits of the prefix, after which the slot's number is stored
 abbrev pub high_in : ℕ → ℕ → ℕ
 high_in bits rank = rank / room bits
 
@@ -65,7 +65,7 @@ points_of writes bits ranks = map (entry_at writes bits) ranks
 abbrev pub ranked_at : List Write → ℕ → ℕ → ℕ → ℕ
 ranked_at writes shared bits rank = rank_of bits (prefix_of (drop shared (entry_at writes bits rank).key)) rank
 
--- points by what is behind the first bytes of their keys, the newest of a key first
+-- order of points by the bytes after the shared ones of their keys, the newest of a key first
 abbrev pub behind_cmp : ℕ → Entry → Entry → Ordering
 behind_cmp shared p q = ordering_then (bytes_cmp (drop shared p.key) (drop shared q.key)) (nat_cmp q.seq p.seq)
 

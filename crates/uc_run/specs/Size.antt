@@ -7,7 +7,7 @@ use Rattle.uc_bytes.specs.declared.op.Op.{Op}
 use Rattle.uc_bytes.specs.declared.op.Op.TheVariants.{Put, Delete, Merge, DeleteRange}
 use Rattle.uc_bytes.specs.declared.write.Write.{Write}
 
--- the texts and 8 for the sequence; a range without keys counts nothing
+-- the lengths of key and value, and 8 for the sequence number; a range without keys counts as 0
 abbrev pub op_size : Op → ℕ
 op_size (Put key value) = length key + length value + 8
 op_size (Delete key) = length key + 8

@@ -24,17 +24,17 @@ kind_of (suc (suc (suc n))) = DeleteRange
 abbrev pub trailer_of : ℕ → OpKind → ℕ
 trailer_of seq kind = 4 * seq + kind_number kind
 
--- the bytes of two texts: how long the first is, and both
+-- the bytes of two byte strings: the length of the first, and both
 abbrev pub bytes_of : List ℕ → List ℕ → List ℕ
 bytes_of first second = number_text (length first) ++ (first ++ second)
 
--- the write that a trailer tells with its bytes
+-- the write that a trailer encodes with its bytes
 abbrev pub write_of : ℕ → List ℕ → Write
 write_of trailer bytes =
     let len = number_from bytes in
     record { seq = trailer / 4; op = op_of (kind_of (trailer % 4)) (take len.0 len.1) (drop len.0 len.1) }
 
--- where the bytes before slots end, in an arena of so many bytes
+-- where the bytes before slots end, in an arena of `room` bytes
 abbrev pub end_before : ℕ → List Slot → ℕ
 end_before room [] = room
 end_before room (s ∷ slots) = s.start
@@ -44,7 +44,7 @@ abbrev pub slot_writes : List ℕ → List Slot → List Write
 slot_writes text [] = []
 slot_writes text (s ∷ slots) = write_of s.trailer (take (end_before (length text) slots - s.start) (drop s.start text)) ∷ slot_writes text slots
 
--- each one's bytes end behind where they start, and the last one's within the arena
+-- each one's bytes end after their start, and the last one's within the arena
 abbrev pub AreInOrder : ℕ → List Slot → Type 0
 AreInOrder room [] = ⊤
 AreInOrder room (s ∷ slots) = (s.start ≤ end_before room slots) × AreInOrder room slots

@@ -20,8 +20,8 @@ fn front_of_points<'a>(points: &PointSlice<'a>) -> Option<&'a [u8]> {
     narrowed(Some(first.key()), Some(last.key()))
 }
 
-/// The common front of most keys of a run, if it has points. The fences tell, and the last point, which may be in no cache,
-/// isn't looked at; but one fence alone tells nothing of the other keys.
+/// The common front of most keys of a run, if it has points. It is found from the fences, and the last point, which may not be in
+/// the cache, isn't read. One fence alone says nothing about the other keys.
 fn front_of_run(run: &Run) -> Option<&[u8]> {
     if run.blocks() > 1 {
         return run.fences().front();

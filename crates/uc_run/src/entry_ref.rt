@@ -1,4 +1,4 @@
-//! [`EntryRef`]: a point with borrowed texts.
+//! [`EntryRef`]: a point with a borrowed key and value.
 ghost use Rattle.std.specs.Prelude.{◌≡◌, ◌<◌, ◌^◌, ◌++◌, ◌∷◌, [], OnOk};
 ghost use Rattle.std.specs.Ordering.{nat_cmp};
 ghost use Rattle.uc_run_entry.specs.Packed as packed;
@@ -11,7 +11,7 @@ use std::marker::Model;
 use uc_run_entry::WhatRef;
 use uc_run_points::Points;
 
-/// A point with borrowed texts. A contract sees it as the `Entry`.
+/// A point with a borrowed key and value. A contract sees it as the `Entry`.
 #[derive(Drop)]
 pub(crate) struct EntryRef<'a> {
     key: &'a [u8],
@@ -63,7 +63,7 @@ impl<'a> EntryRef<'a> {
         other.seq.cmp(&self.seq)
     }
 
-    /// Pushes the point, with a copy of its texts.
+    /// Appends the point, with a copy of its key and value.
     #[inline]
     pub(crate) fn push_to(&self, points: &mut Points) -> Result<(), AllocError>
         requires { self.now.seq < 2 ^ 56 }

@@ -27,8 +27,8 @@ fn ranges_in<'a>(alloc: Global, slots: &SlotSlice<'a>) -> Result<Vec<Range<'a>>,
     Ok(ranges)
 }
 
-/// The points among the slots' writes, by key, the newest of a key first. The texts are copied in this order. An `Err`
-/// loses them.
+/// The points among the slots' writes, by key, the newest of a key first. Keys and values are copied in this order. An `Err` loses
+/// them.
 fn points_by_key(alloc: Global, slots: &SlotSlice<'_>) -> Result<Points, AllocError>
     requires own { HaveOwnSeqs (flush.points_in slots.now) }
     requires below { AllByRecursion (λ p. p.seq < 2 ^ 56)

@@ -24,13 +24,13 @@ pub struct Head<'a> {
     pub number: u64,
 }
 
-/// The next key of each of several walks in order of key, or none where a walk is at its end. A contract sees them as
-/// that, beside a front that most of them begin with.
+/// The next key of each of several cursors, in order of key, or none where a cursor is at its end. A contract sees these keys, and
+/// a front with which most of them begin.
 #[derive(Drop)]
 pub struct Heads<'a> {
     front: &'a [u8],
     keys: Vec<Option<&'a [u8]>>,
-    /// The number of each key: a text is looked at only where numbers are equal.
+    /// The number of each key, as [`Head`] has it: keys are compared only where numbers are equal.
     numbers: NumberBlocks,
 }
 
@@ -221,8 +221,8 @@ impl<'a> Heads<'a> {
         })
     }
 
-    /// The least of the keys. It costs two steps for each 16 walks, and for each walk whose number is the least one's a
-    /// comparison of texts and a look at those beside it.
+    /// The least of the keys. It costs two steps for each 16 cursors, and a comparison of keys for each cursor whose number equals
+    /// the least one's.
     pub fn least(&self) -> Option<Head<'a>>
         ensures least { IsLeast self.now.keys (option_map (λ head. head.key.now) result) }
         ensures number { IfSome result (λ head. head.number ≡ heads.number_of self.now.front head.key.now) }

@@ -1,14 +1,13 @@
 //! Memtables and runs: where writes are inserted, and the sorted tables that they become.
 //!
-//! A [`Memtable`] keeps the texts of its writes one after the other in one arena, and a small slot for each write (`slots.rt`). A
-//! contract sees it as the list of the writes that were inserted. [`Memtable::flush`] makes a [`Run`] of it. Read
-//! `specs/Flush.antt` and `memtable.rt`, then `ranks.rt`, which sorts the points.
+//! A [`Memtable`] stores the keys and values of its writes one after the other in one arena, and a small slot for each write
+//! (`slots.rt`). A contract sees it as the list of the writes that were inserted. [`Memtable::flush`] returns its contents as a
+//! [`Run`]. Read `specs/Flush.antt` and `memtable.rt`, then `ranks.rt`, which sorts the points.
 //!
 //! A [`Run`] is immutable. It keeps its points, packed, in blocks of 16 in order of key, and a Bloom filter of their keys
-//! (`filter.rt`). A contract sees it as its contents (`uc_run_entry`'s `specs/Run.antt`); only the contracts of
-//! [`Run::blocks`] and [`Run::fence`] speak of blocks. A [`Cursor`] walks over a run in order of key, a
-//! [`BackCursor`] against it, and [`Heads`] has the next keys of several cursors. Read `run.rt`, then `lookup.rt`, `cursor.rt`,
-//! `back_cursor.rt` and `heads.rt`.
+//! (`filter.rt`). A contract sees it as its contents (`uc_run_entry`'s `specs/Run.antt`); only the contracts of [`Run::blocks`] and
+//! [`Run::fence`] speak of blocks. A [`Cursor`] moves forward over a run, a [`BackCursor`] backward, and [`Heads`] has the next
+//! keys of several cursors. Read `run.rt`, then `lookup.rt`, `cursor.rt`, `back_cursor.rt` and `heads.rt`.
 //!
 //! This crate re-exports the public items of `uc_run_entry` that runs are made of.
 //!

@@ -84,8 +84,8 @@ impl Memtable {
         self.last
     }
 
-    /// Inserts a write. Its sequence is above all before it and at most [`MAX_SEQUENCE`](uc_bytes::MAX_SEQUENCE). It
-    /// costs a copy of the texts, amortized. An `Err` inserts nothing.
+    /// Inserts a write. Its sequence number is above all before it and at most [`MAX_SEQUENCE`](uc_bytes::MAX_SEQUENCE). It costs a
+    /// copy of the key and value, amortized. An `Err` inserts nothing.
     pub fn insert(&mut self, write: &Write) -> Result<(), AllocError>
         requires above { last_of 0 self.old < write.now.seq }
         requires below { write.now.seq < 2 ^ 56 }
@@ -95,7 +95,7 @@ impl Memtable {
         self.insert_ref(&WriteRef::of(write))
     }
 
-    /// Inserts a write with borrowed texts, as [`insert`](Memtable::insert) does.
+    /// Inserts a write with a borrowed key and value, as [`insert`](Memtable::insert) does.
     pub fn insert_ref(&mut self, write: &WriteRef<'_>) -> Result<(), AllocError>
         requires above { last_of 0 self.old < write.now.seq }
         requires below { write.now.seq < 2 ^ 56 }
@@ -120,9 +120,9 @@ impl Memtable {
         }
     }
 
-    /// The run of its first writes: the points in order of key, and the range deletions cut into fragments. It costs a
-    /// sort of the points, a copy of their texts, and the fragments. The sort is one of numbers, and texts are compared
-    /// only where two numbers tell the same of their keys.
+    /// The run of its first `count` writes: the points in order of key, and the range deletions cut into fragments. It costs a sort
+    /// of the points, a copy of their keys and values, and the fragments. It sorts numbers, and compares keys only where two
+    /// numbers are equal.
     pub fn run_of_first(&self, alloc: Global, count: usize) -> Result<Run, AllocError>
         requires some { 0 < count }
         requires within { count ≤ length self.now }

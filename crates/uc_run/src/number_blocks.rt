@@ -10,8 +10,8 @@ use std::marker::Model;
 /// The number of numbers in each block; the last may have fewer.
 const BLOCK_NUMBERS: usize = 16;
 
-/// Numbers, in one piece, and beside them the least of each block: a search looks only into blocks that may have its
-/// number. A contract sees it as the list of the numbers.
+/// Numbers in one vector, and the least of each block in another: a search reads only blocks that may have its number. A contract
+/// sees it as the list of the numbers.
 #[derive(Drop)]
 pub(crate) struct NumberBlocks {
     numbers: Vec<u64>,

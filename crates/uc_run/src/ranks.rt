@@ -1,8 +1,8 @@
 //! Ranks: numbers that order a memtable's points by their keys, so that a sort moves numbers.
 //!
-//! The last bits of a rank are the number of the point's slot, as many as the numbers need. The last slot has the number 0, so
-//! the newest point of a key has its lowest rank. Those before them are the first bits of the key's prefix, after the bytes
-//! that all keys share. Most ranks differ there, and slots and texts are looked at only where two don't.
+//! The last bits of a rank are the number of the point's slot, as many as the numbers need. The last slot has the number 0, so the
+//! newest point of a key has its lowest rank. Those before them are the first bits of the key's prefix, after the bytes that all
+//! keys share. Most ranks differ there, and slots and keys are compared only where two don't.
 ghost use Rattle.std.specs.Prelude.{◌≡◌, ◌≢◌, ◌<◌, ◌≤◌, ◌^◌, ◌%◌, ℕ, length, map, slice_index, ◌++◌, IfOk, OnOk};
 ghost use Rattle.std.specs.List.{AllByRecursion};
 ghost use Rattle.std.specs.List.Sorted.{IsNonDecreasing, IsPermutation, IsSortedBy};
@@ -29,7 +29,7 @@ const POINTS_AT_ONCE: usize = 64;
 #[derive(Drop)]
 pub(crate) struct Ranked<'a> {
     pub(crate) slots: SlotSlice<'a>,
-    /// The number of a rank's bits that tell the number of the slot.
+    /// The number of a rank's bits that encode the slot's number.
     pub(crate) bits: u32,
 }
 
@@ -126,7 +126,7 @@ pub(crate) fn begins_with(front: &[u8], key: &[u8]) -> usize
     common_prefix_len(front, key)
 }
 
-/// The numbers of the slots that are points, as ranks that tell nothing of the keys. An `Err` loses them.
+/// The numbers of the slots that are points, as ranks without bits of the keys. An `Err` loses them.
 pub(crate) fn numbers_of_points(
     alloc: Global,
     slots: &SlotSlice<'_>,
@@ -264,7 +264,7 @@ fn put_points<'a>(
     Ok(())
 }
 
-/// Pushes points, with copies of their texts. An `Err` leaves some of them.
+/// Appends points, with copies of their keys and values. An `Err` leaves some of them.
 fn push_points(packed: &mut Points, points: &[EntryRef<'_>]) -> Result<(), AllocError>
     requires { AllByRecursion (λ p. p.seq < 2 ^ 56) points.now }
     ensures { OnOk result (packed.new ≡ packed.old ++ points.now) }
@@ -275,8 +275,8 @@ fn push_points(packed: &mut Points, points: &[EntryRef<'_>]) -> Result<(), Alloc
     Ok(())
 }
 
-/// The points of ranks, packed, with copies of their texts. An `Err` loses them. The slots lie anywhere: those of many
-/// ranks are looked at in one loop, in which the processor waits for several at a time.
+/// The points of ranks, packed, with copies of their keys and values. An `Err` loses them. The slots are anywhere in memory: one
+/// loop reads those of many ranks, so the processor waits for several cache misses at a time.
 pub(crate) fn pack_ranked(
     alloc: Global,
     ranked: &Ranked<'_>,

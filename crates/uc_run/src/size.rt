@@ -8,7 +8,7 @@ ghost use Rattle.uc_run.specs.Size as size;
 
 use uc_bytes::{OpKind, OpRef};
 
-/// The lengths of both texts, and 8; at most 2^64 - 1.
+/// The sum of two lengths and 8; at most 2^64 - 1.
 fn sum_of(first: usize, second: usize) -> u64
     ensures { result ≡ min (first + second + 8) (2 ^ 64 - 1) }
 {
@@ -35,7 +35,7 @@ fn range_size(begin: &[u8], end: &[u8]) -> u64
     }
 }
 
-/// The size of the change of a kind to these texts.
+/// The size of the change of a kind with this key and value.
 fn parts_size(kind: OpKind, first: &[u8], second: &[u8]) -> u64
     ensures { result ≡ min (size.op_size (op_of kind first.now second.now)) (2 ^ 64 - 1) }
 {
@@ -46,7 +46,7 @@ fn parts_size(kind: OpKind, first: &[u8], second: &[u8]) -> u64
     }
 }
 
-/// The lengths of a change's texts, and 8; at most 2^64 - 1; 0 for a range without keys.
+/// The lengths of a change's key and value, and 8; at most 2^64 - 1; 0 for a range without keys.
 pub fn op_size(op: &OpRef<'_>) -> u64
     ensures { result ≡ min (size.op_size op.now) (2 ^ 64 - 1) }
 {

@@ -11,8 +11,8 @@ use uc_run_points::read_number;
 /// The number of kinds of changes.
 const KINDS: u64 = 4;
 
-/// A write whose bytes lie in an arena, up to where those of the next slot start. They are the length of the first text as a
-/// number, the first text, and the second.
+/// A write whose bytes are in an arena, up to where those of the next slot start. They are the length of the first byte string as a
+/// varint, the first byte string, and the second.
 #[derive(Drop)]
 pub(crate) struct Slot {
     /// The sequence above two bits of the kind.
@@ -69,7 +69,7 @@ impl Slot {
         self.start
     }
 
-    /// The write that the slot tells with its bytes.
+    /// The write that the slot encodes with its bytes.
     #[inline]
     pub(crate) fn read<'t>(&self, bytes: &'t [u8]) -> SlotRef<'t>
         ensures { result ≡ write_of self.now.trailer bytes.now }

@@ -1,4 +1,4 @@
-//! [`SlotRef`]: a slot's write, with borrowed texts.
+//! [`SlotRef`]: a slot's write, with a borrowed key and value.
 ghost use Rattle.std.specs.Prelude.{◌≡◌, Some, None, if◌then◌else◌};
 ghost use Rattle.uc_bytes.specs.Borrowed.{op_of};
 ghost use Rattle.uc_run.specs.Flush as flush;
@@ -9,13 +9,13 @@ use std::marker::Model;
 use uc_bytes::{OpKind, OpRef, WriteRef};
 use uc_run_entry::{Range, WhatRef};
 
-/// A slot's write, taken apart: its texts stay in the arena. A contract sees it as the `Write`.
+/// A slot's write, decoded: its key and value stay in the arena. A contract sees it as the `Write`.
 #[derive(Drop)]
 pub(crate) struct SlotRef<'a> {
     seq: u64,
     kind: OpKind,
     first: &'a [u8],
-    /// Ignored if the kind has only one text.
+    /// Ignored if the kind has only one byte string.
     second: &'a [u8],
 }
 
@@ -29,7 +29,7 @@ impl<'a> Model for SlotRef<'a> {
 }
 
 impl<'a> SlotRef<'a> {
-    /// The write of a kind with these texts.
+    /// The write of a kind with this key and value.
     #[inline]
     pub(crate) fn new(seq: u64, kind: OpKind, first: &'a [u8], second: &'a [u8]) -> SlotRef<'a>
         ensures { result ≡ record { seq = seq; op = op_of kind first.now second.now } }

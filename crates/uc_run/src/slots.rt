@@ -110,7 +110,7 @@ impl Slots {
         SlotSlice::new(&self.text, &self.slots)
     }
 
-    /// Pushes a write, with a copy of its texts. An `Err` pushes nothing.
+    /// Appends a write, with a copy of its key and value. An `Err` appends nothing.
     pub(crate) fn push(&mut self, write: &WriteRef<'_>) -> Result<(), AllocError>
         requires { write.now.seq < 2 ^ 62 }
         ensures pushed { OnOk result (self.new ≡ self.old ++ write.now ∷ []) }

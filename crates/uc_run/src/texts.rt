@@ -1,12 +1,12 @@
-//! Texts: their order, eight bytes at a time, and their fronts.
+//! Byte strings: their order, compared eight bytes at a time, and their prefixes.
 ghost use Rattle.std.specs.Prelude.{◌≡◌, take, drop};
 ghost use Rattle.uc_bytes.specs.Bytes.{bytes_cmp, same_bytes};
 
 use crate::prefixes::{PREFIX_BYTES, prefix_of};
 use std::cmp::Ordering;
 
-/// The order of two texts: byte by byte, a proper prefix first. It costs a step for each eight bytes that are equal,
-/// where the `cmp` of slices looks at each byte.
+/// Compares two byte strings: byte by byte, a proper prefix first. It costs a step for each eight bytes that are equal, where the
+/// `cmp` of slices compares each byte.
 pub fn text_order(text: &[u8], other: &[u8]) -> Ordering
     ensures { result ≡ bytes_cmp text.now other.now }
 {
@@ -24,7 +24,7 @@ pub fn text_order(text: &[u8], other: &[u8]) -> Ordering
     }
 }
 
-/// Whether two texts are equal. It costs a step for each eight bytes.
+/// Whether two byte strings are equal. It costs a step for each eight bytes.
 pub fn same_text(text: &[u8], other: &[u8]) -> bool
     ensures { result ≡ same_bytes text.now other.now }
 {

@@ -74,7 +74,7 @@ module _ (key : List ℕ) where
       let same : x.now ≡ get_or fs place x.now = here.1 x.now in
       subst (λ (f : Fragment). covering fs ≡ cond (covers f key) (f ∷ []) []) (sym same) (found_at fs place order low high x.now here.0)
 
-  -- no fragment that ends by the key comes behind one that doesn't
+  -- no fragment that ends by the key comes after one that doesn't
   ends_earlier : (f : Fragment) (fs : List Fragment) → AreInOrder (f ∷ fs) → (j : ℕ) (d : Fragment) → j < length fs → ends_by (get_or fs j d) ≡ true → ends_by f ≡ true
   ends_earlier f [] order j d l e = absurd (omega (arith, l))
   ends_earlier f (g ∷ gs) order zero d l e = le_le f.end g.end key (le_lt f.end g.begin g.end order.1.0 order.2.0) e (bytes_cmp g.end key) refl

@@ -1,4 +1,4 @@
--- What a lookup finds is what the plain list does.
+-- A lookup has the result of the plain list.
 use Rattle.std.proofs.Common.{◌≡◌, ℕ, ◌<◌, ◌≤◌, Bool, true, false, cond, leb, ltb, List, [], ◌∷◌, ◌++◌, map, fold, filter, refl, sym, ap, ◌∙◌, subst, arith, ◌==◌}
 use Rattle.std.specs.Prelude.{None, nat_lt, Contains, ◌&&◌}
 use Rattle.std.specs.List.{AllByRecursion, flat_map}

@@ -14,7 +14,7 @@ use Rattle.uc_run_entry.specs.Newest.{Descends}
 use Rattle.uc_run_entry.specs.Spans.{IsFalling}
 use Rattle.uc_run_entry.proofs.SameSets.{all_same}
 
--- each element stands before all those behind it
+-- each element is related to all those after it
 abbrev pub AllPairs : {X : Type 0} → (X → X → Type 0) → List X → Type 0
 AllPairs {X} R [] = Unit {0}
 AllPairs {X} R (x ∷ xs) = AllByRecursion (R x) xs × AllPairs R xs

@@ -18,7 +18,7 @@ module _ (key : List ℕ) where
   abbrev pub is_in : Piece → Bool
   is_in p = is_le (bytes_cmp p.0 key) && is_lt (bytes_cmp key p.1)
 
-  -- a cut is at or before the key, or behind it
+  -- a cut is at or before the key, or after it
   abbrev pub IsAtOrBefore : List ℕ → Type 0
   IsAtOrBefore c = is_le (bytes_cmp c key) ≡ true
 
@@ -34,7 +34,7 @@ module _ (key : List ℕ) where
   abbrev Sorted : List (List ℕ) → Type 0
   Sorted cuts = IsStrictlySortedBy bytes_cmp cuts
 
-  -- ---- the order of texts
+  -- ---- the order of byte strings
 
   pub lt_of : (x y : List ℕ) → is_lt (bytes_cmp x y) ≡ true → bytes_cmp x y ≡ Less
   lt_of x y e = by (bytes_cmp x y) e
@@ -74,7 +74,7 @@ module _ (key : List ℕ) where
 
   -- ---- pieces
 
-  -- the key is in no piece that begins behind it
+  -- the key is in no piece that begins after it
   not_in_behind : (p : Piece) → IsBehind p.0 → is_in p ≡ false
   not_in_behind p behind = no (is_le (bytes_cmp p.0 key)) refl
     where
@@ -115,7 +115,7 @@ module _ (key : List ℕ) where
   behind_from d [] h = tt
   behind_from d (c ∷ cs) h = ((λ _. le_of d c h.0), behind_from d cs h.1)
 
-  -- between c, at or before the key, and d, behind it
+  -- between c, at or before the key, and d, after it
   between : (c d : List ℕ) (cs : List (List ℕ)) → Sorted (c ∷ d ∷ cs) → IsAtOrBefore c → IsBehind d → Around (c ∷ d ∷ cs) (c, d)
   unfolding IsStrictlySortedBy
   between c d cs sorted at behind =

@@ -1,4 +1,4 @@
--- What a test passes of a list, where that is a part of it between two places.
+-- The elements of a list that pass a test, if they are those between two places.
 use Rattle.std.proofs.Common.{◌≡◌, ℕ, zero, suc, ◌+◌, ◌-◌, ◌<◌, ◌≤◌, Bool, true, false, cond, ltb, List, [], ◌∷◌, length, get_or, take, drop, filter, refl, sym, ap, ◌∙◌, arith}
 use Rattle.std.specs.List.{count_by, AllWithin}
 use Rattle.std.specs.List.Sorted.{IsStrictlySortedBy, IsPartitionPoint, IsPartitionedBy}
@@ -10,7 +10,7 @@ use Rattle.std.proofs.lemmas.List.{get_or-drop, get_or-take, length-take-le, len
 use Rattle.std.proofs.lemmas.List.Sums.{length-filter}
 use Rattle.std.proofs.lemmas.List.Elements.{All-from_recursion}
 
--- none before `a`, each of the next `n`, and none behind these
+-- none before `a`, each of the next `n`, and none after these
 pub record IsCut {X : Type 0} (test : X → Bool) (xs : List X) (a n : ℕ) : Type 0 where
   pub within : a + n ≤ length xs
   pub before : (k : ℕ) (d : X) → k < a → test (get_or xs k d) ≡ false
@@ -68,7 +68,7 @@ module _ {X : Type 0} (test : X → Bool) where
   partitioned cmp down (x ∷ xs) sorted (suc i) zero d le l e = absurd (omega (arith, le))
   partitioned cmp down (x ∷ xs) sorted (suc i) (suc j) d le l e = partitioned cmp down xs sorted.1 i j d (omega (arith, le)) (omega (arith, l)) e
 
--- a test that passes all that another passes has its place at or behind that of the other
+-- a test that passes all that another passes has its place at or after that of the other
 module _ {X : Type 0} (p q : X → Bool) (weaker : (x : X) → p x ≡ true → q x ≡ true) (d : X) where
   places_by : (xs : List X) (a b : ℕ) (c : Bool) → ltb b a ≡ c → a ≤ length xs → IsPartitionPoint (λ x. p x ≡ true) (λ x. p x ≡ false) xs a → IsPartitionPoint (λ x. q x ≡ true) (λ x. q x ≡ false) xs b → a ≤ b
   places_by xs a b true e le first second =
@@ -83,7 +83,7 @@ module _ {X : Type 0} (p q : X → Bool) (weaker : (x : X) → p x ≡ true → 
 pub part_at : {X : Type 0} (xs : List X) (a n k : ℕ) (d : X) → k < n → get_or (take n (drop a xs)) k d ≡ get_or xs (a + k) d
 part_at xs a n k d l = get_or-take n (drop a xs) k d l ∙ get_or-drop a xs k d
 
--- a search goes on between two places, where all before the first pass the test, and none from the second on does
+-- a search continues between two places, where all before the first pass the test, and none from the second on does
 module _ {X : Type 0} (test : X → Bool) (xs : List X) (begin end : ℕ) (order : begin ≤ end) (within : end ≤ length xs) where
   pub length_part : length (take (end - begin) (drop begin xs)) ≡ end - begin
   length_part = length-take-le (end - begin) (drop begin xs) (let l : length (drop begin xs) ≡ length xs - begin = length-drop begin xs in omega (arith, l, within))

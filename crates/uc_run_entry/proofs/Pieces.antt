@@ -11,7 +11,7 @@ use Rattle.uc_run_entry.specs.Order.{IsFalling, AreInOrder}
 use Rattle.uc_run_entry.specs.Cutting.{RangeOf, Piece, has_keys, spans, cut_points, pieces, falling, fragment_over, fragments_of}
 use Rattle.uc_run_entry.proofs.Sets.{sorted_set}
 
--- each piece has keys, and ends at or before the begin of those behind it
+-- each piece has keys, and ends at or before the begin of those after it
 abbrev ArePieces : List Piece → Type 0
 ArePieces [] = Unit {0}
 ArePieces (p ∷ ps) = (is_lt (bytes_cmp p.0 p.1) ≡ true) × AllByRecursion (λ q. is_le (bytes_cmp p.1 q.0) ≡ true) ps × ArePieces ps
@@ -19,7 +19,7 @@ ArePieces (p ∷ ps) = (is_lt (bytes_cmp p.0 p.1) ≡ true) × AllByRecursion (�
 abbrev Cuts : List (List ℕ) → Type 0
 Cuts cuts = IsStrictlySortedBy bytes_cmp cuts
 
--- the pieces behind a cut begin there or later
+-- the pieces after a cut begin there or later
 later_pieces : (end : List ℕ) (cuts : List (List ℕ)) → Cuts (end ∷ cuts) → (from : List ℕ) → is_le (bytes_cmp from end) ≡ true → AllByRecursion (λ c. is_le (bytes_cmp from c) ≡ true) cuts → AllByRecursion (λ q. is_le (bytes_cmp from q.0) ≡ true) (pieces (end ∷ cuts))
 unfolding IsStrictlySortedBy
 later_pieces end [] sorted from le all = tt

@@ -1,4 +1,4 @@
--- What the newest at or below a number says of all of falling sequences.
+-- Facts about falling sequence numbers that follow from the newest one at or below a number.
 use Rattle.std.proofs.Common.{◌≡◌, ℕ, zero, suc, ◌-◌, ◌<◌, ◌≤◌, Bool, true, false, cond, leb, eqb, IsTrue, List, [], ◌∷◌, Option, Some, None, Contains, length, get_or, filter, refl, sym, ap, ◌∙◌, arith}
 use Rattle.std.specs.Prelude.{◌↔◌, not}
 use Rattle.std.specs.List.{AllByRecursion, slice_get}

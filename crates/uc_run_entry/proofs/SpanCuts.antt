@@ -1,7 +1,7 @@
--- What a test passes of a list, where that is a part of it between two places.
+-- The elements of a list that pass a test, if they are those between two places.
 use Rattle.std.proofs.Common.{◌≡◌, ℕ, zero, suc, ◌<◌, ◌≤◌, Bool, true, false, cond, List, [], ◌∷◌, length, get_or, drop, filter, refl, ap, ◌∙◌, arith}
 
--- none of the first ones, and each of those behind them
+-- none of the first ones, and each of those after them
 pub record IsBack {X : Type 0} (test : X → Bool) (xs : List X) (n : ℕ) : Type 0 where
   pub within : n ≤ length xs
   pub before : (k : ℕ) (d : X) → k < n → test (get_or xs k d) ≡ false

@@ -1,4 +1,4 @@
--- What the nodes of the tree over fragments hold.
+-- The contents of the nodes of the tree over fragments.
 use Rattle.std.proofs.Common.{◌≡◌, ℕ, zero, suc, ◌+◌, ◌-◌, ◌*◌, ◌^◌, ◌<◌, ◌≤◌, min, Bool, true, false, cond, ltb, arith, List, [], ◌∷◌, ◌++◌, append_assoc, length, get_or, drop, map, filter, Option, refl, sym, ap, ◌∙◌, subst, length-append}
 use Rattle.std.specs.Prelude.{not}
 use Rattle.std.specs.List.{AllByRecursion, sum_by}

@@ -1,4 +1,4 @@
--- What is seen of a fragment.
+-- Fragments of range deletions, as a contract sees them.
 use Rattle.std.specs.Prelude.{ℕ, ◌+◌, Bool, ◌&&◌, List, []}
 use Rattle.std.specs.List.{slice_index_or}
 use Rattle.uc_bytes.specs.Bytes.{same_bytes}

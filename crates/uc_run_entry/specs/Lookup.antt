@@ -1,4 +1,4 @@
--- What a lookup in a run finds, in the words of its points and fragments.
+-- The result of a lookup in a run, in terms of its points and fragments.
 use Rattle.std.specs.Prelude.{ℕ, Bool, ◌&&◌, List, [], ◌∷◌, Some, None, nat_le, nat_lt, filter}
 use Rattle.std.specs.List.{flat_map}
 use Rattle.uc_bytes.specs.Bytes.{same_bytes}

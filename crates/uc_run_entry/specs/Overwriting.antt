@@ -1,4 +1,4 @@
--- What overwrites what is older.
+-- Operations that overwrite older ones.
 use Rattle.std.specs.Prelude.{Bool, true, false}
 use Rattle.uc_run_entry.specs.declared.entry.Entry.{Entry}
 use Rattle.uc_run_entry.specs.declared.entry.What.{What}

@@ -1,17 +1,17 @@
--- What a point says of its key, as a tag with a text.
+-- The operation of a point on its key, as a tag with a byte string.
 use Rattle.std.specs.Prelude.{ℕ, suc, zero, List}
 use Rattle.uc_run_entry.specs.declared.entry.What.{What}
 use Rattle.uc_run_entry.specs.declared.entry.What.TheVariants as what
 use Rattle.uc_run_entry.specs.declared.what_ref.WhatRef.{WhatRef}
 use Rattle.uc_run_entry.specs.declared.what_ref.WhatRef.TheVariants.{Put, Delete, Merge}
 
--- what a borrowed text says
+-- the operation with a borrowed byte string
 abbrev pub what_of : WhatRef → What
 what_of (Put value) = what.Put value.now
 what_of Delete = what.Delete
 what_of (Merge operand) = what.Merge operand.now
 
--- what a tag says with the text after the key (RocksDB, `dbformat.h`, `ValueType`)
+-- the operation of a tag and the byte string after the key (RocksDB, `dbformat.h`, `ValueType`)
 abbrev pub tagged : ℕ → List ℕ → What
 tagged zero text = what.Delete
 tagged (suc zero) text = what.Put text

@@ -1,4 +1,4 @@
--- What a run is.
+-- Runs, as a contract sees them.
 use Rattle.std.specs.Prelude.{◌≡◌, ◌≢◌, ℕ, ◌<◌, ◌≤◌, ◌^◌, Bool, true, ◌&&◌, List, [], Contains}
 use Rattle.std.specs.Ordering.{is_lt, is_le}
 use Rattle.std.specs.List.{AllByRecursion}

@@ -12,11 +12,10 @@ use std::alloc::{AllocError, Global};
 use std::marker::Model;
 use std::sync::Arc;
 
-/// The range deletions over the keys from its begin to below its end: each covers all of these keys (RocksDB's
-/// fragmented range tombstones: RocksDB wiki, "DeleteRange"). A contract sees both ends and the sequences of the range
-/// deletions, the newest first.
+/// The range deletions over the keys from its begin to below its end: each covers all of these keys (RocksDB's fragmented range
+/// tombstones: RocksDB wiki, "DeleteRange"). A contract sees both ends and the sequences of the range deletions, the newest first.
 ///
-/// Fragments share the cut points that they lie between: one takes 40 bytes, and its end's 8 beside the text.
+/// Fragments share the cut points that they lie between: one takes 40 bytes, and 8 for its end besides the key's bytes.
 #[derive(Drop)]
 pub struct Fragment {
     cuts: Arc<Lists<u8>>,

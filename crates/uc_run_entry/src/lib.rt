@@ -1,19 +1,20 @@
 //! The parts of a run, and its meaning.
 //!
-//! A run has points in order of key, the newest of a key first. It has fragments: pieces of the key space with the
-//! range deletions over them. And it has a range of sequences. [`is_run`] says which of these make a run. Read
-//! `specs/Run.antt` first, then `specs/PlainList.antt`: a run stands for a plain list of writes.
+//! A run has points in order of key, the newest of a key first. It has fragments: pieces of the key space with the range deletions
+//! over them. And it has a range of sequences. [`is_run`] says which of these make a run. Read `specs/Run.antt` first, then
+//! `specs/PlainList.antt`: a run stands for a plain list of writes.
 //!
-//! Range deletions may overlap. A lookup needs all those over a key at once, so [`cut_ranges`] cuts them at all their
-//! ends into [`Fragments`], each with the sequences of the ranges over it (RocksDB's fragmented range tombstones).
-//! `specs/Cutting.antt` defines them, and `fragment_laws.rt` has their laws. Read `cutting.rt` first.
+//! Range deletions may overlap. A lookup needs all those over a key at once, so [`cut_ranges`] cuts them at all their ends into
+//! [`Fragments`], each with the sequences of the ranges over it (RocksDB's fragmented range tombstones). `specs/Cutting.antt`
+//! defines them, and `fragment_laws.rt` has their laws. Read `cutting.rt` first.
 //!
-//! A range deletion is in all fragments between its ends, so n overlapping ranges give up to n^2 sequences. A [`Span`]
-//! says in which fragments a sequence is. [`Spans`] holds spans and answers as the lists would, in the time and memory of
-//! n log n. [`Seqs`] are the sequences of one fragment, which fall: one, a list or a share of such spans.
-//! `specs/Spans.antt` defines the lists; read `spans.rt` first.
+//! A range deletion is in all fragments between its ends, so n overlapping ranges give up to n^2 sequences. A [`Span`] says in
+//! which fragments a sequence is. [`Spans`] holds spans and answers as the lists would, in the time and memory of n log n. [`Seqs`]
+//! are the sequences of one fragment, which fall: one, a list or a share of such spans. `specs/Spans.antt` defines the lists; read
+//! `spans.rt` first.
 //!
-//! Lists that many fragments have stand in one vector, [`Lists`], that they share: cut points, and sequences where a fragment has few.
+//! Lists that many fragments have are in one vector, [`Lists`], that they share: cut points, and sequences where a fragment has
+//! few.
 //!
 //! An `Err(AllocError)` comes only if an allocation fails.
 //!

@@ -6,10 +6,10 @@ use crate::freeing::make_small;
 use std::alloc::{AllocError, Global};
 use std::marker::Model;
 
-/// Lists in one vector, with the places at which they begin: the texts of cut points, say, or sequences. A contract sees
-/// the lists.
+/// Lists in one vector, with the offsets at which they begin: for example the keys of cut points, or sequence numbers. A contract
+/// sees the lists.
 ///
-/// A list takes 8 bytes beside its items.
+/// A list takes 8 bytes besides its items.
 pub struct Lists<T> {
     starts: Vec<usize>,
     items: Vec<T>,

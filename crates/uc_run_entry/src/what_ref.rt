@@ -1,4 +1,4 @@
-//! [`WhatRef`]: what a point says of its key, with a borrowed text.
+//! [`WhatRef`]: a point's operation on its key, with a borrowed value or operand.
 ghost use Rattle.std.specs.Prelude.{◌≡◌, IfOk};
 ghost use Rattle.uc_oper.specs.Composition.{composed};
 ghost use Rattle.uc_run_entry.specs.Lookup.{what_effect};
@@ -21,7 +21,7 @@ pub enum WhatRef<'a> {
 }
 
 impl<'a> WhatRef<'a> {
-    /// Borrows the text of `what`.
+    /// Borrows the value or operand of `what`.
     pub fn of(what: &'a What) -> WhatRef<'a>
         ensures { packed.what_of result ≡ what.now }
     {
@@ -32,7 +32,7 @@ impl<'a> WhatRef<'a> {
         }
     }
 
-    /// A copy that owns its text.
+    /// A copy that owns its value or operand.
     pub fn to_what(self, alloc: Global) -> Result<What, AllocError>
         ensures { IfOk result (λ what. what ≡ packed.what_of self.entry) }
     {

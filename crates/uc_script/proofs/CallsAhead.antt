@@ -1,4 +1,4 @@
--- The calls of lines, judged or with one line taken from the front.
+-- The calls of lines, validated or with one line taken from the front.
 use Rattle.std.proofs.Common.{◌≡◌, ℕ, ◌+◌, Bool, false, eqb, suc, List, [], ◌∷◌, ◌++◌, length, drop, Option, Some, None, Result, Ok, Err, refl, ap, ◌∙◌, sym, arith}
 use Rattle.std.specs.List.{cons_option}
 use Rattle.std.proofs.lemmas.Bool.{cond-false, ne_eqb}
@@ -16,7 +16,7 @@ use Rattle.uc_bytes.specs.declared.op.Op.{Op}
 use Rattle.uc_script.proofs.Faults.{made, some_ops, some_ops-after, calls-said}
 use Rattle.uc_script.proofs.Whole.{regroup_option, script_of-read, script_of-at_calls}
 
--- ---- lines that were judged
+-- ---- validated lines
 
 abbrev script_is : Script → Result Script ℕ
 script_is script = Ok script
@@ -26,7 +26,7 @@ abbrev unless_faulty : List Call → Result (Unit {0}) ℕ → Result (List Call
 unless_faulty calls (Ok done) = Ok calls
 unless_faulty calls (Err number) = Err number
 
--- lines behind these changes are judged, and these are the calls in front
+-- lines after these changes are validated, and these are the calls in front
 abbrev judged_answer : List Call → List Op → ℕ → List (List ℕ) → Result (List Call) ℕ
 judged_answer calls ops n lines = unless_faulty (calls ++ calls_from ops lines) (judged_after (some_ops ops) n lines)
 
@@ -63,7 +63,7 @@ judged-fails : (n : ℕ) (lines : List (List ℕ)) (e : ScriptError) → Fails e
 judged-fails n lines errors.Memory fails = tt
 judged-fails n lines (errors.Fault line) fails = judged-calls [] [] n lines ∙ ap (unless_faulty (calls_from [] lines)) fails
 
--- a script without a fault, whose lines behind `open` are these
+-- a script without a fault, whose lines after `open` are these
 pub script_of-judged : (text rest : List ℕ) (size : ℕ) (setup : Setup) (done : Unit {0}) → setup_after [] [] 1 (lines_of text) ≡ Ok setup → setup.lines ≡ lines_of rest
     → judged_after false setup.number setup.lines ≡ Ok done → rest ≡ drop size text → script_of text ≡ Ok (made setup.ops setup.keeps (calls_in (drop size text)))
 script_of-judged text rest size setup done opened lines fine is =
@@ -71,6 +71,6 @@ script_of-judged text rest size setup done opened lines fine is =
     ∙ ap (λ (ls : List (List ℕ)). script_is (made setup.ops setup.keeps (calls_from [] ls))) lines
     ∙ ap (λ (behind : List ℕ). script_is (made setup.ops setup.keeps (calls_in behind))) is
 
--- and one with a fault in a line behind it
+-- and one with a fault in a line after it
 pub script_of-judged_at : (text : List ℕ) (setup : Setup) (e : ScriptError) → setup_after [] [] 1 (lines_of text) ≡ Ok setup → Fails e (judged_after false setup.number setup.lines) → Fails e (script_of text)
 script_of-judged_at text setup e opened fails = script_of-at_calls text setup e opened (judged-fails setup.number setup.lines e fails)

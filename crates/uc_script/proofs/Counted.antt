@@ -1,4 +1,4 @@
--- Fields behind a word, one by one.
+-- Fields after a word, one by one.
 use Rattle.std.proofs.Common.{◌≡◌, ℕ, ◌<◌, ◌≤◌, eqb, List, [], ◌∷◌, length, drop, Option, Some, None, refl, ap, ◌∙◌, arith}
 use Rattle.std.specs.Option.{option_map}
 use Rattle.std.proofs.lemmas.List.{drop_more, drop_all}
@@ -22,6 +22,6 @@ none_left : (word : Word) (number : ℕ) (rest : Option (List ℕ)) → argument
 none_left word number None = refl
 none_left word number (Some text) = some_fault word number (fields_of text) (omega (arith, length-slice_split (λ byte. eqb byte 32) text))
 
--- there are too many where no kind is left and something stands behind
+-- there are too many if no kind is left and another field follows
 pub at_end : (word : Word) (number : ℕ) (kinds : List FieldKind) (i : ℕ) (rest : Option (List ℕ)) → length kinds ≤ i → arguments_fault word number (drop i kinds) (fields_after rest) ≡ option_map (λ (text : List ℕ). TooMany word) rest
 at_end word number kinds i rest le = ap (λ (ks : List FieldKind). arguments_fault word number ks (fields_after rest)) (drop_all i kinds le) ∙ none_left word number rest

@@ -1,4 +1,4 @@
--- A text is cut at the first LF, and a line at the first space.
+-- The input is cut at the first LF, and a line at the first space.
 use Rattle.std.proofs.Common.{◌≡◌, ℕ, ◌+◌, ◌<◌, ◌≤◌, Bool, false, eqb, List, [], ◌∷◌, length, take, drop, Some, None, refl, ap, arith, inl, inr, one-add, add-one}
 use Rattle.std.specs.Prelude.{position}
 use Rattle.std.specs.List.{position_or_len, before_first, after_first, onto_first}
@@ -42,19 +42,19 @@ lines_one byte (next ∷ rest) h =
     let at = position_or_len-no is_end byte (next ∷ rest) first in
     rw first (ap (onto_first byte) (lines_one next rest (omega (arith, at))))
 
--- the first line of a text with an LF at this place
+-- the first line of input with an LF at this place
 pub lines_at : (text : List ℕ) (end : ℕ) → position is_end text ≡ Some end → lines_of text ≡ take end text ∷ lines_of (drop (end + 1) text)
 lines_at text end h =
     let found = position_some is_end text end h in
     rw (← found.1) (lines_first text found.0)
 
--- that place is in the text
+-- that place is in the input
 pub end_within : (text : List ℕ) (end : ℕ) → position is_end text ≡ Some end → end < length text
 end_within text end h =
     let found = position_some is_end text end h in
     omega (arith, found.0, found.1)
 
--- a text without an LF is one line
+-- input without an LF is one line
 pub lines_whole : (text : List ℕ) → 0 < length text → position is_end text ≡ None → lines_of text ≡ text ∷ []
 lines_whole [] some h = absurd (omega arith)
 lines_whole (byte ∷ rest) some h = lines_one byte rest (position_none is_end (byte ∷ rest) h)

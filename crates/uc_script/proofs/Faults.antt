@@ -108,7 +108,7 @@ fault_from-next unfed said line lines is =
     ∙ ap (λ (b : Bool). option_or (option_map suc (position refuses_call lines)) (cond b (Some (suc (length lines))) None)) (sym left)
     ∙ counted (position refuses_call lines) (left_by says_change says_feed (unfed_after unfed said) lines) (length lines)
 
--- ---- changes that are gathered
+-- ---- changes that are collected
 
 -- whether there are any
 abbrev pub some_ops : List Op → Bool

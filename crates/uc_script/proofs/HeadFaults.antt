@@ -73,7 +73,7 @@ refused_no_log line bad = refused_step (says_log line) line refl bad
 abbrev pub refuses : List ℕ → Bool
 refuses line = is_none (head_line line)
 
--- the first fault, by the first of the lines before `log`, whether the text is too short, and how many lines those are
+-- the first fault, by the first of the lines before `log`, whether the input is too short, and the number of those lines
 abbrev pub fault_of : Option ℕ → Bool → ℕ → Option ℕ
 fault_of refused short before = option_or refused (cond short (Some before) None)
 
@@ -87,7 +87,7 @@ fault_none (Some k) t n e = absurd (some_none k e)
 fault_none None true n e = absurd (some_none n e)
 fault_none None false n e = refl
 
--- a text is as short by what is behind its first line
+-- the bytes after the first line are fewer by its length and its LF
 short-next : (left : ℕ) (line : List ℕ) (lines : List (List ℕ)) → ltb left (length (bytes_of (line ∷ lines)) + 4) ≡ ltb (left - (length line + 1)) (length (bytes_of lines) + 4)
 short-next left line lines =
     let size = size-next line lines in

@@ -1,4 +1,4 @@
--- A text falls under one of the cases, and what it comes to is what its head says.
+-- The input is one of the cases, and its outcome is what its head says.
 use Rattle.std.proofs.Common.{◌≡◌, ℕ, suc, ◌+◌, ◌-◌, ◌≤◌, ◌<◌, Bool, false, cond, List, [], ◌∷◌, ◌++◌, length, codes, Option, Some, None, Result, Ok, Err, is_none, refl, sym, ap, subst, ◌∙◌, append_assoc, arith, inl, inr}
 use Rattle.std.specs.Prelude.{IsSome, filter_map}
 use Rattle.std.specs.List.{AllByRecursion, cons_option}
@@ -15,7 +15,7 @@ use Rattle.uc_script.proofs.First.{before_first-yes, before_first-no}
 use Rattle.uc_script.proofs.LineEnds.{lines_of-first, lines_of-alone, lines_of-bytes, size-next, size_of_lines, cut}
 use Rattle.uc_script.proofs.HeadFaults.{log_is, says_log-log, refused_no_log, fault_at-next, fault_at-here, fault_at-log, fault_at-end}
 
--- what lines say, where the text has so many bytes
+-- the head of lines, in input of `size` bytes
 abbrev read : ℕ → List (List ℕ) → Result Head ℕ
 read size lines = unless_fault (fault_at size lines) (said_in lines)
 
@@ -25,7 +25,7 @@ made keeps queries size = record { keeps = keeps; queries = queries; size = size
 made-same : (k l : List ℕ) (p q : List Query) (s t : ℕ) → k ≡ l → p ≡ q → s ≡ t → made k p s ≡ made l q t
 made-same k l p q s t ek eq es = ap (λ (x : List ℕ). made x p s) ek ∙ ap (λ (x : List Query). made l x s) eq ∙ ap (made l q) es
 
--- what lines say behind one more
+-- the head of lines after one more
 abbrev behind : List ℕ → Result Head ℕ → Result Head ℕ
 behind line (Ok head) = Ok (made (cons_option (keep_in line) head.keeps) (cons_option (query_in line) head.queries) (length line + 1 + head.size))
 behind line (Err n) = Err (n + 1)
@@ -84,7 +84,7 @@ pub are_lines : (lines : List (List ℕ)) → AreHead lines → AllByRecursion I
 are_lines [] good = tt
 are_lines (line ∷ lines) good = (good.0.0, are_lines lines good.1)
 
--- whatever a text comes to is what its head says
+-- every outcome of the input is that of its head
 alone : {text : List ℕ} {outcome : Result Head ℕ} → ComesTo text outcome → outcome ≡ read (length text) (lines_of text)
 alone (asks before log good) =
     let text = bytes_of before ++ (codes "log" ++ 10 ∷ log) in
@@ -99,7 +99,7 @@ alone (no_end before good) =
     let lines : lines_of text ≡ before ++ codes "log" ∷ [] = lines_of-bytes before (codes "log") (are_lines before good) in
     sym (ap (read (length text)) lines ∙ read-no_end before (length text) [] good (omega (arith, length-append (bytes_of before) (codes "log"))))
 
--- ---- each text falls under a case
+-- ---- every input is one of the cases
 
 abbrev Falls : List ℕ → Type 0
 Falls text = (outcome : Result Head ℕ) × ComesTo text outcome
@@ -129,7 +129,7 @@ falls_first line text is behind =
       | inr other ↦ falls_front (head_line line) line text is other refl behind
     ]
 
--- what is left behind the last LF
+-- the bytes that are left after the last LF
 falls_left_front : (said : Option HeadLine) (byte : ℕ) (line : List ℕ) → IsLine (byte ∷ line) → says_log (byte ∷ line) ≡ false → head_line (byte ∷ line) ≡ said → Falls (byte ∷ line)
 falls_left_front None byte line is other bad = (_, no_line (byte ∷ line) [] (byte ∷ line) [] tt bad (lines_of-alone byte line is))
 falls_left_front (Some said) byte line is other good = (_, no_log (byte ∷ line) ((byte ∷ line) ∷ []) ((is, rw good refl, other), tt) (lines_of-alone byte line is))

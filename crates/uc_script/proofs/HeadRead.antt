@@ -1,4 +1,4 @@
--- What the reader finds in front of a log is what its head says, with the queries that stand in its bytes.
+-- The reader finds the head in front of a log, with the queries in its bytes.
 use Rattle.std.proofs.Common.{◌≡◌, ℕ, ◌+◌, ◌-◌, ◌≤◌, ltb, List, [], ◌∷◌, ◌++◌, length, take, codes, Option, Some, None, Result, Ok, Err, refl, sym, ap, subst, ◌∙◌, arith}
 use Rattle.std.specs.Prelude.{position}
 use Rattle.std.specs.List.{filter_map}
@@ -60,7 +60,7 @@ queries_stand text head e = of_outcome head (head_of-comes text) e
 same_head : (keeps : List ℕ) (p q : List Query) (s t : ℕ) → p ≡ q → s ≡ t → ◌≡◌ {A = Head} (record { keeps = keeps; queries = p; size = s }) (record { keeps = keeps; queries = q; size = t })
 same_head keeps p q s t eq es = ap (λ (x : List Query). record { keeps = keeps; queries = x; size = s }) eq ∙ ap (λ (x : ℕ). record { keeps = keeps; queries = q; size = x }) es
 
--- a text without a fault
+-- input without a fault
 seen_fine : (text : List ℕ) → fault_at (length text) (lines_of text) ≡ None → said_in (lines_of text) ≡ seen text (found_after [] (length text) (length text) (lines_of text))
 unfolding head_of
 seen_fine text fine =

@@ -1,4 +1,4 @@
--- What the reader makes of a head's lines one after the other is what the head says, but for its queries.
+-- The reader's result for a head's lines, one after the other, is the head, except for its queries.
 use Rattle.std.proofs.Common.{◌≡◌, ℕ, ◌+◌, ◌-◌, ◌≤◌, Bool, false, cond, List, [], ◌∷◌, ◌++◌, length, codes, Option, Some, None, Result, Ok, Err, refl, sym, ap, subst, ◌∙◌, arith, inl, inr}
 use Rattle.std.specs.List.{filter_map}
 use Rattle.std.proofs.lemmas.Bool.{cases_Bool, cases_lt, lt-ltb, le-ltb}
@@ -20,7 +20,7 @@ found keeps size = record { keeps = keeps; size = size }
 found-same : (k l : List ℕ) (s t : ℕ) → k ≡ l → s ≡ t → found k s ≡ found l t
 found-same k l s t ek es = ap (λ (x : List ℕ). found x s) ek ∙ ap (found l) es
 
--- what is found in lines behind these keeps, where so many bytes of all are left
+-- the result for lines after these keeps, where `left` bytes of all are left
 abbrev pub found_after : List ℕ → ℕ → ℕ → List (List ℕ) → Found
 found_after keeps all left lines = found (keeps ++ filter_map keep_in (lines_before lines)) (all - (left - (length (bytes_of (lines_before lines)) + 4)))
 

@@ -17,12 +17,12 @@ use Rattle.uc_script.proofs.First.{position-yes, position-no, before_first-yes, 
 abbrev read : List (List ℕ) → Result Script ℕ
 read lines = unless_fault (fault_at lines) (asked_by lines)
 
--- what lines ask behind one more line before `open`
+-- the calls of lines after one more line before `open`
 abbrev behind : List ℕ → Result Script ℕ → Result Script ℕ
 behind line (Ok script) = Ok (made (cons_option (change_in line) script.ops) (cons_option (keep_in line) script.keeps) script.calls)
 behind line (Err n) = Err (n + 1)
 
--- what refuses no line, and what names a line
+-- no line is rejected if a line is named
 not_refused : {A : Type 0} (o : Option A) → IsSome o → is_none o ≡ false
 not_refused (Some x) h = refl
 not_refused None h = absurd cc

@@ -1,4 +1,4 @@
--- What is left at the end of a list, item by item.
+-- Items that are left at the end of a list, item by item.
 use Rattle.std.proofs.Common.{◌≡◌, Bool, true, false, not, ◌&&◌, ◌||◌, List, [], ◌∷◌, refl, ap, ◌∙◌}
 use Rattle.std.specs.List.{list_any}
 use Rattle.uc_script.specs.Leaving.{leaves}

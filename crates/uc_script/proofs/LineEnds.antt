@@ -1,4 +1,4 @@
--- Texts by the lines whose LF they have, and what is left behind the last LF.
+-- Input as lines that have their LF, and the bytes that are left after the last LF.
 use Rattle.std.proofs.Common.{◌≡◌, ◌≢◌, ℕ, suc, ◌+◌, ◌≤◌, Bool, true, false, cond, eqb, List, [], ◌∷◌, ◌++◌, length, refl, ap, ◌∙◌, append_assoc, arith, inl, inr}
 use Rattle.std.specs.List.{AllByRecursion, onto_first}
 use Rattle.std.proofs.lemmas.Bool.{cases_eq, ne_eqb}
@@ -7,7 +7,7 @@ use Rattle.uc_script.specs.Lines.{lines_of}
 use Rattle.uc_script.specs.Head.{bytes_of}
 use Rattle.uc_script.specs.HeadCases.{IsLine}
 
--- a line and its LF in front of a text
+-- a line and its LF in front of other bytes
 pub lines_of-first : (line text : List ℕ) → IsLine line → lines_of (line ++ 10 ∷ text) ≡ line ∷ lines_of text
 lines_of-first [] text is = refl
 lines_of-first (byte ∷ line) text is = rw (ne_eqb byte 10 is.0) (ap (onto_first byte) (lines_of-first line text is.1))
@@ -17,7 +17,7 @@ pub lines_of-alone : (byte : ℕ) (line : List ℕ) → IsLine (byte ∷ line) �
 lines_of-alone byte [] is = rw (ne_eqb byte 10 is.0) refl
 lines_of-alone byte (next ∷ line) is = rw (ne_eqb byte 10 is.0) (ap (onto_first byte) (lines_of-alone next line is.1))
 
--- lines with their LF in front of a text
+-- lines with their LF in front of other bytes
 pub lines_of-bytes : (lines : List (List ℕ)) (text : List ℕ) → AllByRecursion IsLine lines → lines_of (bytes_of lines ++ text) ≡ lines ++ lines_of text
 lines_of-bytes [] text are = refl
 lines_of-bytes (line ∷ lines) text are =
@@ -27,7 +27,7 @@ lines_of-bytes (line ∷ lines) text are =
 pub size-next : (line : List ℕ) (lines : List (List ℕ)) → length (bytes_of (line ∷ lines)) ≡ length line + 1 + length (bytes_of lines)
 size-next line lines = omega (arith, length-append line (10 ∷ bytes_of lines))
 
--- no text is longer than its lines with their LF
+-- the input is no longer than its lines with their LF
 onto_size : (byte n : ℕ) (lines : List (List ℕ)) → n ≤ length (bytes_of lines) → suc n ≤ length (bytes_of (onto_first byte lines))
 onto_size byte n [] le = omega arith
 onto_size byte n (line ∷ lines) le = omega (arith, size-next line lines, size-next (byte ∷ line) lines)
@@ -40,7 +40,7 @@ pub size_of_lines : (text : List ℕ) → length text ≤ length (bytes_of (line
 size_of_lines [] = omega arith
 size_of_lines (byte ∷ rest) = size_step (eqb byte 10) byte (length rest) (lines_of rest) (size_of_lines rest)
 
--- a text's lines that have their LF, and what is left behind the last LF
+-- the lines of the input that have their LF, and the bytes that are left after the last LF
 pub record Cut (text : List ℕ) : Type 0 where
   pub whole : List (List ℕ)
   pub left : List ℕ

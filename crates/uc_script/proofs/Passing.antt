@@ -6,7 +6,7 @@ use Rattle.std.proofs.lemmas.List.{drop_more, drop_all, take_all, length-drop}
 use Rattle.std.proofs.lemmas.List.Folds.{list_any_more}
 use Rattle.uc_script.specs.Lines.{lines_of}
 
--- an element stands in a list at this place, and these stand behind it
+-- an element is in a list at this place, and these come after it
 pub record StandsAt {X : Type 0} (xs : List X) (i : ℕ) (x : X) (ys : List X) : Type 0 where
   pub within : i < length xs
   pub here : get_or xs i x ≡ x
@@ -22,7 +22,7 @@ stands_at xs i x ys left =
 pub any_next : {X : Type 0} (p : X → Bool) (xs : List X) (i : ℕ) (x : X) (ys : List X) → StandsAt xs i x ys → list_any p (take (i + 1) xs) ≡ (list_any p (take i xs) || p x)
 any_next p xs i x ys at = list_any_more p xs i x at.within ∙ ap (λ y. list_any p (take i xs) || p y) at.here
 
--- behind a place where nothing is left there is nothing either
+-- after a place where nothing is left there is nothing either
 pub record IsOver {X : Type 0} (xs : List X) (i n : ℕ) : Type 0 where
   pub left : drop n xs ≡ []
   pub same : take n xs ≡ take i xs
@@ -32,7 +32,7 @@ is_over xs i n none le =
     let short : length xs ≤ i = omega (arith, length-drop i xs, ap length none) in
     record { left = drop_all n xs (omega arith); same = take_all n xs (omega arith) ∙ sym (take_all i xs short) }
 
--- a text has lines where it has bytes
+-- input with bytes has lines
 some_line : (byte : ℕ) (lines : List (List ℕ)) → eqb (length (onto_first byte lines)) 0 ≡ false
 some_line byte [] = refl
 some_line byte (line ∷ lines) = ne_eqb (suc (length lines)) 0 (λ e. omega arith)
@@ -45,7 +45,7 @@ pub same_emptiness : (text : List ℕ) → eqb (length (lines_of text)) 0 ≡ eq
 same_emptiness [] = refl
 same_emptiness (byte ∷ rest) = line_or_more (eqb byte 10) byte (lines_of rest) ∙ sym (ne_eqb (suc (length rest)) 0 (λ e. omega arith))
 
--- a text without bytes has no lines
+-- input without bytes has no lines
 pub no_lines : (text : List ℕ) → length text ≡ 0 → lines_of text ≡ []
 no_lines [] none = refl
 no_lines (byte ∷ rest) none = absurd (omega arith)

@@ -1,4 +1,4 @@
--- What is printed is read again.
+-- Reading returns what was printed.
 use Rattle.std.proofs.Common.{◌≡◌, ℕ, ◌+◌, ◌/◌, ◌%◌, ◌<◌, ◌≤◌, ◌^◌, true, false, ◌&&◌, eqb, ltb, List, [], ◌∷◌, ◌++◌, length, codes, get_or, Some, None, Ok, refl, sym, ap, ◌∙◌, arith, inl, inr, length-append}
 use Rattle.std.specs.Prelude.{All}
 use Rattle.std.specs.Char.{is_ascii_digit}
@@ -22,7 +22,7 @@ is_bytes bytes h i =
       | inr le ↦ rw (get_or_past bytes i 0 le) (omega arith)
     ]
 
--- a text of two bytes or more is no dot
+-- two bytes or more are no dot
 text_of-long : (a b : ℕ) (rest bytes : List ℕ) → decode_of (a ∷ b ∷ rest) ≡ Ok bytes → text_of (a ∷ b ∷ rest) ≡ Some bytes
 unfolding text_of
 text_of-long a b rest bytes h = rw (and_right (eqb a 46) false refl, h) refl

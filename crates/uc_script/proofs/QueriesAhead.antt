@@ -9,7 +9,7 @@ use Rattle.uc_script.proofs.Whole.{regroup}
 queries_next : (text line rest : List ℕ) (o : Option Query) → lines_of text ≡ line ∷ lines_of rest → query_in line ≡ o → queries_in text ≡ cons_option o (queries_in rest)
 queries_next text line rest o cut is = ap (filter_map query_in) cut ∙ ap (λ (q : Option Query). cons_option q (queries_in rest)) is
 
--- a line that names a query, which goes behind those in front
+-- a line that names a query, which comes after those in front
 pub queries-some : (front : List Query) (text line rest : List ℕ) (query : Query) → lines_of text ≡ line ∷ lines_of rest → Some query ≡ query_in line
     → (front ++ query ∷ []) ++ queries_in rest ≡ front ++ queries_in text
 queries-some front text line rest query cut is =

@@ -1,10 +1,10 @@
--- What is left of a text stands behind so many bytes as it is shorter.
+-- A suffix starts at the difference of the lengths.
 use Rattle.std.proofs.Common.{◌≡◌, ℕ, ◌+◌, ◌-◌, List, length, drop, sym, ap, ◌∙◌, arith, inl, inr, length-drop}
 use Rattle.std.proofs.lemmas.Bool.{cases_lt}
 use Rattle.std.proofs.lemmas.List.{drop-drop, nil_from_length}
 use Rattle.uc_script.specs.Reading.{IsRest}
 
--- what stands behind any place
+-- the suffix from any place on
 rest_at : (place : ℕ) (text : List ℕ) → drop place text ≡ drop (length text - length (drop place text)) text
 rest_at place text =
     let left = length text - length (drop place text) in
@@ -17,12 +17,12 @@ rest_at place text =
           ap (λ (n : ℕ). drop n text) same
     ]
 
--- all of a text
+-- all of the input
 pub rest_of_all : (text : List ℕ) → IsRest text text
 unfolding IsRest
 rest_of_all text = rest_at 0 text
 
--- what stands behind a place of a rest
+-- the suffix from a place of a suffix on
 pub rest_of_rest : (text rest after : List ℕ) (n : ℕ) → IsRest text rest → after ≡ drop n rest → IsRest text after
 unfolding IsRest
 rest_of_rest text rest after n is next =

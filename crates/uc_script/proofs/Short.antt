@@ -1,4 +1,4 @@
--- The texts and the changes of a script are no longer, and no more, than its bytes.
+-- A script has at most as many changes as bytes, and their keys and values are no longer than it.
 use Rattle.std.proofs.Common.{◌≡◌, ℕ, suc, ◌+◌, ◌%◌, ◌≤◌, Bool, true, false, cond, eqb, List, [], ◌∷◌, ◌++◌, length, Option, Some, None, Result, Ok, Err, refl, ap, sym, subst, arith, codes}
 use Rattle.std.specs.Prelude.{filter_map}
 use Rattle.std.specs.List.{AllByRecursion, cons_option, flat_map, onto_first}
@@ -30,7 +30,7 @@ use Rattle.uc_script.specs.declared.script.Script.{Script}
 use Rattle.uc_script.proofs.Faults.{made, calls-said, calls-faulty}
 use Rattle.uc_script.proofs.Names.{call_good}
 
--- ---- pieces of a text
+-- ---- pieces of the input
 
 abbrev AreShort : ℕ → List (List ℕ) → Type 0
 AreShort n pieces = AllByRecursion (λ piece. length piece ≤ n) pieces
@@ -98,7 +98,7 @@ text_short (digit ∷ rest) b e = text_step (says (digit ∷ rest) (codes ".")) 
 
 -- ---- what a line says
 
--- the texts of a change are short, if there is one
+-- the key and value of a change are short, if there is one
 abbrev ChangeIsShort : ℕ → Option Op → Type 0
 ChangeIsShort n None = Unit {0}
 ChangeIsShort n (Some op) = IsShort n op
@@ -109,7 +109,7 @@ TextIsShort n text = (b : List ℕ) → text ≡ Some b → length b ≤ n
 field_short : (field : List ℕ) (n : ℕ) → length field ≤ n → TextIsShort n (text_of field)
 field_short field n h b e = omega (arith, text_short field b e)
 
--- a key behind a word
+-- a key after a word
 delete_step : (t : Bool) (key : Option (List ℕ)) (n : ℕ) → TextIsShort n key → ChangeIsShort n (cond t (key >>= λ k. Some (Delete k)) None)
 delete_step false key n h = tt
 delete_step true None n h = tt
@@ -119,7 +119,7 @@ delete_short : (word key : List ℕ) (n : ℕ) → length key ≤ n → ChangeIs
 unfolding change_with_one
 delete_short word key n h = delete_step (says word (codes "delete")) (text_of key) n (field_short key n h)
 
--- two texts behind a word
+-- two byte strings after a word
 two_step : (t u v : Bool) (a b : List ℕ) (n : ℕ) → length a ≤ n → length b ≤ n
     → ChangeIsShort n (cond t (Some (Put a b)) (cond u (Some (Merge a b)) (cond v (Some (DeleteRange a b)) None)))
 two_step true u v a b n p q = (p, q)
@@ -267,7 +267,7 @@ fed_step : (said : Option CallLine) (ops : List Op) (line : List ℕ) (lines : L
 fed_step None ops line lines n is le short ih = let fine = ih ops short in rw (calls-faulty ops line lines is) (omega (arith, fine.0), fine.1)
 fed_step (Some said) ops line lines n is le short ih = rw (calls-said ops line lines said is) (said_fine said ops line lines n is le short ih)
 
--- what lines feed behind these changes
+-- the writes that lines feed after these changes
 fed_fine : (ops : List Op) (lines : List (List ℕ)) (n : ℕ) → AreShort n lines → AllByRecursion (IsShort n) ops → IsFine (length ops + length lines) n (fed_by (calls_from ops lines))
 fed_fine ops [] n h short = (omega arith, tt)
 fed_fine ops (line ∷ lines) n h short = fed_step (call_line line) ops line lines n refl h.0 short (λ others all. fed_fine others lines n h.1 all)
@@ -313,7 +313,7 @@ of_outcome lines outcome script n (no_open before p) short few e = absurd cc
 of_outcome lines outcome script n (no_call before opening after line rest p q r s) short few e = absurd cc
 of_outcome lines outcome script n (no_feed before opening after p q r unfed) short few e = absurd cc
 
--- what a script names is no longer than its text
+-- the contents of a script are no longer than its bytes
 pub no_longer : ((text : List ℕ) → ComesTo (lines_of text) (script_of text)) → (text : List ℕ) (script : Script) → script_of text ≡ Ok script
     → AreNoLonger (length text) script.ops × AreNoLonger (length text) (all_ops script)
 no_longer comes text script e = of_outcome (lines_of text) (script_of text) script (length text) (comes text) (lines_short text) (lines_few text) e

@@ -1,4 +1,4 @@
--- What the reader makes of the lines one after the other is what the script asks.
+-- The reader's result for the lines, one after the other, is the script.
 use Rattle.std.proofs.Common.{◌≡◌, ℕ, suc, ◌+◌, Bool, true, false, eqb, List, [], ◌∷◌, ◌++◌, length, Option, Some, None, Result, Ok, Err, refl, sym, ap, ◌∙◌, append_assoc, arith, add-zero}
 use Rattle.std.specs.List.{cons_option, filter_map}
 use Rattle.std.specs.Option.{option_map}
@@ -18,7 +18,7 @@ use Rattle.uc_script.specs.declared.error.ScriptError.TheVariants as errors
 use Rattle.uc_script.proofs.Faults.{refuses_setup, fault_from, fault_from-here, fault_from-next, some_ops, some_ops-after, calls-said, made, made-same, fault_at-next, fault_at-here, fault_at-open}
 use Rattle.uc_script.proofs.First.{before_first-yes, before_first-no, after_first-yes, after_first-no}
 
--- an answer to lines from the one of number n on, the first fault of which stands behind k of them
+-- an answer to lines from the one of number n on, where k lines come before the first fault
 abbrev pub answer : {A : Type 0} → Option ℕ → ℕ → A → Result A ℕ
 answer (Some k) n x = Err (n + k)
 answer None n x = Ok x

@@ -6,7 +6,7 @@ use Rattle.uc_script.specs.declared.call.Call.{Call}
 use Rattle.uc_script.specs.declared.script.Preamble.{Preamble}
 use Rattle.uc_script.specs.declared.script.Script.{Script}
 
--- What the lines of a text ask, in order, if they follow `open`.
+-- The calls of the lines, in order, if they follow `open`.
 abbrev pub calls_in : List ℕ → List Call
 calls_in text = calls_from [] (lines_of text)
 

@@ -12,9 +12,8 @@ AreSetup lines = AllByRecursion (λ line. IsSome (setup_line line) × IsFalse (s
 abbrev pub AreCalls : List (List ℕ) → Type 0
 AreCalls lines = AllByRecursion (λ line. IsSome (call_line line)) lines
 
--- A script is setup lines, an `open`, and lines of which each change has a `feed` behind it, and asks what they name in
--- order. Otherwise the fault is the first line that doesn't fit, or the one past the last if no `open` comes, or no `feed`
--- behind a change.
+-- A script is setup lines, an `open`, and lines in which a `feed` follows each change. Its calls are those of its lines, in order.
+-- Otherwise the fault is the first line that isn't valid, or the one past the last if no `open` comes, or no `feed` after a change.
 pub data ComesTo : List (List ℕ) → Result Script ℕ → Type 0 where
   asks : (before : List (List ℕ)) (opening : List ℕ) (after : List (List ℕ)) → AreSetup before → IsTrue (says_open opening) → AreCalls after → IsFalse (lack_a_feed after)
       → ComesTo (before ++ opening ∷ after) (Ok (record { ops = filter_map change_in before; keeps = filter_map keep_in before; calls = calls_from [] after }))

@@ -1,4 +1,4 @@
--- What a line that writes says by its fields: the same before `open` and after it.
+-- The change that a line's fields name: the same before `open` and after it.
 use Rattle.std.specs.Prelude.{ℕ, List, codes, Option, Some, None, if◌then◌else◌}
 use Rattle.uc_script.specs.Lines.{says}
 use Rattle.uc_script.specs.Texts.{◌>>=◌, text_of}

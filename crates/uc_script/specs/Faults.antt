@@ -1,4 +1,4 @@
--- What is wrong with a line.
+-- The fault of a line.
 use Rattle.std.specs.Prelude.{ℕ, ◌+◌, List, [], ◌∷◌, Option, Some, None, if◌then◌else◌}
 use Rattle.uc_script.specs.Lines.{fields_of, is_skipped}
 use Rattle.uc_script.specs.FieldKinds.{reads}
@@ -9,7 +9,7 @@ use Rattle.uc_script.specs.declared.field_kind.FieldKind.{FieldKind}
 use Rattle.uc_script.specs.declared.part.Part.{Part}
 use Rattle.uc_script.specs.declared.word.Word.{Word}
 
--- What is wrong with fields, from the one of this number on, if they must be of these kinds.
+-- The fault of fields, from the one of this number on, if they must be of these kinds.
 abbrev pub arguments_fault : Word → ℕ → List FieldKind → List (List ℕ) → Option LineFault
 arguments_fault word number [] [] = None
 arguments_fault word number [] (field ∷ fields) = Some (TooMany word)
@@ -17,8 +17,7 @@ arguments_fault word number (kind ∷ kinds) [] = Some (TooFew word)
 arguments_fault word number (kind ∷ kinds) (field ∷ fields) =
     if reads kind field then arguments_fault word (number + 1) kinds fields else Some (BadField word number kind)
 
--- What is wrong with a line that begins with this field, which is this word of the part or none, and with the fields
--- after it.
+-- The fault of a line that begins with this field, which is this word of the part or none, and continues with these fields.
 abbrev pub word_fault : Part → List ℕ → Option Word → List (List ℕ) → Option LineFault
 word_fault part field (Some word) fields = arguments_fault word 2 (kinds word) fields
 word_fault part field None fields = if is_word field then Some (Misplaced part) else Some (UnknownWord part)
@@ -27,7 +26,7 @@ abbrev pub fields_fault : Part → List (List ℕ) → Option LineFault
 fields_fault part [] = None
 fields_fault part (field ∷ fields) = word_fault part field (named part field) fields
 
--- What is wrong with a line of this part, if anything is.
+-- The fault of a line of this part, if it has any.
 unfoldable pub line_fault : Part → List ℕ → Option LineFault
 line_fault part line = if is_skipped line then None else fields_fault part (fields_of line)
 

@@ -1,4 +1,4 @@
--- What a field after a line's word may be.
+-- Kinds of the fields after a line's first word.
 use Rattle.std.specs.Prelude.{ℕ, ◌-◌, List, ◌++◌, codes, Bool, is_some}
 use Rattle.std.specs.Fmt.{decimal}
 use Rattle.uc_script.specs.Texts.{number_of, name_of, text_of, seq_of, high_of}
@@ -14,7 +14,7 @@ reads Number field = is_some (number_of field)
 reads Name field = is_some (name_of field)
 reads Seq field = is_some (seq_of field)
 
--- What a field of the kind is, as it is printed.
+-- The description of a kind, as it is printed.
 abbrev pub kind_text : FieldKind → List ℕ
 kind_text Text = codes "hexadecimal, two digits for each byte, or . for no bytes"
 kind_text High = codes "hexadecimal, two digits for each byte, or . for no bytes, or - for no end"

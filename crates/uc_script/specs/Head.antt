@@ -15,14 +15,14 @@ use Rattle.uc_script.specs.declared.query.Query.{Query}
 unfoldable pub says_log : List ℕ → Bool
 says_log line = says line (codes "log")
 
--- What another line of a head says by its fields: `keep S`, `get K S` and `scan LOW HIGH LIMIT S`.
+-- The meaning of another line of a head, by its fields: `keep S`, `get K S` and `scan LOW HIGH LIMIT S`.
 unfoldable pub said_by : List (List ℕ) → Option HeadLine
 said_by (word ∷ argument ∷ []) = option_map saying.Keep (keep_of word argument)
 said_by (word ∷ key ∷ at ∷ []) = option_map saying.Ask (get_of word key at)
 said_by (word ∷ low ∷ high ∷ limit ∷ at ∷ []) = option_map saying.Ask (scan_of word low high limit at)
 said_by _ = None
 
--- What a line of a head says, or None if it is faulty.
+-- The meaning of a line of a head, or None if it is faulty.
 unfoldable pub head_line : List ℕ → Option HeadLine
 head_line line =
     if is_skipped line then Some saying.Skipped
@@ -44,7 +44,7 @@ keep_in line = kept (head_line line)
 unfoldable pub query_in : List ℕ → Option Query
 query_in line = asked (head_line line)
 
--- What the lines of a text ask, in order.
+-- The queries of the lines, in order.
 abbrev pub queries_in : List ℕ → List Query
 queries_in text = filter_map query_in (lines_of text)
 
@@ -59,14 +59,14 @@ abbrev pub bytes_of : List (List ℕ) → List ℕ
 bytes_of [] = []
 bytes_of (line ∷ lines) = line ++ 10 ∷ bytes_of lines
 
--- What a head says: the numbers of its `keep` lines and its queries, in order, and how many bytes it has, its `log`
--- line with its LF included.
+-- The contents of a head: the numbers of its `keep` lines and its queries, in order, and its size in bytes, its `log` line with its
+-- LF included.
 pub record Head : Type 0 where
   pub keeps : List ℕ
   pub queries : List Query
   pub size : ℕ
 
--- What lines without a fault say.
+-- The head of lines without a fault.
 abbrev pub said_in : List (List ℕ) → Head
 said_in lines = record {
   keeps = filter_map keep_in (lines_before lines);
@@ -74,14 +74,14 @@ said_in lines = record {
   size = length (bytes_of (lines_before lines)) + 4;
 }
 
--- How many lines come before the first faulty line, if there is one, of a text with this number of bytes and these
--- lines. Faulty is the first line that may not come before a `log` line. If there is none, but the text ends before the
--- LF of a `log` line, it is the line after those: a `log` without its LF, or the missing line.
+-- Number of lines before the first faulty line, if there is one, in input with this number of bytes and these lines. The first line
+-- that may not come before a `log` line is faulty. If there is none, but the input ends before the LF of a `log` line, it is the
+-- line after those: a `log` without its LF, or the missing line.
 abbrev pub fault_at : ℕ → List (List ℕ) → Option ℕ
 fault_at size lines =
     option_or (position (λ line. is_none (head_line line)) (lines_before lines))
     (if nat_lt size (length (bytes_of (lines_before lines)) + 4) then Some (length (lines_before lines)) else None)
 
--- What the head of a text says, or the number of its first faulty line, from 1.
+-- The head of the input, or the number of its first faulty line, from 1.
 unfoldable pub head_of : List ℕ → Result Head ℕ
 head_of text = unless_fault (fault_at (length text) (lines_of text)) (said_in (lines_of text))

@@ -1,4 +1,4 @@
--- What may come before a log, by cases, and the outcome of each case.
+-- Lines before a log, by cases, and the outcome of each case.
 use Rattle.std.specs.Prelude.{◌≡◌, ◌≢◌, ℕ, ◌+◌, List, ◌∷◌, ◌++◌, length, codes, None, IsSome, IsFalse, Result, Ok, Err, filter_map}
 use Rattle.std.specs.List.{AllByRecursion}
 use Rattle.uc_script.specs.Lines.{lines_of}

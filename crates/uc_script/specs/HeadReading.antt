@@ -17,6 +17,6 @@ head_after keeps number all left (line ∷ lines) = elim (head_line line) [
   ]
 ]
 
--- What was found before a text's log, with the queries in its bytes.
+-- The result of reading the lines before a log, with the queries in their bytes.
 abbrev pub seen : List ℕ → Found → Head
 seen text found = record { keeps = found.keeps; queries = queries_in (take found.size text); size = found.size }

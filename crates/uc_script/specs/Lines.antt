@@ -3,7 +3,7 @@ use Rattle.std.specs.Prelude.{ℕ, List, [], ◌∷◌, Bool, true, ◌==◌, if
 use Rattle.std.specs.List.{onto_first, slice_split}
 use Rattle.std.specs.Str.{bytes_eq}
 
--- The lines of a text: each ends with LF, the last may lack it, and an empty rest is no line.
+-- The lines of the input: each ends with LF, the last may lack it, and an empty rest is no line.
 abbrev pub lines_of : List ℕ → List (List ℕ)
 lines_of [] = []
 lines_of (byte ∷ rest) = if byte == 10 then [] ∷ lines_of rest else onto_first byte (lines_of rest)

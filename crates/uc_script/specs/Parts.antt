@@ -1,4 +1,4 @@
--- In which part of a text a line is.
+-- The part of a script or head that has a line.
 use Rattle.std.specs.Prelude.{ℕ, List, codes, Bool, true, false}
 use Rattle.uc_script.specs.declared.part.Source.{Source}
 use Rattle.uc_script.specs.declared.part.Source.TheVariants as source

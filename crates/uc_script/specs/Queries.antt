@@ -1,4 +1,4 @@
--- What a line that asks to read says by its fields.
+-- The query that a line's fields name.
 use Rattle.std.specs.Prelude.{ℕ, List, codes, Option, Some, None, if◌then◌else◌}
 use Rattle.uc_script.specs.Lines.{says}
 use Rattle.uc_script.specs.Texts.{◌>>=◌, number_of, text_of, seq_of, high_of}

@@ -16,16 +16,16 @@ abbrev pub Fails : {Y : Type 0} → ScriptError → Result Y ℕ → Type 0
 Fails errors.Memory read = Unit {0}
 Fails (errors.Fault line) read = read ≡ Err line
 
--- What a function returned, seen by view, is what reading returns, unless memory ran out.
+-- A function's result, seen by view, is the result of reading, unless allocation failed.
 abbrev pub Gives : {X Y : Type 0} → (X → Y) → Result X ScriptError → Result Y ℕ → Type 0
 Gives view (Ok x) read = read ≡ Ok (view x)
 Gives view (Err e) read = Fails e read
 
--- The rest of a text, after as many bytes as it is shorter.
+-- A suffix of the input.
 unfoldable pub IsRest : List ℕ → List ℕ → Type 0
 IsRest text rest = rest ≡ drop (length text - length rest) text
 
--- What was read up to the first `open`: the number of the line after it, and the lines from there on.
+-- The result of reading up to the first `open`: the number of the line after it, and the lines from there on.
 pub record Setup : Type 0 where
   pub ops : List Op
   pub keeps : List ℕ
@@ -73,6 +73,6 @@ judged_after unfed number (line ∷ lines) = elim (call_line line) [
   | Some said ↦ judged_after (unfed_after unfed said) (number + 1) lines
 ]
 
--- What was read, without where it lies in memory.
+-- The result of reading, without its place in memory.
 abbrev pub seen : Opened → Setup
 seen o = record { ops = o.ops.items; keeps = o.keeps.items; number = o.number; lines = lines_of o.rest.now }

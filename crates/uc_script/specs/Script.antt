@@ -1,4 +1,4 @@
--- What a script asks.
+-- The contents of a script.
 use Rattle.std.specs.Prelude.{ℕ, ◌+◌, ◌==◌, Bool, true, false, List, [], ◌∷◌, ◌++◌, length, position, codes, Option, Some, None, is_none, Result, Ok, Err, if◌then◌else◌}
 use Rattle.std.specs.List.{before_first, after_first, filter_map, cons_option}
 use Rattle.std.specs.Option.{option_map, option_or}
@@ -26,14 +26,14 @@ keep_of word argument = if says word (codes "keep") then number_of argument else
 unfoldable pub with_one : List ℕ → List ℕ → Option SetupLine
 with_one word argument = option_or (option_map setup.Change (change_with_one word argument)) (option_map setup.Keep (keep_of word argument))
 
--- What a line before the first `open` says by its fields, that line included.
+-- The meaning of a line up to the first `open`, by its fields.
 unfoldable pub setup_of : List (List ℕ) → Option SetupLine
 setup_of (word ∷ []) = if says word (codes "open") then Some setup.Open else None
 setup_of (word ∷ argument ∷ []) = with_one word argument
 setup_of (word ∷ first ∷ second ∷ []) = option_map setup.Change (change_with_two word first second)
 setup_of _ = None
 
--- What such a line says, or None if it is faulty.
+-- The meaning of such a line, or None if it is faulty.
 unfoldable pub setup_line : List ℕ → Option SetupLine
 setup_line line = if is_skipped line then Some setup.Skipped else setup_of (fields_of line)
 
@@ -96,7 +96,7 @@ abbrev pub line_with_two : List ℕ → List ℕ → List ℕ → Option CallLin
 line_with_two word first second =
     option_or (option_map asking.Ask (call_with_two word first second)) (option_map asking.Change (change_with_two word first second))
 
--- What a line after the first `open` says by its fields.
+-- The meaning of a line after the first `open`, by its fields.
 unfoldable pub call_of : List (List ℕ) → Option CallLine
 call_of (word ∷ []) = line_alone word
 call_of (word ∷ argument ∷ []) = line_with_one word argument
@@ -105,27 +105,27 @@ call_of (word ∷ name ∷ first ∷ count ∷ []) = if says word (codes "claim"
 call_of (word ∷ low ∷ high ∷ limit ∷ at ∷ []) = option_map asking.Ask (option_map Read (scan_of word low high limit at))
 call_of _ = None
 
--- What a line after the first `open` says, or None if it is faulty.
+-- The meaning of a line after the first `open`, or None if it is faulty.
 unfoldable pub call_line : List ℕ → Option CallLine
 call_line line = if is_skipped line then Some asking.Skipped else call_of (fields_of line)
 
 -- ---- the lines after `open`
 
--- What a line asks after these changes were gathered, if it asks anything: a `feed` takes them.
+-- The call of a line, if it is one, after these changes came without a `feed`: a `feed` takes them.
 abbrev pub call_after : List Op → CallLine → Option Call
 call_after ops asking.Skipped = None
 call_after ops (asking.Change op) = None
 call_after ops asking.Feed = Some (Feed ops)
 call_after ops (asking.Ask call) = Some call
 
--- The changes that are gathered after it.
+-- The changes that are collected after it.
 abbrev pub ops_after : List Op → CallLine → List Op
 ops_after ops asking.Skipped = ops
 ops_after ops (asking.Change op) = ops ++ op ∷ []
 ops_after ops asking.Feed = []
 ops_after ops (asking.Ask call) = ops
 
--- What lines ask in order, after these changes were gathered. A faulty line asks nothing.
+-- The calls of lines in order, after these changes came without a `feed`. A faulty line is no call.
 abbrev pub calls_from : List Op → List (List ℕ) → List Call
 calls_from ops [] = []
 calls_from ops (line ∷ lines) = elim (call_line line) [
@@ -148,7 +148,7 @@ says_change line = is_change (call_line line)
 unfoldable pub says_feed : List ℕ → Bool
 says_feed line = is_feed (call_line line)
 
--- Whether a change among these lines has no `feed` behind it.
+-- Whether a change among these lines has no `feed` after it.
 abbrev pub lack_a_feed : List (List ℕ) → Bool
 lack_a_feed lines = leaves says_change says_feed lines
 
@@ -184,22 +184,22 @@ change_in line = changed (setup_line line)
 unfoldable pub keep_in : List ℕ → Option ℕ
 keep_in line = kept (setup_line line)
 
--- How many of the lines after `open` come before the first faulty one, if there is one. If none is faulty but a change
--- has no `feed` behind it, it is the line that is missing after the last.
+-- Number of lines after `open` before the first faulty one, if there is one. If none is faulty but a change has no `feed` after it,
+-- it is the line that is missing after the last.
 abbrev pub fault_behind : List (List ℕ) → Option ℕ
 fault_behind lines =
     option_or (position (λ line. is_none (call_line line)) lines)
     (if lack_a_feed lines then Some (length lines) else None)
 
--- How many lines come before the first faulty line, if there is one. Before the first `open` that is a line that is no
--- setup line. If no line is `open`, it is the line that is missing after the last.
+-- Number of lines before the first faulty line, if there is one. Before the first `open` that is a line that is no setup line. If
+-- no line is `open`, it is the line that is missing after the last.
 abbrev pub fault_at : List (List ℕ) → Option ℕ
 fault_at lines =
     option_or (position (λ line. is_none (setup_line line)) (lines_before lines))
     (if length (lines_before lines) == length lines then Some (length lines)
     else option_map (λ k. length (lines_before lines) + 1 + k) (fault_behind (lines_after lines)))
 
--- What lines without a fault ask, all in the order of the lines.
+-- The script of lines without a fault, all in the order of the lines.
 abbrev pub asked_by : List (List ℕ) → Script
 asked_by lines = record {
   ops = filter_map change_in (lines_before lines);
@@ -207,11 +207,11 @@ asked_by lines = record {
   calls = calls_from [] (lines_after lines);
 }
 
--- What was read, unless there is a fault after this number of lines: then its number, from 1.
+-- The result, unless there is a fault after this number of lines: then its number, from 1.
 abbrev pub unless_fault : {A : Type 0} → Option ℕ → A → Result A ℕ
 unless_fault (Some k) read = Err (k + 1)
 unless_fault None read = Ok read
 
--- What a script asks, or the number of its first line at fault, from 1.
+-- The script in these bytes, or the number of its first line at fault, from 1.
 unfoldable pub script_of : List ℕ → Result Script ℕ
 script_of text = unless_fault (fault_at (lines_of text)) (asked_by (lines_of text))

@@ -71,7 +71,7 @@ named part field = find (λ word. bytes_eq (word_text word) field && stands_in w
 unfoldable pub is_word : List ℕ → Bool
 is_word field = list_any (λ word. bytes_eq (word_text word) field) all_words
 
--- What follows it, in order.
+-- The kinds of the fields after it, in order.
 abbrev pub kinds : Word → List FieldKind
 kinds Put = Text ∷ Text ∷ []
 kinds Delete = Text ∷ []

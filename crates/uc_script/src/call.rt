@@ -10,7 +10,7 @@ pub const NAMES: usize = 128;
 /// A call that a script makes of the store after its `open`.
 #[derive(Debug, Drop, PartialEq, Eq)]
 pub enum Call {
-    /// Writes the changes that were gathered since the last `feed`, or since `open`, in order. A script writes `feed`.
+    /// Writes the changes since the last `feed`, or since `open`, in order. A script writes `feed`.
     Feed(Ops),
     /// A snapshot at the last sequence. A script writes `keep`.
     Keep,

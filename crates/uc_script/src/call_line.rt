@@ -18,7 +18,7 @@ pub(crate) enum CallLine {
     Skipped,
     /// A change, to be written by the next `feed`.
     Change(Op),
-    /// Writes the gathered changes.
+    /// Writes the collected changes.
     Feed,
     /// Another call.
     Ask(Call),

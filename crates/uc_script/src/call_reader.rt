@@ -14,15 +14,15 @@ use std::alloc::{AllocError, Global};
 use std::marker::Model;
 use uc_bytes::Op;
 
-/// Goes through the lines after the `open` of a script that was judged before, front to back, and returns its calls one
-/// at a time. It gathers the writes of a `feed` on the way, and holds them until then.
+/// Reads the lines after the `open` of a validated script, front to back, and returns its calls one at a time. It collects the
+/// writes of a `feed` on the way, and holds them until then.
 ///
 /// Contracts see it as the calls that are ahead of it.
 #[derive(Drop)]
 pub struct CallReader<'a> {
     // The lines that are left.
     lines: &'a [u8],
-    // The changes gathered for the next `feed`.
+    // The changes collected for the next `feed`.
     ops: Vec<Op>,
 }
 
@@ -48,9 +48,9 @@ impl<'a> CallReader<'a> {
         }
     }
 
-    /// The next call, or `None` if none is left. A `feed` hands out the writes gathered, without a copy.
+    /// The next call, or `None` if none is left. A `feed` returns the collected writes, without a copy.
     ///
-    /// After an `Err` no call is passed over, and no write is lost.
+    /// After an `Err` no call is skipped, and no write is lost.
     pub fn next_call(&mut self, alloc: Global) -> Result<Option<Call>, AllocError>
         ensures next { IfOk result (λ next. Comes self.old next self.new) }
         ensures err { OnErr result (self.new ≡ self.old) }
@@ -61,7 +61,7 @@ impl<'a> CallReader<'a> {
     }
 }
 
-/// The call of a line, if it makes one. Its change is gathered, and a faulty line is passed over.
+/// The call of a line, if it is one. A change is collected, and a faulty line is skipped.
 fn read_call(alloc: Global, line: &[u8], ops: &mut Vec<Op>) -> Result<Option<Call>, AllocError>
     ensures call { IfOk result (λ call. (lines : List (List ℕ)) →
         calls_from ops.old.items (line.now ∷ lines) ≡ cons_option call (calls_from ops.new.items lines)) }

@@ -11,7 +11,7 @@ use std::fmt;
 /// The fault of a line: the first of these from the left. Fields are counted from 1, the line's first word.
 #[derive(Clone, Copy, Debug, PartialEq, Eq)]
 pub enum LineFault {
-    /// No line of any text begins with its first word.
+    /// No line of any script begins with its first word.
     UnknownWord(Part),
     /// No line of this part begins with its first word, but one of another does.
     Misplaced(Part),

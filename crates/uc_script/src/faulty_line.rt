@@ -17,7 +17,7 @@ use crate::shown_line::shortened;
 use crate::word::Word;
 use std::alloc::{AllocError, Global};
 
-/// The text after `count` lines, and whether one of those is `open`.
+/// The bytes after `count` lines, and whether one of those is `open`.
 fn skip_lines(text: &[u8], count: u64) -> (&[u8], bool)
     ensures rest { lines_of result.0.now ≡ drop count (lines_of text.now) }
     ensures opened { result.1 ≡ list_any says_open (take count (lines_of text.now)) }
@@ -53,7 +53,7 @@ fn takes_writes(line: &[u8]) -> bool
     line == b"open".as_slice() || line == b"feed".as_slice()
 }
 
-/// Whether a text leaves writes that no later line takes.
+/// Whether a script has writes at its end that no later line feeds.
 fn leaves_writes(text: &[u8]) -> bool
     ensures { result ≡ leaves explanations.begins_write explanations.takes_writes (lines_of text.now) }
 {
@@ -67,7 +67,7 @@ fn leaves_writes(text: &[u8]) -> bool
     is_left
 }
 
-/// The explanation if the line of this number is missing in a text: nothing after an `open` if no write is left there.
+/// The explanation if `text` has no line of this number: nothing after an `open` if no write is left to feed.
 fn missing(part: Part, number: u64, text: &[u8]) -> Option<Explanation>
     ensures { option_map explanation_text result ≡ explanations.missing part number
         (leaves explanations.begins_write explanations.takes_writes (lines_of text.now)) }
@@ -81,7 +81,7 @@ fn missing(part: Part, number: u64, text: &[u8]) -> Option<Explanation>
     Some(Explanation::Missing { number, word })
 }
 
-/// Whether a line that these others follow is the end of a head but for its line feed.
+/// Whether a line that these others follow is the end of a head except for its line feed.
 #[tactic(auto, using(crate::proofs::Passing::same_emptiness))]
 fn lacks_its_end(part: Part, line: &[u8], others: &[u8], is_ended: bool) -> bool
     ensures { result ≡ explanations.lacks_its_end part line.now (lines_of others.now) is_ended }
@@ -89,7 +89,7 @@ fn lacks_its_end(part: Part, line: &[u8], others: &[u8], is_ended: bool) -> bool
     part == Part::Head && line == b"log".as_slice() && others.is_empty() && !is_ended
 }
 
-/// The fault of a line before these others, in a text that ends with LF or doesn't.
+/// The fault of a line before these others, whether `text` ends with LF or not.
 fn fault_before(
     alloc: Global,
     part: Part,
@@ -106,11 +106,11 @@ fn fault_before(
     line_fault(alloc, part, line)
 }
 
-/// The explanation of the line of this number, from 1, in a text of this kind: what is there, what is wrong with it and
-/// what may be there, or that it is missing. It is `None` if nothing is wrong with that line, which is never so for a
-/// number from [`read_script`](crate::read_script) or [`read_head`](crate::read_head).
+/// Explains the line of this number, counted from 1, in bytes of this kind: what it contains, what is wrong with it and what is
+/// allowed there, or that it is missing. It is `None` if nothing is wrong with that line, which never holds for a number from
+/// [`read_script`](crate::read_script) or [`read_head`](crate::read_head).
 ///
-/// It goes once through the lines up to that one, and once more through all if it is missing.
+/// It reads the lines up to that one once, and all lines a second time if it is missing.
 #[tactic(auto, unfolding(crate::specs::Explanations::explanation_of))]
 pub fn explain(
     alloc: Global,

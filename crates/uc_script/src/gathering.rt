@@ -1,4 +1,4 @@
-//! The calls of lines after `open`, one after the other: a `feed` takes the changes gathered before it.
+//! The calls of lines after `open`, one after the other: a `feed` takes the changes collected before it.
 
 ghost use Rattle.std.specs.Prelude.{◌≡◌, IfOk, OnOk, OnErr};
 ghost use Rattle.uc_script.specs.Reading as reading;
@@ -10,8 +10,7 @@ use std::alloc::{AllocError, Global};
 use std::mem;
 use uc_bytes::{Items, Op};
 
-/// The call of a line, if it makes one. Its change is gathered after the others, and a `feed` takes them all, without
-/// a copy.
+/// The call of a line, if it is one. A change is appended to the others, and a `feed` takes them all, without a copy.
 ///
 /// An `Err` leaves the changes as they were.
 pub(crate) fn take_line(

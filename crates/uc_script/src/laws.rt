@@ -15,30 +15,30 @@ ghost use Rattle.uc_script.specs.Short.{AreNoLonger};
 ghost use Rattle.uc_script.specs.Texts.{number_of, text_of};
 ghost use Rattle.uc_script.specs.declared.script.Script.{Script};
 
-/// A script is setup lines, one `open`, and lines of which each change has a `feed` after it, and asks what they name in
-/// the order of the lines. Any other text has its fault at the first line that does not fit, or one past the last line if
-/// no `open` comes, or no `feed` after a change. There is no other outcome, and no two of them.
+/// A script is setup lines, one `open`, and lines in which a `feed` follows each change; its calls are those of its lines, in their
+/// order. Any other input has its fault at the first line that isn't valid, or one past the last line if no `open` comes, or no
+/// `feed` after a change. There is no other outcome, and no input has two.
 pub fn a_script_is_its_lines()
     ensures comes { (text : List ℕ) → ComesTo (lines_of text) (script_of text) }
     ensures alone { (text : List ℕ) (outcome : Result Script ℕ)
         → ComesTo (lines_of text) outcome → outcome ≡ script_of text }
 {}
 
-/// A head is lines that keep and ask and a `log` line, each with its LF, and says what they name in order. Any bytes
-/// may follow it. Any other text has its fault at the first line that does not fit, at a `log` without its LF, or one
-/// past the last line if no `log` comes. There is no other outcome, and no two of them.
+/// A head is lines that keep and query and a `log` line, each with its LF, and contains what they name in order. Any bytes may
+/// follow it. Any other input has its fault at the first line that isn't valid, at a `log` without its LF, or one past the last
+/// line if no `log` comes. There is no other outcome, and no input has two.
 pub fn a_head_is_its_lines()
     ensures comes { (text : List ℕ) → heads.ComesTo text (head_of text) }
     ensures alone { (text : List ℕ) (outcome : Result Head ℕ) → heads.ComesTo text outcome → outcome ≡ head_of text }
 {}
 
-/// A head that is read in the front of a text is the head of the whole text.
+/// A head that is read at the front of some bytes is still the head if more bytes follow.
 pub fn what_follows_a_head_changes_nothing()
     ensures { (text more : List ℕ) (said : Head) → head_of text ≡ Ok said → head_of (text ++ more) ≡ Ok said }
 {}
 
-/// A script names at most as many changes as it has bytes, and each of their texts is no longer than it. So it is of those
-/// before its `open`, and of these and those that it feeds together.
+/// A script has at most as many changes as bytes, and none of their keys and values is longer than the script. So it is of the
+/// changes before its `open`, and of these and those that it feeds together.
 pub fn a_script_names_no_more_than_it_has()
     ensures opened { (text : List ℕ) (script : Script) → script_of text ≡ Ok script
         → AreNoLonger (length text) script.ops }

@@ -1,27 +1,25 @@
-//! Scripts as text: what a script's bytes ask, the head before a log, the small texts that the program prints, and what
-//! is wrong with a line.
+//! Scripts: parsing a script's bytes, the head before a log, the numbers and bytes that the program prints, and explanations of
+//! faulty lines.
 //!
-//! A script is lines of fields. The lines before its one `open` say what to write and which sequences to keep, and
-//! those after it what to ask. There too come writes: a `feed` after them asks that they are written. Either each line
-//! is right, or the script has a fault at one, or its last writes lack their `feed`; nothing else about a script can be
-//! wrong. Scripts are bytes and not UTF-8: a comment may hold any byte but LF.
+//! A script is lines of fields. The lines before its one `open` are writes and snapshots, and those after it are calls. Writes may
+//! follow there too: a `feed` after them writes them. Either each line is right, or the script has a fault at one, or its last
+//! writes lack their `feed`; nothing else about a script can be wrong. Scripts are bytes and not UTF-8: a comment may hold any byte
+//! but LF.
 //!
-//! A head may come before a log: lines that keep and ask, as in a script, and a line `log`. What follows is the log,
-//! and no lines.
+//! A head may come before a log: snapshots and queries, as in a script, and a line `log`. The bytes after it are the log.
 //!
-//! Read `script_text.rt` first: it goes from bytes to a [`Script`], or to its [`Preamble`]; then `call_reader.rt` returns
-//! its calls one at a time. `head.rt` goes from bytes to a [`Head`], and `query_reader.rt` returns its queries, a few
-//! at a time. `lines.rt` cuts the text, and `field.rt` reads a field. `setup_line.rt` and `call_line.rt` read a line of
-//! either part of a script, and `change_line.rt` has what these share; `gathering.rt` hands the writes after `open` to
-//! their `feed`. `head_line.rt` reads a line of a head, and `query_line.rt` has what it shares with `call_line.rt`.
-//! `digits.rt` prints bytes and numbers. `laws.rt` says what the definitions in `specs/` mean.
+//! Read `script_text.rt` first: it goes from bytes to a [`Script`], or to its [`Preamble`]; then `call_reader.rt` returns its calls
+//! one at a time. `head.rt` goes from bytes to a [`Head`], and `query_reader.rt` returns its queries, a few at a time. `lines.rt`
+//! cuts the bytes into lines, and `field.rt` reads a field. `setup_line.rt` and `call_line.rt` read a line of either part of a
+//! script, and `change_line.rt` has what these share; `gathering.rt` hands the writes after `open` to their `feed`. `head_line.rt`
+//! reads a line of a head, and `query_line.rt` has what it shares with `call_line.rt`. `digits.rt` prints bytes and numbers.
+//! `laws.rt` says what the definitions in `specs/` mean.
 //!
-//! Reading returns only the number of the first faulty line. [`explain`] looks at that line once more, and says for a
-//! reader what is there, what is wrong with it and what may be there: an [`Explanation`], which prints as one line.
-//! Read `specs/Faults.antt`, then `faulty_line.rt`. `word.rt` has the words that lines begin with and what follows each,
-//! `field_kind.rt` what a field may be, and `fault.rt` the kinds of faults. `line_fault.rt` finds the first fault of a
-//! line, and `shown_line.rt` writes a line with only printable characters. `fault_laws.rt` says that an explanation is
-//! one line.
+//! Reading returns only the number of the first faulty line. [`explain`] reads that line again, and returns an [`Explanation`] for
+//! people, which prints as one line: what it contains, what is wrong with it and what is allowed there. Read `specs/Faults.antt`,
+//! then `faulty_line.rt`. `word.rt` has the words that lines begin with and what follows each, `field_kind.rt` what a field may be,
+//! and `fault.rt` the kinds of faults. `line_fault.rt` finds the first fault of a line, and `shown_line.rt` writes a line with only
+//! printable characters. `fault_laws.rt` says that an explanation is one line.
 //!
 //! An `Err(AllocError)`, or a variant `Memory`, comes only if an allocation fails.
 //!

@@ -1,4 +1,4 @@
-//! Lines of a text, and fields of a line.
+//! Lines of a script, and fields of a line.
 
 ghost use Rattle.std.specs.Prelude.{◌≡◌, ◌+◌, ◌-◌, ◌<◌, [], ◌∷◌, ◌==◌, length, drop, position, MatchOption};
 ghost use Rattle.uc_script.specs.Lines as lines;

@@ -1,4 +1,4 @@
-//! [`Part`]: in which part of a text a line is; [`Source`]: what the text is.
+//! [`Part`]: the part of a script that has a line; [`Source`]: the kind of the input.
 
 ghost use Rattle.std.specs.Prelude.{◌≡◌, Some};
 ghost use Rattle.uc_script.specs.Parts as parts;
@@ -6,7 +6,7 @@ ghost use Rattle.uc_script.specs.Parts.{first_words};
 
 use std::fmt;
 
-/// The kind of a text with faulty lines.
+/// The kind of input that has faulty lines.
 #[derive(Clone, Copy, Debug, PartialEq, Eq)]
 pub enum Source {
     /// A script, as [`read_script`](crate::read_script) reads it.
@@ -15,7 +15,7 @@ pub enum Source {
     Head,
 }
 
-/// In which part of a text a line is. It says which words the line may begin with.
+/// The part of a script or head that has a line. It determines the words with which the line may begin.
 #[derive(Clone, Copy, Debug, PartialEq, Eq)]
 pub enum Part {
     /// A script before its `open`.

@@ -16,7 +16,7 @@ use crate::setup_line::{SetupLine, read_setup_line};
 use std::alloc::Global;
 use uc_bytes::{Items, Op};
 
-/// The setup that was read up to `open`, and where to go on.
+/// The setup that was read up to `open`, and the place where reading continues.
 #[derive(Drop)]
 struct Opened<'a> {
     ops: Vec<Op>,
@@ -29,18 +29,18 @@ struct Opened<'a> {
 
 /// Reads a script.
 ///
-/// Its lines end with LF, and the last may lack it. Fields are separated by one space. Empty lines and lines that begin
-/// with `#` are skipped and counted. Before the one `open` come `put K V`, `delete K`, `merge K V`, `range B E` and
-/// `keep S`, where S is a number.
+/// Its lines end with LF, and the last may lack it. Fields are separated by one space. Empty lines and lines that begin with `#`
+/// are skipped and counted. Before the one `open` come `put K V`, `delete K`, `merge K V`, `range B E` and `keep S`, where S is a
+/// number.
 ///
-/// After it the same four writes are gathered, and `feed` asks that those are written which were gathered since the last
-/// `feed`, or since `open`. There too come `keep`; `release S`, `get K S` and `scan LOW HIGH LIMIT S`, where S may be
-/// `last` and HIGH may be `-`; `claim N FIRST COUNT`, `install N` and `abandon N`, where the name N is below
-/// [`NAMES`](crate::NAMES); and `compact FIRST COUNT`, `pick` and `report`. Keys and values are hexadecimal in either
-/// case, or `.` for no bytes. Numbers are decimal without sign or needless zeros, at most 2^64 - 1.
+/// After it the same four lines collect writes, and `feed` writes those since the last `feed`, or since `open`. Also allowed are
+/// `keep`; `release S`, `get K S` and `scan LOW HIGH LIMIT S`, where S may be `last` and HIGH may be `-`; `claim N FIRST COUNT`,
+/// `install N` and `abandon N`, where the name N is below [`NAMES`](crate::NAMES); and `compact FIRST COUNT`, `pick` and `report`.
+/// Keys and values are hexadecimal in either case, or `.` for no bytes. Numbers are decimal without sign or needless zeros, at most
+/// 2^64 - 1.
 ///
-/// An `Err` has the number of the first faulty line, from 1. If only `open` is missing, or a `feed` after a write, that
-/// is one past the last line.
+/// An `Err` has the number of the first faulty line, from 1. If only `open` is missing, or a `feed` after a write, that is one past
+/// the last line.
 pub fn read_script(alloc: Global, text: &[u8]) -> Result<Script, ScriptError>
     ensures { Gives (λ script. script) result (script_of text.now) }
 {
@@ -53,11 +53,11 @@ pub fn read_script(alloc: Global, text: &[u8]) -> Result<Script, ScriptError>
     })
 }
 
-/// Reads a script up to its `open`. The lines after it are judged and freed. [`read_script`] says which scripts are
-/// faulty, and in which line.
+/// Reads a script up to its `open`. The lines after it are validated and freed. [`read_script`] says which scripts are faulty, and
+/// in which line.
 ///
-/// A [`CallReader`](crate::CallReader) over the bytes after `open` returns the calls. It allocates for the changes before
-/// `open` and the keeps, and for one line at a time.
+/// A [`CallReader`](crate::CallReader) over the bytes after `open` returns the calls. It allocates for the changes before `open`
+/// and the keeps, and for one line at a time.
 pub fn judge_script(alloc: Global, text: &[u8]) -> Result<Preamble, ScriptError>
     ensures read { Gives (λ preamble. script_with preamble (drop preamble.size text.now)) result (script_of text.now) }
     ensures within { IfOk result (λ preamble. preamble.size ≤ length text.now) }
@@ -131,7 +131,7 @@ fn read_calls(alloc: Global, first: u64, text: &[u8]) -> Result<Vec<Call>, Scrip
     Ok(calls)
 }
 
-/// Judges the lines after `open`, the first of which has this number.
+/// Validates the lines after `open`, the first of which has this number.
 fn judge_calls(alloc: Global, first: u64, text: &[u8]) -> Result<(), ScriptError>
     requires { first + length text.now < 2 ^ 64 }
     ensures { Gives (λ done. done) result (judged_after false first (lines_of text.now)) }

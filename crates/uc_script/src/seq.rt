@@ -5,6 +5,6 @@
 pub enum Seq {
     /// The number itself, at most 2^64 - 1.
     Number(u64),
-    /// The last sequence at opening, also once more is written. A script writes `last`.
+    /// The last sequence number at opening, even after more writes. A script writes `last`.
     Last,
 }

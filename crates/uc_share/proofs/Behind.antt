@@ -1,4 +1,4 @@
--- A history with more events behind it.
+-- A history followed by more events.
 use Rattle.std.proofs.Common.{◌≡◌, List, [], ◌∷◌, ◌++◌, fold, refl, ap, sym, subst, ◌∙◌}
 use Rattle.uc_oper.specs.Operation.{Operation}
 use Rattle.uc_version_state.specs.Versions.{Stored}

@@ -14,12 +14,12 @@ use Rattle.uc_share.specs.Claims.{Claim, IsClaim, IsClaimRefused, IsLookRefused,
 use Rattle.uc_share.specs.declared.held.LookError.{LookError}
 use Rattle.uc_share.specs.declared.held.LookError.TheVariants.{Moved, Memory}
 
--- what isn't claimed after its slots were taken isn't refused for its range
+-- a claim that fails after its slots were taken doesn't fail for its range
 pub look_refused : (seat : Holding) (c : Claim) (before seen : List Event) (present : Stored) (error : LookError) → IsClaim c → IsLookRefused c before seen present error → IsClaimRefused seat c.pin c.stretch present (claim_error error)
 look_refused seat c before seen present Moved is h = (in_range (length c.pin.version.runs) c.stretch is.two is.within, h)
 look_refused seat c before seen present Memory is h = in_range (length c.pin.version.runs) c.stretch is.two is.within
 
--- what is picked of a version isn't refused for its range
+-- a stretch that is picked of a version is in range
 pub pick_in_range : (o : Options) (runs : List Candidate) (n : ℕ) (r : Option Stretch) → r ≡ picked o runs → length runs ≡ n
     → ((s : Stretch) → picked o runs ≡ Some s → s.first + s.count ≤ length runs) → ((s : Stretch) → picked o runs ≡ Some s → 2 ≤ s.count)
     → IfSome r (λ s. range_refusal n s ≡ None)

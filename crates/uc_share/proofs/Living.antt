@@ -1,4 +1,4 @@
--- What is shown behind a feed, a keep or a release.
+-- The version that is shown after a feed, a keep or a release.
 use Rattle.std.proofs.Common.{◌≡◌, List, [], ◌∷◌, length, map, fold, refl, sym, ap, ◌∙◌, subst}
 use Rattle.std.proofs.lemmas.List.{length-map}
 use mathlib.Core.List.{IsPrefix}

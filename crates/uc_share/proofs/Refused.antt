@@ -1,4 +1,4 @@
--- What a version's refusal shows of an install.
+-- Facts about an install that follow from a version's refusal.
 use Rattle.std.proofs.Common.{◌≡◌, ◌≢◌, List, refl, sym, subst}
 use Rattle.uc_compact.specs.Inputs.{Compaction}
 use Rattle.uc_version_state.specs.Versions.{PlacedRun, Stored, contents_of, ids_of}
@@ -39,7 +39,7 @@ memory_shown v seen claimed made same may = record {
 
 -- ---- what the claimed runs themselves were compacted to
 
--- what shows a refusal of it shows one of two reasons, or want of memory
+-- the version shows one of two reasons, or allocation failed
 pub own_shown : (v : Stored) (claimed : List PlacedRun) (made : Compaction) (error : InstallError) → ShowsRefusal v claimed made error → ((e : InstallError) → IsNotInstallable v claimed made e → IsOwnRefusal e) → IsOwnRefusal error
 own_shown v claimed made WrongInputs h law = law WrongInputs (h.shown (λ e. cc (e)))
 own_shown v claimed made (WrongKeeps keep) h law = law (WrongKeeps keep) (h.shown (λ e. cc (e)))

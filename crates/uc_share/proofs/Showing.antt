@@ -55,7 +55,7 @@ module _ (m : Operation) (stay : Bool) (book : Book) (base : Stored) where
     version_is = ap (λ (v : Stored). after v e) is.version_is ∙ sym (after-append base s.events e);
   }
 
--- what is shown next is the last of what was to be shown, whatever a refusal left in front of it
+-- the next shown version is the last of those that were queued, even if a failure left others in front of it
 pub last_taken : (now next : Moment) (before : List Moment) → fold (λ (x : Moment) (y : Moment). y) now (before ++ next ∷ []) ≡ next
 last_taken now next [] = refl
 last_taken now next (s ∷ before) = last_taken s next before

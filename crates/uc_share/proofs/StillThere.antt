@@ -46,7 +46,7 @@ may_install m base h now made stay fit pinned shown is before two stand inputs t
       may = fit now.version claimed made two stand (ap contents_of same_now) installable;
     }
 
--- what holds of a version that doesn't refuse it
+-- a fact of a version that can install it
 pub if_none : {R : Type 0} (P Q : Type 0) (r : Option R) → (P → Q) → IfNone r P → IfNone r Q
 if_none P Q None f p = f p
 if_none P Q (Some r) f p = tt

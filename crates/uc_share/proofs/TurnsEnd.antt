@@ -1,4 +1,4 @@
--- What comes of a turn, by what its steps came to.
+-- The result of a turn, by the results of its steps.
 use Rattle.std.proofs.Common.{◌≡◌, ◌≢◌, Bool, List, length, fold, refl, sym, subst}
 use Rattle.std.specs.Prelude.{Option, Some, None, Result, Ok, Err, IfOk, IfErr, OnOk}
 use mathlib.Core.List.{IsPrefix}
@@ -25,7 +25,7 @@ use Rattle.uc_share.specs.Installing.{EndsWith, IsOwnRefusal, ShowsRefusal, even
 use Rattle.uc_share.specs.Turns.{CameOf, FailedFor, IsPicked, Turning, last_seen, refused_turn}
 use Rattle.uc_share.proofs.Prefixes.{prefix_behind}
 
--- every refused claim makes of a turn what its definition says
+-- the result of a turn with a failed claim is the one of its definition
 pub refused_late : (error : ClaimError) → error ≢ refused.Memory → Ok (Late error) ≡ refused_turn error
 refused_late refused.OutOfRange ne = refl
 refused_late refused.TooNarrow ne = refl
@@ -47,7 +47,7 @@ is_picked t book seen pin s r front back is pick some = record {
   picked = subst (λ (x : Option Stretch). IsPick t.options t.seat.whole pin.version x) some pick;
 }
 
--- the claim of it is refused
+-- the claim of it fails
 pub late : (m : Operation) (t : Turning) (pin : Moment) (s : Stretch) (error : ClaimError) → IsPicked t pin s → range_refusal (length pin.version.runs) s ≡ None → IsClaimRefused t.seat pin s (last_seen t) error → IfOk (refused_turn error) (CameOf m t)
 late m t pin s refused.OutOfRange is range h = absurd (cc (range, h))
 late m t pin s refused.TooNarrow is range h = absurd (cc (range, h))

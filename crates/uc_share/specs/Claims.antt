@@ -38,7 +38,7 @@ pub record IsClaim (c : Claim) : Type 0 where
   pub slots : c.seat.slots ≡ slots_of (claimed_runs c)
 
 -- Why a stretch of a pinned version isn't claimed with a seat, if this is the version that the caller has seen then: the first of
--- these that holds. A whole seat is never told `Busy`. Want of memory is told only of a stretch that may be claimed.
+-- these that holds. A whole seat never gets `Busy`. `Memory` is returned only for a stretch that may be claimed.
 abbrev pub IsClaimRefused : Holding → Moment → Stretch → Stored → ClaimError → Type 0
 IsClaimRefused seat pin s present refused.OutOfRange = range_refusal (length pin.version.runs) s ≡ Some refused.OutOfRange
 IsClaimRefused seat pin s present refused.TooNarrow = range_refusal (length pin.version.runs) s ≡ Some refused.TooNarrow

@@ -1,4 +1,4 @@
--- What is shown to readers, and the history that leads to it.
+-- The version that readers see, and the history that leads to it.
 use Rattle.std.specs.Prelude.{◌≡◌, ℕ, ◌<◌, ◌≤◌, Bool, true, List, [], ◌∷◌, ◌++◌, length, fold}
 use mathlib.Core.Option.{some}
 use lib.ListN.{get_elem?}
@@ -40,7 +40,7 @@ AllWithin n views = (seat v : ℕ) → get_elem? views seat ≡ some v → v ≤
 abbrev pub IsRuled : Operation → Bool → Book → Stored → Moment → List ℕ → Type 0
 IsRuled m stay book base s views = IsMoment m stay book base s × AllWithin (length s.events) views
 
--- what a step tells: no less is shown than was seen, and all of it is then seen
+-- the result of a step: no less is shown than was seen, and all of it is then seen
 abbrev pub Tells : Operation → Bool → Book → Stored → ℕ → Moment → Moment → ℕ → Type 0
 Tells m stay book base v x y w = (v ≤ length x.events) × (w ≡ length y.events) × IsMoment m stay book base y
 

@@ -20,7 +20,7 @@ event_of m claimed made = Installed (install_for m claimed made)
 abbrev pub EndsWith : List Event → Event → List Event → Type 0
 EndsWith old e new = (before : List Event) × IsPrefix old before × (new ≡ before ++ e ∷ [])
 
--- The version shows why what was compacted isn't installed. Want of memory is told only if nothing else is against it.
+-- The version shows why the compaction isn't installed. `Memory` is returned only if nothing else is against it.
 pub record ShowsRefusal (v : Stored) (claimed : List PlacedRun) (made : Compaction) (error : InstallError) : Type 0 where
   pub shown : error ≢ Memory → IsNotInstallable v claimed made error
   pub else_memory : error ≡ Memory → IsInstallable v claimed made

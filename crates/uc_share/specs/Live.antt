@@ -8,13 +8,13 @@ use Rattle.uc_version_state.specs.declared.feed_error.FeedError.TheVariants as f
 use Rattle.uc_version_state.specs.declared.release_error.ReleaseError.{ReleaseError}
 use Rattle.uc_version_state.specs.declared.release_error.ReleaseError.TheVariants.{NotKept, Memory}
 
--- Why writes aren't fed, if this is the version that the caller has seen then. Want of memory is told only if nothing else is
--- against them. So they weren't fed: they would be at or below its last sequence.
+-- Why writes aren't fed, if this is the version that the caller has seen then. `Memory` is returned only if nothing else is against
+-- them. So they weren't fed: they would be at or below its last sequence number.
 abbrev pub IsFeedRefused : Stored → List Write → FeedError → Type 0
 IsFeedRefused present ws error =
     (feed_refusal present ws ≡ Some error) ⊎ ((feed_refusal present ws ≡ None) × (error ≡ feed_error.Memory))
 
--- Why a sequence isn't released, if this is the version that the caller has seen then. Want of memory is told only of a keep.
+-- Why a sequence number isn't released, if this is the version that the caller has seen then. `Memory` is returned only for a keep.
 abbrev pub IsReleaseRefused : Stored → ℕ → ReleaseError → Type 0
 IsReleaseRefused present seq (NotKept named) = (named ≡ seq) × ¬ Contains present.keeps seq
 IsReleaseRefused present seq Memory = Contains present.keeps seq

@@ -1,4 +1,4 @@
--- What is picked of a pinned version.
+-- The stretch that is picked in a pinned version.
 use Rattle.std.specs.Prelude.{◌≡◌, Bool, true, false, List, Option, All, slice_index_or}
 use Rattle.uc_version_state.specs.declared.options.Options.{Options}
 use Rattle.uc_version_state.specs.declared.stretch.Stretch.{Stretch}

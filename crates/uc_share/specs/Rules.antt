@@ -1,4 +1,4 @@
--- The rules of the history and of what is shown, and what their steps tell.
+-- The rules of the history and of the shown versions, and the results of their steps.
 use Rattle.std.specs.Prelude.{ℕ, ◌≡◌, ◌==◌, true, List, [], ◌∷◌, ◌++◌, length, MatchBool}
 use Rattle.logbook.specs.Pages.{Cell, Step, View, Book, Named}
 use Rattle.uc_version_state.specs.declared.event.Event.{Event}

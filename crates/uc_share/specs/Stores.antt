@@ -1,4 +1,4 @@
--- What a store that threads share is to a contract, and how it is opened.
+-- A store that threads share, as a contract sees it, and its opening.
 use Rattle.std.specs.Prelude.{◌≡◌, ℕ, Bool, ◌&&◌, [], Option, Some, nat_lt, nat_le, if◌then◌else◌}
 use Rattle.atomic_table.specs.Seated.{TableId}
 use Rattle.logbook.specs.Pages.{Book}
@@ -35,7 +35,7 @@ pub record IsNamed (o : Opened) (book : Book) (table : TableId) (base : Stored) 
 abbrev pub are_counts : ℕ → ℕ → Bool
 are_counts readers seats = nat_lt 0 readers && nat_le readers 128 && nat_le seats 64
 
--- why it isn't opened, if it isn't: for these numbers no store is, or the opening itself is refused
+-- why it isn't opened, if it isn't: these numbers aren't allowed, or the opening itself fails
 abbrev pub shared_refusal : openings.Opening → ℕ → ℕ → Option OpenError
 shared_refusal o readers seats = if are_counts readers seats then opening_refusal o else Some BadCount
 

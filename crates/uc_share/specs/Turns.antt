@@ -1,4 +1,4 @@
--- What comes of a compactor's turn.
+-- The result of a compactor's turn.
 use Rattle.std.specs.Prelude.{◌≡◌, ◌≢◌, ⊤, List, Option, Some, None, Result, Ok, Err, fold}
 use mathlib.Core.List.{IsPrefix}
 use Rattle.uc_claims.specs.Holding.{Holding}
@@ -48,7 +48,7 @@ pub record IsPicked (t : Turning) (pin : Moment) (s : Stretch) : Type 0 where
 abbrev pub last_seen : Turning → Stored
 last_seen t = fold after t.base t.new
 
--- the claim is refused because another compactor was faster
+-- the claim fails because another compactor was faster
 abbrev pub IsOutrun : ClaimError → Type 0
 IsOutrun refused.OutOfRange = ⊥
 IsOutrun refused.TooNarrow = ⊥
@@ -56,8 +56,8 @@ IsOutrun (refused.Busy slot) = ⊤
 IsOutrun refused.Moved = ⊤
 IsOutrun refused.Memory = ⊥
 
--- What came of the turn: nothing is picked of the version that was seen last; or the claim of what was picked is refused; or the
--- history that was seen ends with the event that puts the compaction of what was picked in its place.
+-- The result of the turn: nothing is picked in the version that was seen last; or the claim of the picked stretch fails; or the
+-- history that was seen ends with the event that installs the compaction of that stretch.
 abbrev pub CameOf : Operation → Turning → Turn → Type 0
 CameOf m t Idle = IsPick t.options t.seat.whole (last_seen t) None
 CameOf m t (Late error) =
@@ -77,7 +77,7 @@ IsUninstalled t error =
 abbrev pub FailedFor : Turning → InstallError → Type 0
 FailedFor t error = IsOwnRefusal error × (error ≢ Memory → IsUninstalled t error)
 
--- what a refused claim makes of a turn
+-- the result of a turn whose claim fails
 abbrev pub refused_turn : ClaimError → Result Turn InstallError
 refused_turn refused.OutOfRange = Ok (Late refused.OutOfRange)
 refused_turn refused.TooNarrow = Ok (Late refused.TooNarrow)

@@ -73,8 +73,8 @@ impl<N: Name> Book<N> {
         &self.front
     }
 
-    /// Adds the event that `about` says, and tells whether it did. It does not if there are [`MOST_EVENTS`], or if an event was
-    /// added elsewhere, which nobody can do.
+    /// Adds the event that `about` describes, and returns whether it did. It does not if there are [`MOST_EVENTS`], or if an event
+    /// was added elsewhere, which nobody can do.
     pub(crate) fn add<X, M: Plain<X, Event, u64>>(&mut self, about: &X) -> bool
         requires { M.state about.now ≡ None }
         ensures added { OnTrue result (self.new ≡ self.old ++ M.ask about.now ∷ []) }

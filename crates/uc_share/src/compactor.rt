@@ -1,4 +1,4 @@
-//! [`Compactor`]: who compacts a store, and [`Store::turn`], which it takes.
+//! [`Compactor`]: compacts a store by [`Store::turn`].
 ghost use Rattle.std.specs.Prelude.{◌≡◌, Some, IfOk, IfErr, IfSome};
 ghost use mathlib.Core.List.{IsPrefix};
 ghost use Rattle.uc_version_state.specs.Histories.{MayFollow};
@@ -43,7 +43,7 @@ impl<O: Operator, N: Name> Drop for Compactor<O, N> {
 }
 
 impl<O: Operator, N: Name> Compactor<O, N> {
-    /// Its reader, if it compacts no more. The seat is let go of.
+    /// Returns its reader, when it stops compacting. The seat is released.
     pub fn into_reader(self) -> Reader<O, N>
         ensures { result ≡ self.seen }
     {

@@ -55,9 +55,9 @@ impl<O: Operator, N: Name, W: Wait + Drop> Desk<O, N, W> {
         }
     }
 
-    /// Installs what was compacted of claimed runs, whose install this is, and shows the reader: one publication of exactly its
-    /// event, or a refusal that changes nothing that is shown and that the version which the reader then has seen shows. It
-    /// compares no points. If there was no memory for the install, that is told last.
+    /// Installs the compaction of claimed runs and updates the reader. It publishes exactly one event, or fails, changes nothing
+    /// that is shown, and lets the reader see the version that shows why. It compares no points. A failed allocation is reported
+    /// only if nothing else is wrong.
     pub(crate) fn install<R: Wait>(
         &mut self,
         rt: &R,
@@ -132,8 +132,8 @@ fn installed<O: Operator, N: Name, W: Wait + Drop, R: Wait>(
     (publisher, Ok(()))
 }
 
-/// Why what is shown, all of which the reader then has seen, refuses what was compacted of claimed runs. If nothing refuses it,
-/// the claimed runs stand there as they were claimed, and the event may happen.
+/// Why the current version, all of whose history the reader has seen after the call, can't install the compaction of claimed runs.
+/// If it can, the claimed runs are there as they were claimed, and the event may happen.
 fn refusal<O: Operator, N: Name, W: Wait + Drop, R: Wait>(
     rt: &R,
     publisher: &Publisher<O, N, W>,
@@ -157,7 +157,7 @@ fn refusal<O: Operator, N: Name, W: Wait + Drop, R: Wait>(
     version_refusal(publisher, held, made)
 }
 
-/// Why the version that is shown refuses what was compacted of runs that were claimed in an earlier one.
+/// Why the current version can't install the compaction of runs that were claimed in an earlier one.
 fn version_refusal<O: Operator, N: Name, W: Wait + Drop>(
     publisher: &Publisher<O, N, W>,
     held: &Held<O, N>,
@@ -179,8 +179,8 @@ fn version_refusal<O: Operator, N: Name, W: Wait + Drop>(
     present_refusal(held.runs(), publisher.shown().version(), made)
 }
 
-/// The run that the claimed runs themselves were compacted to is refused for two reasons by all versions after the pinned one.
-/// Proof step: does nothing when it runs.
+/// The run that the claimed runs themselves were compacted to fails for two reasons at all versions after the pinned one. Proof
+/// step: does nothing when it runs.
 fn own_is_refused_for_two_reasons<O: Operator, N: Name>(held: &Held<O, N>)
     ensures { (now : List Event) (error : InstallError) → IsPrefix held.now.pin.events now → MayFollow O.meaning N.base now →
         IsNotInstallable (fold after N.base now) (claimed_runs held.now)

@@ -29,11 +29,11 @@ pub(crate) enum LookError {
     Memory,
 }
 
-/// The right to compact a stretch of a pinned version: while it lives, nobody else claims one of its runs. Give it back by
-/// [`abandon`](crate::Store::abandon) or [`install`](crate::Store::install): dropped, it leaves its slots taken for good.
+/// The right to compact a stretch of a pinned version: while it lives, nobody else can claim one of its runs. Give it back by
+/// [`abandon`](crate::Store::abandon) or [`install`](crate::Store::install): if it is dropped, its slots stay taken for good.
 ///
-/// It is made of taken slots by a look at what is shown, and by nothing else: so who has one has taken its slots first, has
-/// looked then, and has them still.
+/// It is made only of taken slots, by checking the current version. So an owner of one has taken its slots first, has checked then,
+/// and still has them.
 pub struct Held<O: Operator, N: Name> {
     taken: Taken<O, N>,
 }
@@ -65,8 +65,8 @@ fn are_in_place(version: &Version, runs: &[Placed]) -> bool
 }
 
 impl<O: Operator, N: Name> Held<O, N> {
-    /// Looks whether the runs whose slots are taken stand as neighbours in their order in the version that is shown now, which
-    /// the reader then has seen. It is refused as [`Reader::pin`] is, and the reader has seen no more then.
+    /// Checks whether the runs whose slots are taken are neighbours in their order in the current version, which the reader has
+    /// seen after the call. Fails as [`Reader::pin`] does, and the reader has seen no more then.
     pub(crate) fn look(
         taken: Taken<O, N>,
         reader: &mut Reader<O, N>,
@@ -89,7 +89,7 @@ impl<O: Operator, N: Name> Held<O, N> {
         Err((taken, LookError::Moved))
     }
 
-    /// The slots, if the right is given up.
+    /// The slots, if the right is discarded.
     pub(crate) fn into_taken(self) -> Taken<O, N>
         ensures { result ≡ self }
     {

@@ -24,9 +24,9 @@ pub fn steps_are_those_of_the_machine<O: Operator>()
         IsInstallable v noted made → IsMadeFor O.meaning v noted (install_for O.meaning noted made) }
 {}
 
-/// The run that a stretch of a pinned version was compacted to is refused by a version that comes later in the store's history for two
-/// reasons alone: its runs stand no more, or no id is left. Whatever was fed, kept, released and installed in between, it knows each
-/// keep that it has to know, and if it was made for the oldest run, no run comes after its own.
+/// The run that a stretch of a pinned version was compacted to can fail to be installed in a later version of the store's history
+/// for two reasons alone: its runs are gone, or run IDs are exhausted. Whatever was fed, kept, released and installed since, it has
+/// each keep that it must have, and if it was made for the oldest run, no run comes after its own.
 pub fn own_compactions_are_refused_for_two_reasons<O: Operator>()
     ensures { (base : Stored) (seen now : List Event) (s : Stretch) (error : InstallError) → IsVersion (fold after base seen) →
         IsPrefix seen now → MayFollow O.meaning base now →

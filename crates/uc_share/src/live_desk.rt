@@ -21,9 +21,8 @@ use uc_run::Run;
 use uc_version_state::{FeedError, ReleaseError, no_refusal_is_leave_to_feed};
 
 impl<O: Operator, N: Name, W: Wait + Drop> Desk<O, N, W> {
-    /// Feeds writes, whose memtables these are, flushed, the oldest first, and shows the reader: one publication of exactly its
-    /// event, or a refusal that changes nothing that is shown and that the version which the reader then has seen shows. It looks
-    /// at no text.
+    /// Feeds writes whose memtables are flushed, the oldest first, and updates the reader. It publishes exactly one event, or
+    /// fails, changes nothing that is shown, and lets the reader see the version that shows why. It reads no key or value.
     pub(crate) fn feed<R: Wait>(
         &mut self,
         rt: &R,
@@ -74,8 +73,8 @@ impl<O: Operator, N: Name, W: Wait + Drop> Desk<O, N, W> {
         done
     }
 
-    /// Releases a keep, and shows the reader: one publication of exactly its event, or a refusal that changes nothing that is
-    /// shown and that the version which the reader then has seen shows.
+    /// Releases a keep and updates the reader. It publishes exactly one event, or fails, changes nothing that is shown, and lets
+    /// the reader see the version that shows why.
     pub(crate) fn release<R: Wait>(
         &mut self,
         rt: &R,

@@ -21,16 +21,16 @@ use uc_version_open::{Alone, flush_writes};
 use uc_version_state::{FeedError, ReleaseError};
 
 impl<O: Operator, N: Name, W: Wait + Drop> Store<O, N, W> {
-    /// Feeds writes: they fill memtables, and each becomes a run before all others, for all readers at once. Returns how many
-    /// runs there are more. The last sequence becomes theirs; keeps stay, and so do claims. No writes change nothing, and are an
-    /// event too.
+    /// Feeds writes: they fill memtables, and each becomes a run before all others, for all readers atomically. Returns the number
+    /// of new runs. The last sequence number becomes theirs; keeps and claims stay. An empty list changes nothing, and is an event
+    /// too.
     ///
-    /// It is refused if the first write isn't above the last sequence, then if a run would have no slot, then if no id is left
-    /// for one, and then for want of memory. The version that the reader then has seen shows it: nothing was fed.
+    /// Fails, in this order, if the first write isn't above the last sequence number, if a run would have no slot, if run IDs are
+    /// exhausted, or if allocation fails. The version that the reader then has seen shows it: nothing was fed.
     ///
-    /// It looks at a pin first, so most refusals are told before anything is flushed. The writes are flushed before the lock is
-    /// taken, and no text is looked at after it. It waits for others that publish, and for readers that still look at the version
-    /// before. It costs two copies of each text and a sort of what is fed.
+    /// It checks a pinned version first, so most failures are returned before anything is flushed. It flushes the writes before it
+    /// takes the lock, and reads no key or value after that. It waits for other threads that publish, and for readers of the
+    /// previous version. It costs two copies of each key and value and a sort of what is fed.
     pub fn feed(
         &self,
         rt: &impl Wait,
@@ -69,8 +69,8 @@ impl<O: Operator, N: Name, W: Wait + Drop> Store<O, N, W> {
         desk.keep(rt, alloc, reader)
     }
 
-    /// Releases a snapshot: the sequence is a keep no more, for all readers at once. It is refused if it is none, which the version
-    /// that the reader then has seen shows, and for want of memory. It waits as [`feed`](Store::feed) does.
+    /// Releases a snapshot: the sequence number is no longer a keep, for all readers atomically. Fails if it is none, which the
+    /// version that the reader then has seen shows, or if allocation fails. It waits as [`feed`](Store::feed) does.
     pub fn release(
         &self,
         rt: &impl Wait,
@@ -96,7 +96,7 @@ fn recall_limit<O: Operator, N: Name>(pin: &Pin<O, N>)
     pin.recall();
 }
 
-/// The runs of the memtables that writes fill, the oldest first, unless the version that is shown refuses the writes.
+/// The runs of the memtables that writes fill, the oldest first, unless the current version rejects the writes.
 fn runs_to_feed<O: Operator, N: Name>(
     rt: &impl Wait,
     alloc: Global,

@@ -71,8 +71,8 @@ impl<O: Operator> Model for Opening<O> {
 }
 
 impl<O: Operator> Opening<O> {
-    /// A store that begins with a version, for 1 to [`MOST_READERS`] readers and up to [`MOST_SEATS`] seats. A refusal hands the
-    /// version back. [`open`](Opening::open) opens one from writes; this is for who has a version of a log that was read.
+    /// A store that begins with a version, for 1 to [`MOST_READERS`] readers and up to [`MOST_SEATS`] seats. On failure the version
+    /// is returned. [`open`](Opening::open) opens one from writes; this is for a version that was recovered from a log.
     pub fn of(
         alloc: Global,
         version: Version,
@@ -111,10 +111,10 @@ impl<O: Operator> Opening<O> {
         }
     }
 
-    /// A store of these writes, which keeps these sequences and the last one, for 1 to [`MOST_READERS`] readers and up to
+    /// A store of these writes, which keeps these sequence numbers and the last one, for 1 to [`MOST_READERS`] readers and up to
     /// [`MOST_SEATS`] seats. It begins with the version that one owner's store would (`uc_version::open_plain`), and its history
-    /// with that opening. It is refused for the first of these: a number of readers or seats out of its range, an option out of
-    /// its range, a sequence above the last one, more runs than slots, want of memory.
+    /// with that opening. Fails, in this order, if a number of readers or seats is out of range, if an option is out of range, if a
+    /// kept number is above the last one, if there are more runs than slots, or if allocation fails.
     pub fn open(
         alloc: Global,
         writes: &Writes,
@@ -153,10 +153,9 @@ impl<O: Operator> Opening<O> {
         &self.version
     }
 
-    /// The store under its name, with its readers, which have seen the opening, and its seats. One seat alone is whole: what it asks
-    /// of slots is exact, since nobody else takes any. Want of memory hands the opening
-    /// back, which then wants another name. The store keeps the handle, since what shows readers the next version waits for them
-    /// also when it is dropped.
+    /// The store under its name, with its readers, which have seen the opening, and its seats. Only a single seat is whole: its
+    /// view of the slots is exact, since nobody else takes any. If allocation fails, the opening is returned, and needs another
+    /// name then. The store keeps the handle, since its publisher waits for readers even when it is dropped.
     pub fn named<N: Name, W: Wait + Drop>(
         self,
         alloc: Global,

@@ -27,9 +27,8 @@ use uc_run::Run;
 use uc_version_open::version_with_flushed;
 use uc_version_state::{Event, Install, Version};
 
-/// The publisher shows readers the next version. It stands under the store's lock. It has the store's history, all of which is shown. It
-/// keeps a `Wait` handle, since it waits for readers that still look at a version of before, also when it is dropped. Contracts
-/// see what it shows.
+/// The publisher shows readers the next version. Protected by the store's lock. It has the store's history, all of which is shown.
+/// It keeps a `Wait` handle, since it waits for readers of an older version, even when it is dropped. Contracts see what it shows.
 pub struct Publisher<O: Operator, N: Name, W: Wait + Drop> {
     writer: Writer<Shown, Shown, u64, Rises<O, N>>,
     book: Book<N>,
@@ -68,8 +67,8 @@ fn shared_out(alloc: Global, version: Version, readers: usize) -> Result<Arc<Sha
 }
 
 impl<O: Operator, N: Name, W: Wait + Drop> Publisher<O, N, W> {
-    /// Shows the version that a store is opened with, to `readers` readers. It queues an entry that is shown again, so that the
-    /// queue has room for each later publication.
+    /// Shows the version with which a store is opened to `readers` readers. It queues an entry that is shown again, so that the
+    /// queue has capacity for each later publication.
     pub(crate) fn new(
         alloc: Global,
         rt: W,
@@ -94,7 +93,7 @@ impl<O: Operator, N: Name, W: Wait + Drop> Publisher<O, N, W> {
         Ok(Publisher { writer, book, rt })
     }
 
-    /// A reader that has seen the opening, with this number. It is refused if as many as there may be are there already.
+    /// A reader that has seen the opening, with this number. Fails if the limit of readers is reached.
     pub(crate) fn reader(&self, front: Front<N>, number: usize) -> Result<Reader<O, N>, AllocError>
         requires { front ≡ [] }
         ensures { IfOk result (λ reader. reader ≡ []) }
@@ -116,15 +115,15 @@ impl<O: Operator, N: Name, W: Wait + Drop> Publisher<O, N, W> {
         self.writer.published()
     }
 
-    /// The store's history. All of it is shown, also after a refused publication.
+    /// The store's history. All of it is shown, even after a failed publication.
     pub fn history(&self) -> &Front<N>
         ensures { result.now ≡ self.now.events }
     {
         self.book.front()
     }
 
-    /// Shows readers the version after an install, whole. Who publishes is lent the slots of the runs that it replaces, so that
-    /// nobody else has claimed them. A refusal changes nothing that is shown, and adds nothing to the history.
+    /// Shows readers the version after an install. The publishing thread lends the slots of the replaced runs, so that nobody else
+    /// has claimed them. On failure nothing that is shown changes, and the history stays.
     pub fn publish_install(
         self,
         alloc: Global,
@@ -143,8 +142,8 @@ impl<O: Operator, N: Name, W: Wait + Drop> Publisher<O, N, W> {
         }
     }
 
-    /// Shows readers the version after writes were fed, whose memtables these are, flushed, the oldest first. A refusal changes
-    /// nothing that is shown, and adds nothing to the history.
+    /// Shows readers the version after writes were fed, whose memtables these are, flushed, the oldest first. On failure nothing
+    /// that is shown changes, and the history stays.
     pub fn publish_feed(
         self,
         alloc: Global,
@@ -162,8 +161,8 @@ impl<O: Operator, N: Name, W: Wait + Drop> Publisher<O, N, W> {
         }
     }
 
-    /// Shows readers the version after its last sequence was kept. A refusal changes nothing that is shown, and adds nothing to
-    /// the history.
+    /// Shows readers the version after its last sequence number was kept. On failure nothing that is shown changes, and the history
+    /// stays.
     pub fn publish_keep(self, alloc: Global) -> (Publisher<O, N, W>, Result<(), AllocError>)
         requires { N.keeps_stay ≡ false }
         ensures ok { OnOk result.1 (result.0 ≡ after_event Kept self) }
@@ -175,8 +174,7 @@ impl<O: Operator, N: Name, W: Wait + Drop> Publisher<O, N, W> {
         }
     }
 
-    /// Shows readers the version after a keep was released. A refusal changes nothing that is shown, and adds nothing to the
-    /// history.
+    /// Shows readers the version after a keep was released. On failure nothing that is shown changes, and the history stays.
     pub fn publish_release(
         self,
         alloc: Global,
@@ -226,7 +224,7 @@ impl<O: Operator, N: Name, W: Wait + Drop> Publisher<O, N, W> {
     }
 }
 
-/// Queues what comes next after what is queued. The queue has had room since the opening, so the first turn is the last.
+/// Appends an entry to the queue. The queue has had the capacity since the opening, so the first turn is the last.
 fn queued<O: Operator, N: Name, W: Wait>(
     rt: &W,
     mut writer: Writer<Shown, Shown, u64, Rises<O, N>>,
@@ -245,8 +243,8 @@ fn queued<O: Operator, N: Name, W: Wait>(
     unreachable!()
 }
 
-/// Shows readers what comes next, in place of what they were shown. It copies what comes next, which is refused only if too
-/// many own it: then it is tried again, since the history has the event.
+/// Shows readers the next version in place of the previous one. It clones the next one, which fails only if it has too many owners:
+/// then it tries again, since the history has the event.
 fn show<O: Operator, N: Name, W: Wait>(
     rt: &W,
     writer: Writer<Shown, Shown, u64, Rises<O, N>>,

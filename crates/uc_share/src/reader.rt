@@ -98,8 +98,8 @@ impl<O: Operator, N: Name> Reader<O, N> {
         &self.front
     }
 
-    /// Pins what is shown now: the version after a history that begins with all that this reader had seen. It waits for
-    /// nobody. It is refused if too many own the version, and the reader has seen no more then.
+    /// Pins the current version: the one after a history that begins with all that this reader had seen. It never waits. Fails if
+    /// the version has too many owners, and the reader has seen no more then.
     pub fn pin(&mut self) -> Result<Pin<O, N>, AllocError>
         ensures seen { IsPrefix self.old self.new }
         ensures legal { MayFollow O.meaning N.base self.new }
@@ -119,7 +119,7 @@ impl<O: Operator, N: Name> Reader<O, N> {
         Ok(pin)
     }
 
-    /// Pins what is shown now, as [`pin`](Reader::pin) does. A refused pin is tried again.
+    /// Pins the current version, as [`pin`](Reader::pin) does. A failed pin is tried again.
     pub(crate) fn pin_at_last(&mut self, rt: &impl Wait) -> Pin<O, N>
         ensures seen { IsPrefix self.old self.new }
         ensures legal { MayFollow O.meaning N.base self.new }
@@ -134,8 +134,8 @@ impl<O: Operator, N: Name> Reader<O, N> {
         unreachable!()
     }
 
-    /// Pins until it has seen `shown`, the front of what is shown. Nothing else is shown meanwhile if the caller has what shows
-    /// it, so that the first turn is the last; a refused pin is tried again.
+    /// Pins until it has seen `shown`, the front of what is shown. If the caller has the publisher, nothing else can be shown, so
+    /// that the first turn is the last; a failed pin is tried again.
     pub fn sees(&mut self, rt: &impl Wait, shown: &Front<N>)
         ensures seen { IsPrefix self.old self.new }
         ensures legal { MayFollow O.meaning N.base self.new }

@@ -36,7 +36,7 @@ impl Share {
         })
     }
 
-    /// The same share once more. It fails only if too many hold it.
+    /// Another handle to the same share. Fails only if it has too many owners.
     pub(crate) fn again(&self) -> Result<Share, AllocError>
         ensures { IfOk result (λ share. share ≡ self.now) }
     {

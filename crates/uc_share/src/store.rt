@@ -90,7 +90,7 @@ impl<O: Operator, N: Name, W: Wait + Drop> Store<O, N, W> {
         let _ = &self.options;
     }
 
-    /// Whether the slot is taken, at one moment during the call. The seat stays as it was. It waits for nobody.
+    /// Whether the slot is taken, at some point during the call. The seat is unchanged. It never waits.
     pub fn busy(&self, seat: &mut Seat, slot: usize) -> bool
         requires table { seat.old.table ≡ self.now.table }
         requires below { slot < MOST_SLOTS }
@@ -100,7 +100,7 @@ impl<O: Operator, N: Name, W: Wait + Drop> Store<O, N, W> {
         self.words.busy(seat, slot)
     }
 
-    /// A flag for each slot: whether it is taken, each at a moment during the call.
+    /// A flag for each slot: whether it is taken, each at some point during the call.
     fn busy_slots(&self, seat: &mut Seat) -> [bool; MOST_SLOTS]
         requires { seat.old.table ≡ self.now.table }
         ensures seat { seat.new ≡ seat.old }
@@ -171,8 +171,8 @@ impl<O: Operator, N: Name, W: Wait + Drop> Store<O, N, W> {
         }
     }
 
-    /// Pins what is shown now: the version after a history that begins with all that this reader had seen. It waits for nobody.
-    /// It is refused if too many own the version, and the reader has seen no more then.
+    /// Pins the current version: the one after a history that begins with all that this reader had seen. It never waits. Fails if
+    /// the version has too many owners, and the reader has seen no more then.
     pub fn pin(&self, reader: &mut Reader<O, N>) -> Result<Pin<O, N>, AllocError>
         ensures seen { IsPrefix reader.old reader.new }
         ensures legal { MayFollow O.meaning N.base reader.new }
@@ -183,11 +183,11 @@ impl<O: Operator, N: Name, W: Wait + Drop> Store<O, N, W> {
         reader.pin()
     }
 
-    /// Puts what was compacted of the claimed runs in their place, for all readers at once, and shows it to this one. Of several
-    /// refusals the first of these is answered: `WrongInputs`, `WrongKeeps`, `Stale`, `IdsSpent`; and `Memory` only if none of
-    /// these holds. What [`Held::compact`] makes is never told the first two, whatever was fed, kept, released and installed
-    /// meanwhile. The inputs' points are compared before the lock is taken, and none after it. It waits for other installs,
-    /// and for readers that still look at the version before.
+    /// Puts the compaction of the claimed runs in their place, for all readers atomically, and shows it to this one. Of several
+    /// errors the first of these is returned: `WrongInputs`, `WrongKeeps`, `Stale`, `IdsSpent`; and `Memory` only if none of these
+    /// holds. The result of [`Held::compact`] never fails with the first two, whatever was fed, kept, released and installed since.
+    /// The inputs' points are compared before the lock is taken, and none under it. It waits for other installs, and for readers of
+    /// the previous version.
     pub fn install(
         &self,
         rt: &impl Wait,

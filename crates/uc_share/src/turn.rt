@@ -34,7 +34,7 @@ pub enum Turn {
     Installed,
 }
 
-/// The outcome of a turn whose claim is refused: another compactor was faster, or memory ran out.
+/// The outcome of a turn whose claim fails: another compactor was faster, or allocation failed.
 fn refused_turn(error: ClaimError) -> Result<Turn, InstallError>
     ensures { result ≡ turns.refused_turn error }
 {
@@ -98,8 +98,8 @@ impl<O: Operator + Sync, N: Name, W: Wait + Drop> Store<O, N, W> {
         }
     }
 
-    /// Compacts a claim and installs what comes of it, which compares no points: what was compacted are the claimed runs. The claim
-    /// is abandoned then, and also if that is refused.
+    /// Compacts a claim and installs the result, without a comparison of points: the inputs are the claimed runs. If either fails,
+    /// the claim is abandoned.
     fn compact_held(
         &self,
         rt: &(impl Threads + Wait + Sync),

@@ -1,8 +1,8 @@
 //! [`TurnGate`]: what a compactor calls between the steps of a turn.
 use std::marker::Sync;
 
-/// A gate, which a compactor calls between the steps of a turn. A gate may hold it up as long as it likes, so that tests choose what others
-/// do meanwhile. Whatever it does, the turn keeps its contract.
+/// A gate, which a compactor calls between the steps of a turn. A gate may delay it as long as it likes, so that tests choose what
+/// others do in that time. Whatever it does, the turn keeps its contract.
 pub trait TurnGate: Sync {
     /// Called if a stretch is picked, before it is claimed.
     fn picked(&self);

@@ -68,7 +68,7 @@ impl Words {
         Ok((Words { table }, seats))
     }
 
-    /// Whether the slot is taken, at one moment during the call.
+    /// Whether the slot is taken, at some point during the call.
     pub(crate) fn busy(&self, seat: &mut Seat, slot: usize) -> bool
         requires table { seat.old.table ≡ self.now }
         requires below { slot < MOST_SLOTS }

@@ -1,4 +1,4 @@
--- A batch that is fed behind a last sequence which was looked up before is fed behind the last sequence of its moment.
+-- A batch that is fed after a last sequence number which was read earlier is fed after the last sequence number at that time.
 use Rattle.std.proofs.Common.{◌≡◌, ℕ, ◌+◌, ◌≤◌, List, [], ◌∷◌, ◌++◌, fold, length, refl, ap, sym, ◌∙◌, subst, arith}
 use mathlib.Core.List.{IsPrefix}
 use Rattle.uc_bytes.specs.declared.op.Op.{Op}
@@ -43,7 +43,7 @@ rises_behind m base seen before front may =
     subst (λ (es : List Event). (fold after base seen).last ≤ (fold after base es).last) front.1
     (subst (λ (v : Stored). (fold after base seen).last ≤ v.last) (sym (after_joined base seen front.0)) (rises m (fold after base seen) front.0 follow))
 
--- ---- so the feed was made behind the same one
+-- ---- so the feed was made after the same one
 
 same_numbers : (looked last : ℕ) (ops : List Op) → looked ≤ last → IsRising last (numbered (looked + 1) ops) → numbered (looked + 1) ops ≡ numbered (last + 1) ops
 same_numbers looked last [] low rising = refl

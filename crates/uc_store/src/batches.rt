@@ -24,11 +24,11 @@ pub(crate) fn numbered(alloc: Global, mut seq: u64, ops: Vec<Op>) -> Result<Vec<
     Ok(writes)
 }
 
-/// Feeds operations as one batch (LevelDB, `WriteBatch`): their sequences go on from the store's last one. Returns how many runs
-/// there are more, as [`Owned::feed`] does. If they don't fit one batch, the store doesn't take them or memory runs out,
-/// the store is as it was.
+/// Feeds operations as one batch (LevelDB, `WriteBatch`): they get the sequence numbers after the store's last one. Returns the
+/// number of new runs, as [`Owned::feed`] does. If they don't fit one batch, if the store rejects them or if allocation fails, the
+/// store is unchanged.
 ///
-/// A log has the same batch, if `write_batch` of uc_batch spells it with the sequence after the last one.
+/// A log has the same batch, if `write_batch` of uc_batch encodes it with the sequence number after the last one.
 pub fn feed_batch<O: Operator>(
     alloc: Global,
     store: &mut Owned<O>,

@@ -1,4 +1,4 @@
-//! [`next_compactor`]: who compacts a store that threads share.
+//! [`next_compactor`]: a compactor for a store that threads share.
 ghost use Rattle.std.specs.Prelude.{◌≡◌, ◌⊎◌, ◌++◌, ◌∷◌, [], All, IfNone, IfSome};
 
 use std::sync::Wait;

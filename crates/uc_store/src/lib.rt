@@ -1,23 +1,22 @@
 //! The stores for programs: one crate to name.
 //!
-//! A [`LiveStore`] is the one to begin with. It has one owner, gathers single writes, flushes and compacts by itself:
-//! [`LiveStore::open`] opens it from the bytes of a write-ahead log, [`LiveStore::write`] writes, [`LiveStore::get`] and
-//! [`LiveStore::scan`] read, [`LiveStore::snapshot`] takes a snapshot. Other threads read a [`View`] of it, and run its
-//! compactions as [`Job`]s. It comes from `uc_live`. A [`Checkpoint`] of a view is its rows as a log that a store opens from.
+//! Begin with a [`LiveStore`]. It has one owner, takes single writes, and flushes and compacts automatically: [`LiveStore::open`]
+//! opens it from the bytes of a write-ahead log, [`LiveStore::write`] writes, [`LiveStore::get`] and [`LiveStore::scan`] read,
+//! [`LiveStore::snapshot`] takes a snapshot. Other threads read a [`View`] of it, and run its compactions as [`Job`]s. It comes
+//! from `uc_live`. A [`Checkpoint`] of a view is its rows as a log that a store opens from.
 //!
-//! An [`Owned`] store shows its runs, and its owner says what is compacted. [`open_log`] opens one from the bytes of a log, and says
-//! how far the log could be read; [`open_pieces`] lets go of the log meanwhile. Both take [`Workers`] first: [`Alone`], or
-//! [`InThreads`], which opens it sooner. [`get`] looks a key up at a sequence that a snapshot protects, [`answer_one`] answers any
+//! An [`Owned`] store shows its runs, and its owner chooses compactions. [`open_log`] opens one from the bytes of a log, and
+//! returns how far the log could be read; [`open_pieces`] frees the log as it reads it. Both take [`Workers`] first: [`Alone`], or
+//! [`InThreads`], which is faster. [`get`] looks up a key at a sequence number that a snapshot protects, [`answer_one`] answers any
 //! query and [`answer_plain`] a batch of them by many workers. [`feed_batch`] writes, and [`get_last`] and [`answer_last`] read at
-//! the last sequence. [`Owned`] takes snapshots, and picks what to compact; [`report`] says what a store holds.
+//! the last sequence number. [`Owned`] takes snapshots, and picks compactions; [`report`] lists a store's contents.
 //!
-//! [`open_shared`] opens a [`Store`] that threads share. [`feed_shared_batch`]
-//! writes to it, [`Store::keep`] and [`Store::release`] take and release snapshots, and [`Store::turn`] compacts for a
-//! [`Compactor`]. A [`Reader`] pins versions without waiting, and [`answer_all`] answers a batch by workers that have a reader
-//! each.
+//! [`open_shared`] opens a [`Store`] that threads share. [`feed_shared_batch`] writes to it, [`Store::keep`] and [`Store::release`]
+//! take and release snapshots, and [`Store::turn`] compacts for a [`Compactor`]. A [`Reader`] pins versions without waiting, and
+//! [`answer_all`] answers a batch by workers that have a reader each.
 //!
-//! Begin with `opened_log.rt`, `batches.rt` and `last_reads.rt`, then `opened_shared.rt` and `shared_batches.rt`; all else is given
-//! out from the crates below.
+//! Begin with `opened_log.rt`, `batches.rt` and `last_reads.rt`, then `opened_shared.rt` and `shared_batches.rt`; all else is
+//! re-exported from the crates below.
 //!
 //! Tests: `uc_examples_library`.
 #![tactic(auto)]

@@ -22,7 +22,7 @@ pub struct OpenedLog<O: Operator> {
     pub ended: Ended,
 }
 
-/// The store of a version, beside how the log ended that the version was made of.
+/// The store of a version, and how the log ended from which the version was made.
 fn store_of<O: Operator>(
     alloc: Global,
     version: Version,
@@ -38,12 +38,12 @@ fn store_of<O: Operator>(
 }
 
 /// Opens a store from the bytes of a write-ahead log, as point-in-time recovery does (RocksDB wiki, "WAL Recovery Modes"): it has
-/// the writes before the log's first fault, and `ended` says whether there was one. Reads are made at the sequences `keeps`,
-/// in any order, and at the last one. It is refused for the first of these: an option out of its range, a sequence of `keeps`
-/// above the last one, more runs than slots; and for want of memory. It goes once over the log.
+/// the writes before the log's first fault, and `ended` says whether there was one. Reads are possible at the sequence numbers
+/// `keeps`, in any order, and at the last one. Fails, in this order, if an option is out of range, if a number of `keeps` is above
+/// the last sequence number, or if there are more runs than slots; and if allocation fails. It reads the log once.
 ///
-/// These workers flush full memtables. What it gives is the same for all workers, and so is what it refuses. If threads flush, it
-/// holds up to six more memtables meanwhile.
+/// The workers flush full memtables. The result and the errors are the same for all workers. If threads flush, up to six more
+/// memtables are in memory while it runs.
 pub fn open_log<O: Operator, W: Workers>(
     workers: &W,
     alloc: Global,
@@ -68,8 +68,8 @@ pub fn open_log<O: Operator, W: Workers>(
     Ok(store_of(alloc, version, ended, options)?)
 }
 
-/// As [`open_log`], of a log in pieces, as a program reads them from a file or a pipe. Each piece is let go of when its
-/// writes are in the store, so the whole log never stands beside the whole store.
+/// As [`open_log`], of a log in pieces, as a program reads them from a file or a pipe. Each piece is freed once its writes are in
+/// the store, so the whole log and the whole store are never in memory together.
 pub fn open_pieces<O: Operator, W: Workers>(
     workers: &W,
     alloc: Global,

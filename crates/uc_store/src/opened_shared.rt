@@ -23,9 +23,9 @@ pub struct OpenedShared<O: Operator> {
 }
 
 /// Opens a store that threads share from the bytes of a write-ahead log, as [`open_log`](crate::open_log) opens one for one owner:
-/// for 1 to 128 `readers`, and up to 64 `seats`, one for each compactor. It is refused for the first of these: a number of readers
-/// or seats out of its range, an option out of its range, a sequence of `keeps` above the last one, more runs than slots; and for
-/// want of memory. It goes once over the log, and these workers flush full memtables.
+/// for 1 to 128 `readers`, and up to 64 `seats`, one for each compactor. Fails, in this order, if a number of readers or seats is
+/// out of range, if an option is out of range, if a number of `keeps` is above the last sequence number, or if there are more runs
+/// than slots; and if allocation fails. It reads the log once, and these workers flush full memtables.
 pub fn open_shared<O: Operator, W: Workers>(
     workers: &W,
     alloc: Global,

@@ -24,9 +24,9 @@ fn last_shown<O: Operator, N: Name>(reader: &mut Reader<O, N>) -> Result<u64, Al
     Ok(pin.version().last())
 }
 
-/// Feeds operations as one batch (LevelDB, `WriteBatch`): their sequences go on from the store's last one. Returns how many runs
-/// there are more, as [`Store::feed`] does. If they don't fit one batch, the store doesn't take them or memory runs out,
-/// nothing is fed. If another thread feeds between the look at the last sequence and this feed, the store refuses it with
+/// Feeds operations as one batch (LevelDB, `WriteBatch`): they get the sequence numbers after the store's last one. Returns the
+/// number of new runs, as [`Store::feed`] does. If they don't fit one batch, if the store rejects them or if allocation fails,
+/// nothing is fed. If another thread feeds after the last sequence number was read and before this feed, the store returns
 /// [`FeedError::Back`](crate::FeedError::Back), and the caller may try again. It waits as [`Store::feed`] does.
 pub fn feed_shared_batch<O: Operator, N: Name, W: Wait + Drop>(
     rt: &impl Wait,

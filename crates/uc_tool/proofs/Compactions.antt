@@ -14,7 +14,7 @@ use Rattle.uc_tool_io.specs.declared.run_error.RunError.{RunError}
 use Rattle.uc_tool_io.specs.declared.run_error.RunError.TheVariants as run_error
 use Rattle.uc_tool_io.proofs.Printing.{GoesOn, all_printed, goes_next, stops_next}
 
--- Of all the compactions those from here are still to come, so many at the most.
+-- Of all compactions, those from here on are still to come, at most `left` of them.
 pub record CompactsOn (m : Operation) (all : Compactions) (left : ℕ) (here : Owner) (old now : Option (List ℕ)) : Type 0 where
   pub owner : (compactions m left here).owner ≡ all.owner
   pub lines : GoesOn all.lines (compactions m left here).lines old now
@@ -55,7 +55,7 @@ module _ (m : Operation) (all : Compactions) (left : ℕ) (here : Owner) (old no
     nothing_picked taken = ap (λ (n : ℕ). compactions m n here) more ∙ taken (compactions m rest)
 
     module _ (line : Vec ℕ) where
-      -- a refusal ends them
+      -- an error ends them
       module _ (taken : IsStep m here (step.Last line) next) where
         last_is : compactions m left here ≡ last_line line.items next
         last_is = ap (λ (n : ℕ). compactions m n here) more ∙ taken (compactions m rest)

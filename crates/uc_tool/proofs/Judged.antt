@@ -1,4 +1,4 @@
--- What is known of a script that was judged, by the laws on scripts.
+-- Facts of a validated script, by the laws on scripts.
 use Rattle.std.proofs.Common.{◌≡◌, ℕ, ◌+◌, ◌^◌, ◌≤◌, List, [], ◌∷◌, ◌++◌, All, Result, Ok, Err, length, drop, length-append, arith}
 use Rattle.std.specs.Prelude.{IfOk}
 use Rattle.std.specs.List.{AllByRecursion, flat_map}
@@ -20,7 +20,7 @@ use Rattle.uc_tool_io.specs.declared.input.TheConstants.{INPUT_LIMIT}
 use Rattle.uc_tool_opening.specs.Opening.{FitsLog}
 use Rattle.uc_tool.specs.Play.{FitLogs}
 
--- the result of judging a script
+-- the result of validating a script
 abbrev pub Judges : List ℕ → Result Preamble ScriptError → Type 0
 Judges input result = Gives (λ (preamble : Preamble). script_with preamble (drop preamble.size input)) result (script_of input)
 

@@ -1,4 +1,4 @@
--- What is printed by a store that opened, and then its replies.
+-- The output of a store that opened, followed by its replies.
 use Rattle.std.proofs.Common.{◌≡◌, ℕ, ◌+◌, List, ◌∷◌, Option, None, Result, codes, ap, sym, ◌∙◌, subst}
 use Rattle.std.specs.Io.KnownBytes.{Appends}
 use Rattle.uc_oper.specs.Operation.{Operation}

@@ -1,4 +1,4 @@
--- What a report on a store prints, part after part.
+-- The output of a report on a store, part after part.
 use Rattle.std.proofs.Common.{◌≡◌, ℕ, Bool, true, false, List, [], ◌∷◌, ◌++◌, length, Option, None, Result, Err, refl, ap, sym, ◌∙◌, subst}
 use Rattle.std.specs.Prelude.{OnOk, OnErr, IfErr}
 use Rattle.std.specs.Io.KnownBytes.{Appends}
@@ -26,7 +26,7 @@ pub one_reply : (reply sent : List ℕ) (old after : Option (List ℕ)) (r : Res
 one_reply reply sent old after r is ok err device =
     subst (λ (l : List ℕ). Prints (l ∷ []) old after r) is (sent_or_stopped (sent ∷ []) sent old old after r (λ new q p. p) ok err device)
 
--- Replies in three parts, each of which is printed behind the one before.
+-- Replies in three parts, each of which is printed after the one before.
 module _ (xs ys zs : List (List ℕ)) where
   stops_in_first : (a b : Option (List ℕ)) (e : RunError) → Stops xs a b e → Stops (xs ++ (ys ++ zs)) a b e
   stops_in_first a b e p = stops_within xs (ys ++ zs) a b e p
@@ -70,7 +70,7 @@ module _ (m : Operation) (version : Stored) (options : Options) (start : Owner) 
 
 -- ---- the opening
 
--- what isn't refused has good options
+-- an opening that doesn't fail has valid options
 good_of : (good : Bool) (ahead : Option ℕ) (few : Bool) → first_refusal good ahead few ≡ None → good ≡ true
 good_of true ahead few e = refl
 good_of false ahead few e = absurd cc

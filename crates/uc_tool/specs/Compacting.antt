@@ -1,4 +1,4 @@
--- What one compaction of a log's store comes to.
+-- The result of one compaction of a log's store.
 use Rattle.std.specs.Prelude.{◌≡◌}
 use Rattle.uc_oper.specs.Operation.{Operation}
 use Rattle.uc_version.specs.Owners.{Owner}

@@ -1,4 +1,4 @@
--- What a script's run prints.
+-- The output of a script's run.
 use Rattle.std.specs.Prelude.{ℕ, ◌+◌, ⊤, List, [], ◌∷◌, length, codes, Option, Some, None, Result, Ok, Err}
 use Rattle.uc_oper.specs.Operation.{Operation}
 use Rattle.uc_batch.specs.Batch.{numbered}
@@ -85,7 +85,7 @@ output_of m version options calls = record {
   done = Fine;
 }
 
--- what is printed of an opening and calls, by why it is refused, if it is
+-- the output for an opening and calls, by the opening's error, if it has one
 abbrev pub unless_refused : Operation → Opening → List Call → Option OpenError → Output
 unless_refused m o calls (Some error) = refused (opening_refusal_line error)
 unless_refused m o calls None = output_of m (opened o) o.options calls
@@ -102,11 +102,11 @@ played m options (Ok script) = script_output m options script
 abbrev pub play_of : Operation → Options → List ℕ → Output
 play_of m options input = played m options (script_of input)
 
--- what refuses a script, by what is read of its bytes
+-- the cause that rejects a script, by what is read of its bytes
 abbrev pub script_cause : Options → List ℕ → Result Script ℕ → Option Cause
 script_cause options input (Err line) = Some (AtLine source.Script input line)
 script_cause options input (Ok script) = opening_cause (opening_of options script)
 
--- what the run of a script's bytes is refused for, under options, if it is
+-- the cause why the run of a script's bytes fails, under options, if it does
 abbrev pub cause_of : Options → List ℕ → Option Cause
 cause_of options input = script_cause options input (script_of input)

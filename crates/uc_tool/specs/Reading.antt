@@ -1,4 +1,4 @@
--- What is printed for a script's calls, by its writes alone.
+-- The output for a script's calls, by its writes alone.
 use Rattle.std.specs.Prelude.{◌≡◌, ◌+◌, ⊤, List, ◌∷◌, codes}
 use Rattle.std.specs.List.{AllZip}
 use Rattle.uc_oper.specs.Operation.{Operation}

@@ -1,4 +1,4 @@
--- What the report on a log prints.
+-- The output of the report on a log.
 use Rattle.std.specs.Prelude.{ℕ, zero, suc, List, [], ◌∷◌, ◌++◌, length, Option, Some, None, if◌then◌else◌}
 use Rattle.uc_oper.specs.Operation.{Operation}
 use Rattle.uc_bytes.specs.declared.write.Write.{Write}
@@ -43,8 +43,8 @@ last_line line o = record { lines = line ∷ []; owner = o }
 abbrev pub behind_line : List ℕ → Compactions → Compactions
 behind_line line others = record { lines = line ∷ others.lines; owner = others.owner }
 
--- what is picked is compacted, and it goes on from what is then; where no id is left the refusal ends it, and where nothing is
--- picked it ends too
+-- the picked stretch is compacted, and the compactions continue from the result; if no id is left the error ends them, and if
+-- nothing is picked they end too
 abbrev pub after_pick : Operation → Owner → Option Stretch → (Owner → Compactions) → Compactions
 after_pick m o None others = no_more o
 after_pick m o (Some stretch) others =
@@ -55,8 +55,8 @@ after_pick m o (Some stretch) others =
 abbrev pub pick_of : Owner → Option Stretch
 pick_of o = picked o.options (candidates_of o.version (is_busy o))
 
--- As long as something is picked it is compacted, at most so many times. Each compaction leaves fewer runs, so that their
--- number is enough.
+-- Compacts as long as something is picked, at most as often as the number says. Each compaction leaves fewer runs, so their number
+-- is enough.
 abbrev pub compactions : Operation → ℕ → Owner → Compactions
 compactions m zero o = no_more o
 compactions m (suc n) o = after_pick m o (pick_of o) (λ next. compactions m n next)
@@ -76,7 +76,7 @@ output_of m o = record {
   done = Fine;
 }
 
--- what is printed of an opening, by why it is refused, if it is
+-- the output for an opening, by its error, if it has one
 abbrev pub unless_refused : Operation → Opening → Option OpenError → Output
 unless_refused m o (Some error) = refused (opening_refusal_line error)
 unless_refused m o None = output_of m (unclaimed (opened o) o.options)
@@ -87,7 +87,7 @@ of_writes m options writes =
     let o : Opening = record { writes = writes; keeps = []; options = options } in
     unless_refused m o (opening_refusal o)
 
--- a log that has a fault is refused; a torn tail is none
+-- a log that has a fault is rejected; a torn tail is none
 abbrev pub unless_faulty : Operation → Options → List Write → Ended → Output
 unless_faulty m options writes ended.Clean = of_writes m options writes
 unless_faulty m options writes (ended.Torn offset) = of_writes m options writes
@@ -101,6 +101,6 @@ reported m options log = unless_faulty m options log.list log.ended
 abbrev pub report_of : Operation → Options → List ℕ → Output
 report_of m options input = reported m options (log_writes input)
 
--- what the report on a log's bytes is refused for, under options, if it is
+-- the cause why the report on a log's bytes fails, under options, if it does
 abbrev pub cause_of : Options → List ℕ → Option Cause
 cause_of options input = log_cause options [] (log_writes input)

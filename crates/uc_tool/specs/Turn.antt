@@ -1,4 +1,4 @@
--- What one call to a store comes to, as lines.
+-- The result of one call to a store, as lines.
 use Rattle.std.specs.Prelude.{◌≡◌, ℕ, List, Ok}
 use Rattle.uc_oper.specs.Operation.{Operation}
 use Rattle.uc_query.specs.Names.{State}

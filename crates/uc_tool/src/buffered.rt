@@ -4,8 +4,8 @@ use std::io::{BufWriter, Write};
 use uc_tool_io::{Done, Refusal};
 use uc_tool_opening::Outcome;
 
-/// Lets a writer go. Nothing is written after a failed write: what the buffer holds then is given up, since its drop would
-/// try to write it again.
+/// Drops a writer. Nothing is written after a failed write: then the buffer's contents are discarded, since its drop would try to
+/// write them again.
 fn let_go<W: Write + Drop>(writer: BufWriter<W>, done: Done) {
     if done == Done::Device {
         let (_inner, _unwritten) = writer.into_parts();
@@ -14,7 +14,7 @@ fn let_go<W: Write + Drop>(writer: BufWriter<W>, done: Done) {
 
 /// Runs something through a buffer in front of a writer. Nothing is written after a write that failed.
 ///
-/// It is refused with [`Refusal::Memory`] if there is no memory for the buffer.
+/// Fails with [`Refusal::Memory`] if the buffer can't be allocated.
 pub fn through_buffer<W: Write + Drop, F: FnOnce(&mut BufWriter<W>) -> Outcome>(
     alloc: Global,
     inner: W,

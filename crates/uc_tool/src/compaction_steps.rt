@@ -19,7 +19,7 @@ use uc_version::{CompactError, InstallError, Owned, picks_can_be_claimed};
 enum Step {
     /// Nothing is picked.
     Nothing,
-    /// A compaction was refused, with this line.
+    /// A compaction failed, with this line.
     Last(Vec<u8>),
     /// A stretch was compacted, with this line.
     Compacted(Vec<u8>),

@@ -43,10 +43,10 @@ fn replies_are_answered_from_plain_writes<O: Operator>()
     asks_are_answered_from_plain_writes::<O>();
 }
 
-/// The text printed for the bytes of a script that is read and whose store opens: that it opened, and a reply to each of its
-/// calls. Whatever the script claims, compacts and installs in between, each of its `get` and `scan` lines has the reply that
-/// its plain writes so far give, those of the opening and those that were fed: one thread folding them with the operator. It
-/// has it at the sequences that are kept then. No feed is refused because its writes come too late.
+/// The output for the bytes of a script that is read and whose store opens: that it opened, and a reply to each of its calls.
+/// Whatever the script claims, compacts and installs between its reads, each of its `get` and `scan` lines has the reply of its
+/// plain writes up to that line, those of the opening and those that were fed: one thread folding them with the operator, at the
+/// sequence numbers that are kept then. No feed fails because its writes come too late.
 pub fn reads_are_answered_from_plain_writes<O: Operator>()
     ensures { (options : Options) (input : List ℕ) (script : Script) → length input ≤ INPUT_LIMIT →
         script_of input ≡ Ok script → opening_refusal (opening_of options script) ≡ None →

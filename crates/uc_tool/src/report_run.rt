@@ -61,8 +61,7 @@ fn print_reports<O: Operator + Sync, W: Write>(
     Ok(Done::Fine)
 }
 
-/// Opens the store that has taken some writes, and prints why it is refused, or the reports. It returns the reason beside its
-/// outcome.
+/// Opens the store that has taken some writes, and prints why that fails, or the reports. Returns the reason with its outcome.
 fn print_opened<O: Operator + Sync, W: Write>(
     rt: &(impl Threads + Sync),
     alloc: Global,
@@ -95,7 +94,7 @@ fn print_opened<O: Operator + Sync, W: Write>(
     }
 }
 
-/// Reports on a log, which is let go of piece by piece while a store is made from it.
+/// Reports on a log, whose pieces are freed while a store is made from it.
 fn run<O: Operator + Sync, W: Write>(
     rt: &(impl Threads + Sync),
     alloc: Global,
@@ -121,14 +120,13 @@ fn run<O: Operator + Sync, W: Write>(
     }
 }
 
-/// Opens a store from a write-ahead log under an operator, reports what it holds, compacts what universal compaction picks
-/// as long as it picks anything, printing a line for each compaction, and reports again.
+/// Opens a store from a write-ahead log under an operator, reports what it holds, compacts what universal compaction picks as long
+/// as it picks anything, printing a line for each compaction, and reports again.
 ///
-/// It writes the text of `report_of`, a function of the bytes that were read, the operator's meaning and the
-/// options. A log with a fault is refused with the line that says so, and an opening with the line that says why. If an
-/// allocation fails it is some whole first replies of that text, and then `out of memory`; if the reader or the writer
-/// fails, or the input is longer than 64 MiB, it is a front of a text that says so or of that one. An opening that is refused
-/// has a reason.
+/// It writes `report_of`, a function of the bytes that were read, the operator's meaning and the options. For a log with a fault,
+/// and for an opening that fails, that is one line with the reason. If allocation fails, it writes some first replies whole, and
+/// then `out of memory`. If the reader or the writer fails, or the input is longer than 64 MiB, it writes a prefix of these replies
+/// or of the error message. An opening that fails has a reason.
 pub fn report_log<O: Operator + Sync, R: Read, W: Write>(
     rt: &(impl Threads + Sync),
     alloc: Global,

@@ -31,7 +31,7 @@ use uc_version::Owned;
 use uc_version_open::OpenError;
 use uc_version_state::{Options, Version};
 
-/// Judges a script, and reads what stands up to its `open`.
+/// Validates a script, and reads the lines up to its `open`.
 fn judged(alloc: Global, input: &[u8]) -> Result<Preamble, ScriptError>
     requires { length input.now ≤ INPUT_LIMIT }
     ensures read { Gives (λ preamble. script_with preamble (drop preamble.size input.now)) result (script_of input.now) }
@@ -48,7 +48,7 @@ fn judged(alloc: Global, input: &[u8]) -> Result<Preamble, ScriptError>
     judge_script(alloc, input)
 }
 
-/// The bytes after the first `size` of a text, in the memory that the text had.
+/// The bytes after the first `size`, in the same memory.
 fn behind(mut text: Vec<u8>, size: usize) -> Vec<u8>
     requires { size ≤ vec_len text }
     ensures { result.items ≡ drop size text.items }
@@ -85,8 +85,8 @@ fn print_opened<O: Operator + Sync, W: Write>(
     Ok(Done::Fine)
 }
 
-/// Opens the store that a script asks for, and prints why it is refused, or that it opened and the replies to the calls that
-/// `lines` name, which stand after `open`. It returns the reason beside its outcome.
+/// Opens the store of a script, and prints why that fails, or that it opened and the replies to the calls of `lines`, which come
+/// after `open`. Returns the reason with its outcome.
 fn print_script<O: Operator + Sync, W: Write>(
     rt: &(impl Threads + Sync),
     alloc: Global,
@@ -119,7 +119,7 @@ fn print_script<O: Operator + Sync, W: Write>(
     }
 }
 
-/// Runs a script: opens its store and answers its calls. Of its text the lines after `open` alone are kept meanwhile.
+/// Runs a script: opens its store and answers its calls. Only the lines after `open` are kept while it runs.
 fn run<O: Operator + Sync, W: Write>(
     rt: &(impl Threads + Sync),
     alloc: Global,
@@ -147,17 +147,17 @@ fn run<O: Operator + Sync, W: Write>(
     }
 }
 
-/// Runs a script: reads it whole, checks all of it, writes its changes as a log, opens a store from that log, and
-/// carries out its calls in order, under an operator, printing each reply as soon as it is there.
+/// Runs a script: reads it whole, checks all of it, writes its changes as a log, opens a store from that log, and executes its
+/// calls in order, under an operator, printing each reply as soon as it is there.
 ///
-/// It writes the text of `play_of`, a function of the bytes that were read, the operator's
-/// meaning and the options. If an allocation fails it is some whole first replies of that text, and then
-/// `out of memory`; if the reader or the writer fails, or the input is longer than 64 MiB, it is a
-/// front of a text that says so or of that one. A script that is refused for a fault of a line or at its opening has a reason.
+/// It writes `play_of`, a function of the bytes that were read, the operator's meaning and the options. If allocation fails, it
+/// writes some first replies whole, and then `out of memory`. If the reader or the writer fails, or the input is longer than 64
+/// MiB, it writes a prefix of these replies or of the error message. A script that is rejected for a faulty line or at its opening
+/// has a reason.
 ///
-/// It reads at most 64 MiB and a byte, in at most 2^27 reads. Of the script, its changes, their log and the store no two are
-/// held but while the one is made from the other, apart from the lines after `open`: they are held to the end, and each call
-/// is read from them when its turn comes.
+/// It reads at most 64 MiB and a byte, in at most 2^27 reads. The script, its changes, their log and the store are each made from
+/// the one before, and no two are in memory except while the later one is made. The lines after `open` stay to the end, and each
+/// call is read from them when it is executed.
 pub fn play<O: Operator + Sync, R: Read, W: Write>(
     rt: &(impl Threads + Sync),
     alloc: Global,

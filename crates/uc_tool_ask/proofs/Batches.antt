@@ -9,7 +9,7 @@ use Rattle.uc_tool_io.specs.declared.run_error.RunError.TheVariants as run_error
 use Rattle.uc_tool_io.proofs.Parts.{prints_behind, stops_within}
 use Rattle.uc_tool_io.proofs.Printing.{GoesOn}
 
--- what comes of each element in turn, one behind the other
+-- the results for each element in turn, concatenated
 pub lines_are : {A B C : Type 0} (f : C → List ℕ) (g : B → C) (k : A → B) (xs : List A) → flat_map f (map g (map k xs)) ≡ joined (map (λ x. f (g (k x))) xs)
 lines_are f g k [] = refl
 lines_are f g k (x ∷ xs) = ap (λ (l : List ℕ). f (g (k x)) ++ l) (lines_are f g k xs)

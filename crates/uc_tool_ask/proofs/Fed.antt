@@ -1,4 +1,4 @@
--- Writes that were fed, as a reader goes on to see them.
+-- Writes that were fed, as a reader later sees them.
 use Rattle.std.proofs.Common.{◌≡◌, ℕ, List, [], ◌∷◌, ◌++◌, length, take, ap, sym, ◌∙◌}
 use Rattle.std.proofs.Math.Seq.{take-append_seam}
 use mathlib.Core.List.{IsPrefix}

@@ -18,7 +18,7 @@ module _ (front rest : List ℕ) (found : Found) (within : found.size ≤ length
       let same : take found.size (front ++ rest) ≡ take found.size front = take-append-le found.size front rest within in
       ap (said_in found) (sym same)
 
-  -- it is that of the input, since what stands behind the front changes nothing
+  -- it is that of the input, since the bytes after the front change nothing
   pub read_in_front : (input : List ℕ) → front ++ rest ≡ input → head_of front ≡ Ok (seen front found)
       → ((text more : List ℕ) (said : Head) → head_of text ≡ Ok said → head_of (text ++ more) ≡ Ok said)
       → head_of input ≡ Ok (seen input found)

@@ -1,4 +1,4 @@
--- What is printed for the queries in front of a log.
+-- The output for the queries in front of a log.
 use Rattle.std.specs.Prelude.{ℕ, ◌-◌, List, map, drop, take, length, codes, Option, Some, None, Result, Ok, Err}
 use Rattle.uc_oper.specs.Operation.{Operation}
 use Rattle.uc_bytes.specs.declared.write.Write.{Write}
@@ -35,7 +35,7 @@ replies_to m writes keeps last queries = map (reply_to m writes keeps last) quer
 abbrev pub output_of : Operation → Opening → List Asked → Output
 output_of m o queries = record { replies = replies_to m o.writes (opened o).keeps (opened o).last queries; done = Fine }
 
--- what is printed of an opening and queries, by why it is refused, if it is
+-- the output for an opening and queries, by the opening's error, if it has one
 abbrev pub unless_refused : Operation → Opening → List Asked → Option OpenError → Output
 unless_refused m o queries (Some error) = refused (opening_refusal_line error)
 unless_refused m o queries None = output_of m o queries
@@ -46,7 +46,7 @@ of_writes m options keeps queries writes =
     let o : Opening = record { writes = writes; keeps = keeps; options = options } in
     unless_refused m o queries (opening_refusal o)
 
--- a log that has a fault is refused; a torn tail is none
+-- a log that has a fault is rejected; a torn tail is none
 abbrev pub unless_faulty : Operation → Options → List ℕ → List Asked → List Write → Ended → Output
 unless_faulty m options keeps queries writes ended.Clean = of_writes m options keeps queries writes
 unless_faulty m options keeps queries writes (ended.Torn offset) = of_writes m options keeps queries writes
@@ -61,24 +61,25 @@ without_last later writes = take (length writes - later) writes
 abbrev pub of_log : Operation → Options → List ℕ → List Asked → ℕ → WriteLog → Output
 of_log m options keeps queries later log = unless_faulty m options keeps queries (without_last later log.list) log.ended
 
--- the first fault of the head, or what is printed of the log behind it
+-- the first fault of the head, or the output for the log after it
 abbrev pub asked_of : Operation → Options → ℕ → List ℕ → Result Head ℕ → Output
 asked_of m options later input (Err line) = refused (numbered_line (codes "fault line ") line)
 asked_of m options later input (Ok head) = of_log m options head.keeps head.queries later (log_writes (drop head.size input))
 
--- what is printed for the bytes of a head and a log, under an operator and options, where so many of the log's last writes come later
+-- the output for the bytes of a head and a log, under an operator and options, where the log's last `later` writes come later
 abbrev pub ask_of : Operation → Options → ℕ → List ℕ → Output
 ask_of m options later input = asked_of m options later input (head_of input)
 
--- what refuses a log whose last writes come later: a fault anywhere in it has no cause, and an opening is judged without these writes
+-- the cause that rejects a log whose last writes come later: a fault anywhere in it has no cause, and the opening is checked
+-- without these writes
 abbrev pub opened_cause : Options → List ℕ → ℕ → WriteLog → Option Cause
 opened_cause options keeps later log = log_cause options keeps (record log { list = without_last later log.list })
 
--- what refuses a head and the log behind it, by what is read of the head
+-- the cause that rejects a head and the log after it, by what is read of the head
 abbrev pub head_cause : Options → ℕ → List ℕ → Result Head ℕ → Option Cause
 head_cause options later input (Err line) = Some (AtLine source.Head input line)
 head_cause options later input (Ok head) = opened_cause options head.keeps later (log_writes (drop head.size input))
 
--- what the bytes of a head and a log are refused for, under options, if they are
+-- the cause why the bytes of a head and a log are rejected, under options, if they are
 abbrev pub cause_of : Options → ℕ → List ℕ → Option Cause
 cause_of options later input = head_cause options later input (head_of input)

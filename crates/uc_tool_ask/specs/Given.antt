@@ -1,4 +1,4 @@
--- What is printed for queries from the plain writes that a store was given.
+-- The output for queries, from the plain writes that a store was given.
 use Rattle.std.specs.Prelude.{ℕ, List}
 use Rattle.uc_oper.specs.Operation.{Operation}
 use Rattle.uc_script.specs.declared.query.Query.{Query as Asked}

@@ -1,4 +1,4 @@
--- What says that an input has no head.
+-- The error of an input without a head.
 use Rattle.std.specs.Prelude.{◌≡◌, ℕ, List, Err}
 use Rattle.uc_script.specs.Head.{head_of}
 use Rattle.uc_tool_ask.specs.declared.parted_input.PartError.{PartError}

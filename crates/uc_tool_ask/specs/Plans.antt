@@ -1,4 +1,4 @@
--- How many threads answer and compact, and how the queries are cut.
+-- Numbers of threads that answer and compact, and of queries in a piece.
 use Rattle.std.specs.Prelude.{ℕ, ◌<◌, ◌≤◌}
 use Rattle.uc_query_workers.specs.declared.ask_error.TheConstants.{MOST_WORKERS}
 use Rattle.uc_tool_ask.specs.declared.plan.TheConstants.{MOST_COMPACTORS}

@@ -69,7 +69,7 @@ fn queries_of(
 }
 
 /// The lines of the answers to some lines of a head, and the readers, as many as before. As the store's keeps stay, each query has
-/// one answer, whatever is installed meanwhile.
+/// one answer, whatever is installed while they run.
 fn lines_of<O: Operator + Sync, N: Name + Send, R: Threads + Sync>(
     rt: &R,
     alloc: Global,

@@ -1,4 +1,4 @@
-//! `ask`: the queries in front of a log, answered beside compactors and a feeder.
+//! `ask`: the queries in front of a log, answered while compactors and a feeder run.
 ghost use denote.Param.Send.{IsSync, IsSend};
 ghost use Rattle.std.specs.Prelude.{◌≡◌, ◌+◌, ◌≤◌, List, None, true, vec_len};
 ghost use Rattle.uc_share.specs.Stores.{IsNamed};
@@ -39,15 +39,15 @@ use uc_tool_opening::{
 };
 use uc_version_open::{InThreads, OpenError, Opener, Recovered, no_refusal_is_leave_to_open};
 
-/// The end of a run, and what was done to the store meanwhile.
+/// The end of a run, and the changes of the store while it ran.
 type Asked = (Result<Done, RunError>, Beside);
 
-/// The report of a run beside its end.
+/// The report of a run and its end.
 #[derive(Drop)]
 struct Told {
-    /// Why it was refused.
+    /// Why it failed.
     reason: Option<Reason>,
-    /// The counts of what was done to the store meanwhile.
+    /// The counts of changes of the store while it ran.
     beside: Beside,
 }
 
@@ -73,8 +73,8 @@ impl Told {
 /// The end of a run, and its report.
 type Worked = (Result<Done, RunError>, Told);
 
-/// Prints the answers to the queries of a head while a crew compacts and a feeder feeds, which have ended when it returns. They
-/// are moved to their thread: what is lent to both closures can be followed through one of them alone.
+/// Prints the answers to the queries of a head while a crew compacts and a feeder feeds, which have ended when it returns. They are
+/// moved to their thread: a value that both closures borrow can be followed through only one of them.
 fn answer_beside_crew<O, N, W, G, R, V>(
     rt: &R,
     alloc: Global,
@@ -110,8 +110,8 @@ where
     (printed, beside)
 }
 
-/// Names a store that threads share, and prints the answers to the queries of a head while compactors compact it and a feeder
-/// feeds these writes, if a reader is left for it. Nobody keeps a sequence or releases one meanwhile.
+/// Names a store that threads share, and prints the answers to the queries of a head while compactors compact it and a feeder feeds
+/// these writes, if a reader is left for it. Nobody takes or releases a snapshot in that time.
 fn answer_shared<O, N, G, R, V>(
     rt: &R,
     alloc: Global,
@@ -165,8 +165,8 @@ fn feeders_of(behind: &[LogWrite]) -> usize
     if behind.is_empty() { 0 } else { 1 }
 }
 
-/// Opens the store that has taken some writes, and prints why it is refused, or the answers to the queries of a head. The writes
-/// after those come meanwhile.
+/// Opens the store that has taken some writes, and prints why that fails, or the answers to the queries of a head. The writes after
+/// those are fed while the queries run.
 fn print_opened<O: Operator + Send + Sync, G: TurnGate, R: Threads + Wait + Sync, V: Write>(
     rt: &R,
     alloc: Global,
@@ -192,7 +192,7 @@ fn print_opened<O: Operator + Send + Sync, G: TurnGate, R: Threads + Wait + Sync
         let opening : OpeningOf = record { writes = writes; keeps = keeps.now; options = options.now } in
         OnOk result.0 (TellsOpening (opening_cause opening) result.1.reason) }
 {
-    // A law of the layer below, which does nothing when it runs: what isn't refused may open.
+    // A law of the layer below, which does nothing when it runs: without a refusal the store may open.
     no_refusal_is_leave_to_open();
     match opener.finish(&InThreads(rt), alloc, keeps) {
         Ok(version) => {
@@ -215,7 +215,7 @@ fn print_opened<O: Operator + Send + Sync, G: TurnGate, R: Threads + Wait + Sync
     }
 }
 
-/// Answers the queries of a head over the log that stands after it, whose last writes come meanwhile.
+/// Answers the queries of a head over the log after it, whose last writes are fed while the queries run.
 fn answer_log<O: Operator + Send + Sync, G: TurnGate, R: Threads + Wait + Sync, V: Write>(
     rt: &R,
     alloc: Global,
@@ -258,7 +258,7 @@ fn answer_log<O: Operator + Send + Sync, G: TurnGate, R: Threads + Wait + Sync, 
     }
 }
 
-/// Answers the queries in front of a log, or prints why they are refused.
+/// Answers the queries in front of a log, or prints why they fail.
 fn run<O: Operator + Send + Sync, G: TurnGate, R: Threads + Wait + Sync, V: Write>(
     rt: &R,
     alloc: Global,
@@ -321,22 +321,20 @@ pub fn ask_through<O: Operator + Send + Sync, R: Read, W: Write, G: TurnGate>(
 }
 
 /// Answers the queries in front of a log: reads all of the input, checks its head, opens a store from the log after that, and
-/// prints the answers in the order of the queries. `workers` threads answer pieces of `piece` queries, from the versions that are
-/// shown meanwhile, while `compactors` threads compact what universal compaction picks, each until nothing is picked, an
-/// allocation fails, or it took 256 turns. The store opens without the log's last `later` writes: without all, where there are
-/// fewer. One thread more feeds them to it meanwhile, one by one, until one is refused. All threads have ended when it returns,
-/// which says what they did to the store.
+/// prints the answers in the order of the queries. `workers` threads answer pieces of `piece` queries, from the current versions,
+/// while `compactors` threads compact what universal compaction picks, each until nothing is picked, an allocation fails, or it
+/// took 256 turns. The store opens without the log's last `later` writes, or without any if there are fewer. One more thread feeds
+/// these while the queries run, one by one, until one fails. All threads have ended when it returns.
 ///
-/// It writes the text of `ask_of`, a function of the bytes that were read, the operator's meaning, the options and
-/// `later`: not of workers, pieces or compactors, nor of how many writes were fed and when. It is the text of the log without
-/// its last `later` writes, but a fault anywhere in the log is told. A fault of the head is refused with the line that it stands
-/// in, then a log with a fault, and then an opening. If an allocation fails it is some whole first replies of that text, and then
-/// `out of memory`; if the reader or the writer fails, or the input is longer than 64 MiB, it is a front of a text that says so or
-/// of that one. A head or an opening that is refused has a reason.
+/// It writes `ask_of`, a function of the bytes that were read, the operator's meaning, the options and `later`. The output doesn't
+/// depend on workers, pieces or compactors, nor on the number of writes that were fed and when. It is the output for the log
+/// without its last `later` writes, except that a fault anywhere in the log is reported. Faults are checked in this order: the
+/// head, with the number of its line, the log, the opening. If allocation fails, it writes some first replies whole, and then `out
+/// of memory`. If the reader or the writer fails, or the input is longer than 64 MiB, it writes a prefix of these replies or of the
+/// error message. A head or an opening that fails has a reason.
 ///
-/// If `later` is 0 it goes once over the log. It holds the log in pieces, and lets go of each as soon as the store has its
-/// writes. Else it goes twice over the log in one piece, and then holds the last writes beside the store. In both cases it holds
-/// the head's bytes too.
+/// If `later` is 0, it reads the log once, in pieces, and frees each piece as soon as the store has its writes. Otherwise it reads
+/// the log twice, in one piece, and then holds the last writes as well as the store. In both cases it holds the head's bytes too.
 ///
 /// [`is_plan`](crate::is_plan) says which numbers go together.
 pub fn ask<O: Operator + Send + Sync, R: Read, W: Write>(

@@ -12,14 +12,14 @@ use std::thread::{Threads, join};
 use uc_oper::Operator;
 use uc_share::{Compactor, Name, Store, TurnGate};
 
-/// The counts of what was done to a store beside the answers.
+/// The counts of changes of a store while its queries were answered.
 #[derive(Clone, Copy, Debug, PartialEq, Eq)]
 pub struct Beside {
     /// The number of installs that its compactors made.
     pub installs: u64,
     /// The number of writes that were fed to it.
     pub fed: u64,
-    /// The number of writes that weren't, since the store refused one, or memory was refused.
+    /// The number of writes that weren't fed, since the store rejected one, or allocation failed.
     pub left: u64,
 }
 
@@ -36,7 +36,7 @@ impl Beside {
     }
 }
 
-/// The helpers beside the answers: a crew of compactors, and a feeder, if there is one.
+/// The threads that run with the workers: a crew of compactors, and a feeder, if there is one.
 #[derive(Drop)]
 pub(crate) struct Helpers<O: Operator, N: Name> {
     pub(crate) crew: Vec<Compactor<O, N>>,

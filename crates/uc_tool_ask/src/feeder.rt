@@ -18,7 +18,7 @@ pub(crate) struct Feeder<O: Operator, N: Name> {
     pub(crate) writes: Vec<Write>,
 }
 
-/// A feeder of these writes, if a reader is left beside those that the workers need.
+/// A feeder of these writes, if a reader is left besides those that the workers need.
 pub(crate) fn feeder_of<O: Operator, N: Name>(
     workers: usize,
     readers: &mut Vec<Reader<O, N>>,
@@ -55,8 +55,8 @@ fn feed_one<O: Operator, N: Name, W: Wait + Drop>(
     }
 }
 
-/// Feeds writes one by one, until one is refused, and says how many were fed: the events of just these are among those that the
-/// reader then has seen more.
+/// Feeds writes one by one, until one fails, and returns the number of those that were fed: the events of just these are among the
+/// new ones that the reader has seen after the call.
 pub(crate) fn feed_all<O: Operator, N: Name, W: Wait + Drop>(
     rt: &impl Wait,
     alloc: Global,

@@ -12,9 +12,8 @@ use uc_batch::{Pieces, Write};
 use uc_version_open::{InThreads, Recovered, count_writes, recover_first, recover_pieces};
 use uc_version_state::Options;
 
-/// A store that is being opened from a log without its last writes, how far the log was read, and these writes. If nothing
-/// comes later it goes once over the log, and lets go of each piece that it has read. Else it makes one piece of the log, and
-/// goes twice over that.
+/// A store that is being opened from a log without its last writes, how far the log was read, and these writes. If no writes come
+/// later, it reads the log once and frees each piece that it has read. Otherwise it joins the pieces and reads the log twice.
 pub(crate) fn recover_part(
     rt: &(impl Threads + Sync),
     alloc: Global,

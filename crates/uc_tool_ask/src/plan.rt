@@ -4,7 +4,7 @@ ghost use Rattle.uc_tool_ask.specs.Plans.{IsPlan};
 
 use uc_query_shared::MOST_WORKERS;
 
-/// The most compactors that work beside a batch.
+/// The most compactors that run with a batch.
 pub const MOST_COMPACTORS: usize = 16;
 
 /// Whether queries can be answered by these numbers of workers, of queries in a piece, and of compactors: there are 1 to 64

@@ -17,7 +17,7 @@ use Rattle.uc_tool_io.proofs.Known.{appends_none}
 use Rattle.uc_tool_io.proofs.Printing.{GoesOn}
 use Rattle.uc_tool_io.proofs.Parts.{prints_behind, stops_within}
 
--- What is still printed of a log, and how far it is read, when the writes before this position are printed.
+-- The part of a log that is still to be printed, and how far it is read, when the writes before this position are printed.
 pub record DumpsOn (all : WriteLog) (position : BatchPosition) (old here : Option (List ℕ)) : Type 0 where
   pub lines : GoesOn (map write_line all.list) (map write_line position.ahead.list) old here
   pub ended : position.ahead.ended ≡ all.ended

@@ -29,7 +29,7 @@ pub begins_empty : (all : List (List ℕ)) (old : Option (List ℕ)) → GoesOn 
 begins_empty all old new r p = without_empty all old new r p
 
 module _ (all rest : List (List ℕ)) (old here : Option (List ℕ)) where
-  -- the next line was put behind the others
+  -- the next line was appended to the others
   pub put_behind : (lines next : List ℕ) → GoesOn all (lines ∷ next ∷ rest) old here → GoesOn all ((lines ++ next) ∷ rest) old here
   put_behind lines next goes new r p = goes new r (apart rest here new lines next r p)
 

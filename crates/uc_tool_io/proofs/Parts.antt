@@ -15,7 +15,7 @@ use Rattle.uc_tool_io.proofs.Printing.{front_of_first, front_behind}
 joined_append : (xs ys : List (List ℕ)) → joined (xs ++ ys) ≡ joined xs ++ joined ys
 joined_append xs ys = flat_map-append (λ (x : List ℕ). x) xs ys
 
--- a text of lines is those lines one after the other
+-- the bytes of mapped lines are those lines concatenated
 pub joined_map : {X : Type 0} (f : X → List ℕ) (xs : List X) → flat_map f xs ≡ joined (map f xs)
 joined_map f [] = refl
 joined_map f (x ∷ xs) = ap (λ (l : List ℕ). f x ++ l) (joined_map f xs)
@@ -46,7 +46,7 @@ pub stops_within : (xs ys : List (List ℕ)) (a b : Option (List ℕ)) (e : RunE
 stops_within xs ys a b run_error.Memory p = let q = take_of_first xs ys p.0 in (q.0, subst (Appends a b) q.1 p.1)
 stops_within xs ys a b run_error.Device p = subst (AppendsFront a b) (sym (joined_append xs ys)) (front_of_first a b (joined xs) (joined ys) p)
 
--- an error behind the first part
+-- an error after the first part
 stops_behind : (xs ys : List (List ℕ)) (a b c : Option (List ℕ)) (e : RunError) → Appends a b (joined xs) → Stops ys b c e → Stops (xs ++ ys) a c e
 stops_behind xs ys a b c run_error.Memory p q =
     (length xs + q.0, subst (Appends a c) (sym (ap joined (take_behind xs ys q.0) ∙ joined_append xs (take q.0 ys))) (appends_more a b c (joined xs) (joined (take q.0 ys)) p q.1))

@@ -7,11 +7,11 @@ use Rattle.uc_tool_io.specs.declared.run_error.RunError.{RunError}
 use Rattle.uc_tool_io.specs.declared.run_error.RunError.TheVariants as run_error
 use Rattle.uc_tool_io.proofs.Known.{appends_none, appends_more}
 
--- a front of one text is a front of that text and more
+-- a prefix of one byte string is a prefix of that and more
 pub front_of_first : (a b : Option (List ℕ)) (first rest : List ℕ) → AppendsFront a b first → AppendsFront a b (first ++ rest)
 front_of_first a b first rest f = (f.0, (f.1.0 ++ rest, sym (append_assoc f.0 f.1.0 rest) ∙ ap (λ (l : List ℕ). l ++ rest) f.1.1), f.2)
 
--- behind a text that went out, a front of what follows is a front of both
+-- after bytes that were written, a prefix of what follows is a prefix of both
 pub front_behind : (a b c : Option (List ℕ)) (first rest : List ℕ) → Appends a b first → AppendsFront b c rest → AppendsFront a c (first ++ rest)
 front_behind a b c first rest p f = (first ++ f.0, (f.1.0, append_assoc first f.0 f.1.0 ∙ ap (λ (l : List ℕ). first ++ l) f.1.1), appends_more a b c first f.0 p f.2)
 

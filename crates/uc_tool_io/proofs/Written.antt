@@ -1,4 +1,4 @@
--- What was written in the end.
+-- The bytes that were written in the end.
 use Rattle.std.proofs.Common.{◌≡◌, ℕ, ◌≤◌, ◌<◌, List, [], length, take, Option, Some, None, Result, Ok, Err, refl, sym, ◌∙◌, subst, inl, inr}
 use Rattle.std.specs.Prelude.{IfOk, IfSome}
 use Rattle.std.specs.Io.KnownBytes.{Appends}

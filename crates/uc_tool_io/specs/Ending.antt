@@ -14,8 +14,8 @@ use Rattle.uc_tool_io.specs.declared.run_error.RunError.TheVariants as run_error
 abbrev pub FlushesAndEnds : Done → Option (List ℕ) → Option (List ℕ) → Done → Type 0
 FlushesAndEnds done old new result = ((result ≡ done) ⊎ (result ≡ Device)) × Keeps old new
 
--- Nothing is written behind the replies but that memory ran out. Where the writer fails then, the run
--- ends as one whose device failed.
+-- Nothing is written after the replies except that memory ran out. If the writer fails then, the run ends as one whose device
+-- failed.
 abbrev pub Finishes : Result Done RunError → Option (List ℕ) → Option (List ℕ) → Done → Type 0
 Finishes (Ok done) old new result = FlushesAndEnds done old new result
 Finishes (Err run_error.Device) old new result = (result ≡ Device) × Keeps old new

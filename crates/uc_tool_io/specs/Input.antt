@@ -1,4 +1,4 @@
--- What one read adds to the input.
+-- The bytes that one read adds to the input.
 use Rattle.std.specs.Prelude.{◌≡◌, ℕ, ◌+◌, ◌<◌, List, ◌++◌, length, Option}
 use Rattle.std.specs.Io.KnownBytes.{Consumes}
 

@@ -22,7 +22,7 @@ op_words kind.Delete = codes " delete "
 op_words kind.Merge = codes " merge "
 op_words kind.DeleteRange = codes " range "
 
--- what a change does, and to which texts
+-- the kind of a change, its key and its value
 abbrev pub op_text : Op → List ℕ
 op_text (Put key value) = op_words kind.Put ++ hex_text key ++ 32 ∷ hex_text value
 op_text (Delete key) = op_words kind.Delete ++ hex_text key
@@ -51,7 +51,7 @@ batch_words (batch.Cut offset) = codes " cut " ++ decimal offset
 batch_words (batch.BadVarint offset) = codes " bad varint " ++ decimal offset
 batch_words (batch.OtherFamily id) = codes " other family " ++ decimal id
 batch_words batch.WrongCount = codes " wrong count"
--- no log is refused so
+-- no log is rejected with this
 batch_words batch.Memory = codes " out of memory"
 
 -- the line that says how far the log was read

@@ -1,4 +1,4 @@
--- What a program prints: its replies in order, and how it ends; and what it may have written when it stops.
+-- The output of a program: its replies in order, and how it ends; and what it may have written when it stops.
 use Rattle.std.specs.Prelude.{◌≡◌, ℕ, ◌<◌, ◌≤◌, List, [], ◌∷◌, ◌++◌, length, take, Option, Result, Ok, Err, ◌⊎◌}
 use Rattle.std.specs.List.{flat_map}
 use Rattle.std.specs.Io.KnownBytes.{Appends}
@@ -15,7 +15,7 @@ pub record Output : Type 0 where
   pub replies : List (List ℕ)
   pub done : Done
 
--- a run that was refused with one line
+-- a run that failed with one line
 abbrev pub refused : List ℕ → Output
 refused line = record { replies = line ∷ []; done = Refused }
 
@@ -27,12 +27,12 @@ joined replies = flat_map (λ reply. reply) replies
 abbrev pub text_of : Output → List ℕ
 text_of output = joined output.replies
 
--- the first replies, whole, and that memory ran out behind them
+-- the first replies, whole, followed by the message that memory ran out
 abbrev pub without_memory : Output → ℕ → List ℕ
 without_memory output n = joined (take n output.replies) ++ out_of_memory
 
--- Replies as far as they went out before an error: where memory ran out, some whole first ones; where the
--- writer failed, a front of their text.
+-- Replies as far as they were written before an error: if memory ran out, some first ones whole; if the writer failed, a prefix of
+-- their bytes.
 abbrev pub Stops : List (List ℕ) → Option (List ℕ) → Option (List ℕ) → RunError → Type 0
 Stops replies old new run_error.Memory = (n : ℕ) × Appends old new (joined (take n replies))
 Stops replies old new run_error.Device = AppendsFront old new (joined replies)
@@ -42,7 +42,7 @@ abbrev pub Prints : {X : Type 0} → List (List ℕ) → Option (List ℕ) → O
 Prints replies old new (Ok x) = Appends old new (joined replies)
 Prints replies old new (Err e) = Stops replies old new e
 
--- a text that a program begins to write where a device fails
+-- the bytes that a program begins to write where a device fails
 abbrev pub MayPrint : Output → List ℕ → List ℕ → Type 0
 MayPrint output input whole =
     (whole ≡ text_of output)
@@ -50,11 +50,11 @@ MayPrint output input whole =
     ⊎ (whole ≡ read_fault)
     ⊎ ((INPUT_LIMIT < length input) × (whole ≡ input_too_long))
 
--- the whole text went out, of an input within the limit
+-- all bytes were written, of an input within the limit
 abbrev pub PrintsAll : Output → List ℕ → Option (List ℕ) → Option (List ℕ) → Done → Type 0
 PrintsAll output input old new done = (output.done ≡ done) × (length input ≤ INPUT_LIMIT) × Appends old new (text_of output)
 
--- What was written by a program that prints this of its input, by its answer.
+-- The bytes that were written by a program with this output for its input, by its answer.
 abbrev pub HasWritten : Output → List ℕ → Option (List ℕ) → Option (List ℕ) → Done → Type 0
 HasWritten output input old new Fine = PrintsAll output input old new Fine
 HasWritten output input old new Refused = PrintsAll output input old new Refused

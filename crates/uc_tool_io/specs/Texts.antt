@@ -1,4 +1,4 @@
--- What is printed where a run can't go on.
+-- Messages of a run that can't continue.
 use Rattle.std.specs.Prelude.{ℕ, List, codes}
 
 abbrev pub out_of_memory : List ℕ

@@ -22,7 +22,7 @@ module _ {F I W T : Type 0} (bytes : I → List ℕ) (g : Once F (I × (MutBor W
         → g.post f (input, (before, tt)) ((outcome, told), (after, tt))
         → Prints (program (bytes input)).replies (contents before.now) (contents after.now) outcome × IfOk outcome (λ done. done ≡ (program (bytes input)).done)
 
-    -- It was done over what a reader gave, this was told, and then the run ended so.
+    -- The work was done over what a reader gave, with this result, and then the run ended so.
     pub record WasDone (remaining : Option (List ℕ)) (old new : Option (List ℕ)) (done : Done) (told : T) : Type 0 where
       pub input : I
       pub whole : IfSome remaining (λ text. bytes input ≡ text)

@@ -1,8 +1,8 @@
--- What a writer holds after a write that may have failed.
+-- The contents of a writer after a write that may have failed.
 use Rattle.std.specs.Prelude.{◌≡◌, ℕ, List, ◌++◌, Option}
 use Rattle.std.specs.Io.KnownBytes.{Appends}
 
--- one text begins with another
+-- one byte string begins with another
 abbrev pub BeginsWith : List ℕ → List ℕ → Type 0
 BeginsWith whole front = (rest : List ℕ) × (front ++ rest ≡ whole)
 

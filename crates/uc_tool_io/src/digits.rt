@@ -10,8 +10,8 @@ use std::alloc::AllocError;
 
 /// The two hexadecimal digits of each byte, in the order of the bytes.
 ///
-/// The crate `hex` writes a text digit by digit. This table writes it byte by byte in half the time, which matters when
-/// all the bytes of a log are printed.
+/// The crate `hex` writes digit by digit. This table writes byte by byte in half the time, which matters when all the bytes of a
+/// log are printed.
 static PAIRS: [u8; 512] = *b"\
     000102030405060708090a0b0c0d0e0f\
     101112131415161718191a1b1c1d1e1f\

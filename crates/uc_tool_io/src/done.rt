@@ -5,9 +5,9 @@
 pub enum Done {
     /// All was asked and answered.
     Fine,
-    /// The script has a fault, or the opening was refused.
+    /// The script has a fault, or the opening failed.
     Refused,
-    /// The log was refused.
+    /// The log was rejected.
     BadLog,
     /// Memory ran out.
     NoMemory,

@@ -53,8 +53,8 @@ fn print_writes<W: io::Write>(
     print_lines(lines, writer)
 }
 
-/// Prints the writes of a log, up to its first fault, and returns how far it was read. A write is printed from
-/// the bytes where it stands in the log, which is let go of piece by piece.
+/// Prints the writes of a log, up to its first fault, and returns how far it was read. Each write is printed from the log's own
+/// bytes, whose pieces are freed as they are read.
 fn print_log<W: io::Write>(alloc: Global, log: Pieces, writer: &mut W) -> Result<Ended, RunError>
     ensures printed { Prints (map write_line (log_writes log).list) (W.contents writer.old)
         (W.contents writer.new) result }
@@ -91,12 +91,12 @@ fn run<W: io::Write>(alloc: Global, input: Pieces, writer: &mut W) -> Result<Don
     Ok(done_of(ended))
 }
 
-/// Prints what stands in a write-ahead log: a line for each write before its first fault, and one that
-/// says whether the log ended there, was torn, or is faulty.
+/// Prints the contents of a write-ahead log: a line for each write before its first fault, and one that says whether the log ended
+/// there, was torn, or is faulty.
 ///
-/// It writes the text of `dump_of`, a function of the bytes that were read. If an allocation fails it is some
-/// whole first lines of that text, and then `out of memory`; if the reader or the writer fails, or the input is longer
-/// than 64 MiB, it is a front of a text that says so or of that one.
+/// It writes `dump_of`, a function of the bytes that were read. If allocation fails, it writes some first lines whole, and then
+/// `out of memory`. If the reader or the writer fails, or the input is longer than 64 MiB, it writes a prefix of these lines or of
+/// the error message.
 pub fn dump<R: Read, W: io::Write>(alloc: Global, reader: &mut R, writer: &mut W) -> Done
     ensures { IfSome (R.remaining reader.old) (λ input.
         HasWritten (dump_of input) input (W.contents writer.old) (W.contents writer.new) result) }

@@ -35,7 +35,7 @@ pub fn finish<W: Write>(writer: &mut W, outcome: Result<Done, RunError>) -> Done
     }
 }
 
-/// Ends a run whose device failed or whose input is too long, with a text that says so.
+/// Ends a run whose device failed or whose input is too long, with a message.
 fn fail<W: Write>(writer: &mut W, text: &[u8]) -> Done
     ensures front { AppendsFront (W.contents writer.old) (W.contents writer.new) text.now }
     ensures device { result ≡ Done.Device }

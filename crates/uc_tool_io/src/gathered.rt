@@ -1,11 +1,11 @@
-//! [`Gathered`]: what the bytes of an input are gathered in.
+//! [`Gathered`]: buffers for the bytes of an input.
 ghost use Rattle.std.specs.Prelude.{◌≡◌, ◌++◌, [], ℕ, List, length, OnOk};
 
 use std::alloc::{AllocError, Global};
 use uc_batch::Pieces;
 
-/// A buffer in which the bytes of an input are gathered as they are read: a list in one piece for a program that looks at all of it, or
-/// [`Pieces`] for one that goes once over it.
+/// A buffer for the bytes of an input as they are read: a list in one piece for a program that needs all of it, or [`Pieces`] for
+/// one that reads it once.
 pub trait Gathered {
     /// The bytes that it has.
     ghost bytes: { Self → List ℕ };

@@ -70,7 +70,7 @@ fn read_more<R: Read, I: Gathered>(
     Ok(count)
 }
 
-/// Reads all there is, before anything in it is judged.
+/// Reads all of the input, before any of it is validated.
 pub fn read_input<R: Read, I: Gathered + Drop>(
     alloc: Global,
     reader: &mut R,

@@ -55,7 +55,7 @@ pub fn numbered_line(alloc: Global, words: &[u8], number: u64) -> Result<Vec<u8>
     Ok(line)
 }
 
-/// Appends a line of words and a text.
+/// Appends a line of words and a byte string.
 pub fn push_text_line(out: &mut Vec<u8>, words: &[u8], text: &[u8]) -> Result<(), AllocError>
     ensures { OnOk result (out.new.items ≡ out.old.items ++ lines.text_line words.now text.now) }
 {

@@ -24,7 +24,7 @@ fn op_words(kind: OpKind) -> &'static [u8]
     }
 }
 
-/// Appends what a change does, and to which texts.
+/// Appends the kind of a change, its key and its value.
 fn push_op(out: &mut Vec<u8>, op: &OpRef<'_>) -> Result<(), AllocError>
     ensures { OnOk result (out.new.items ≡ out.old.items ++ op_text op.now) }
 {
@@ -63,7 +63,7 @@ fn log_words(fault: LogFault) -> &'static [u8]
     }
 }
 
-/// Appends why a batch was refused.
+/// Appends why a batch isn't valid.
 fn push_batch_words(out: &mut Vec<u8>, fault: BatchError) -> Result<(), AllocError>
     ensures { OnOk result (out.new.items ≡ out.old.items ++ batch_words fault) }
 {
@@ -84,7 +84,7 @@ fn push_batch_words(out: &mut Vec<u8>, fault: BatchError) -> Result<(), AllocErr
     Ok(())
 }
 
-/// The line of a refused batch.
+/// The line of an invalid batch.
 fn batch_line(alloc: Global, number: u64, fault: BatchError) -> Result<Vec<u8>, AllocError>
     ensures { IfOk result (λ line.
         line.items ≡ codes "batch fault " ++ decimal number ++ batch_words fault ++ 10 ∷ []) }

@@ -9,17 +9,17 @@ pub const OPERATORS: usize = 4;
 
 /// A merge operator that the command line can name.
 ///
-/// The names that the parser lets through, and those that the program runs, both come from here: a name that isn't in
-/// `ALL` is refused, and a match over the names is one over all of them.
+/// The parser and the program both use these names: a name that isn't in `ALL` is rejected, and a match over the names is one over
+/// all of them.
 #[derive(Clone, Copy, Debug, PartialEq, Eq)]
 pub enum OperatorName {
     /// `counter`: sums of 64-bit numbers.
     Counter,
-    /// `append`: texts joined by commas.
+    /// `append`: byte strings joined by commas.
     Append,
-    /// `maximum`: the greater text.
+    /// `maximum`: the greater byte string.
     Maximum,
-    /// `tail`: the last bytes of all texts.
+    /// `tail`: the last bytes of all operands.
     Tail,
 }
 

@@ -13,9 +13,9 @@ use crate::run_error::RunError;
 use std::alloc::Global;
 use std::io::{Read, Write};
 
-/// Reads all of the input, does `work` over it, and ends the run: says if memory ran out, and flushes what was written. It
-/// returns how the run ended, and what the work told beside its outcome, unless the input can't be read. What the work takes
-/// decides what the input is gathered in.
+/// Reads all of the input, does `work` over it, and ends the run: reports it if memory ran out, and flushes what was written.
+/// Returns how the run ended, and the work's result with its outcome, unless the input can't be read. The work's type decides in
+/// which buffer the input is read.
 pub fn run_over_input<R: Read, W: Write, I, T, F>(
     alloc: Global,
     reader: &mut R,

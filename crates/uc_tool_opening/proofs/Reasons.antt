@@ -1,4 +1,4 @@
--- What is told of what was read is told of what the reader gives.
+-- The reason for the input that was read is the reason for what the reader returns.
 use Rattle.std.proofs.Common.{◌≡◌, ℕ, ◌≤◌, List, Option, Some, None, Result, Ok, Err, length, refl, subst, inl, inr}
 use Rattle.std.specs.Prelude.{◌≢◌, IfSome, IfNone, OnOk}
 use Rattle.std.specs.Option.{option_flatten}
@@ -14,12 +14,12 @@ use Rattle.uc_tool_io.specs.declared.run_error.RunError.TheVariants as run_error
 use Rattle.uc_tool_opening.specs.Reasons.{Cause, IsReason, TellsOpening}
 use Rattle.uc_tool_opening.specs.declared.reason.Reason.{Reason}
 
--- the reason in what work told, if any was done
+-- the reason in the result of work, if any was done
 abbrev pub reason_in : {T : Type 0} → (T → Option Reason) → Option T → Option Reason
 reason_in reason_of None = None
 reason_in reason_of (Some told) = reason_of told
 
--- work that tells a reason alone
+-- work whose result is only a reason
 pub reason_alone : (told : Option (Option Reason)) → reason_in (λ reason. reason) told ≡ option_flatten told
 reason_alone None = refl
 reason_alone (Some reason) = refl
@@ -34,7 +34,7 @@ of_any : (P : List ℕ → Type 0) (remaining : Option (List ℕ)) → ((input :
 of_any P None p = tt
 of_any P (Some input) p = p input
 
--- a run that ends as refused had printed its line
+-- a run that ends as failed had printed its line
 of_refused : (outcome : Result Done RunError) (old new : Option (List ℕ)) (result : Done) (P : Type 0) → Finishes outcome old new result → result ≡ Refused → OnOk outcome P → P
 of_refused (Ok done) old new result P ends is p = p
 of_refused (Err run_error.Device) old new result P ends is p = absurd cc
@@ -44,7 +44,7 @@ of_refused (Err run_error.Memory) old new result P (inr ends) is p = absurd cc
 -- ---- a whole run over its input
 
 module _ {F I W T : Type 0} (bytes : I → List ℕ) (g : Once F (I × (MutBor W × Unit {0})) ((Result Done RunError × T) × (MutBor W × Unit {0}))) (f : F) (contents : W → Option (List ℕ)) (remaining old new : Option (List ℕ)) (done : Done) (cause : List ℕ → Option Cause) (reason_of : T → Option Reason) where
-  -- the reason is told of its input
+  -- the reason belongs to its input
   abbrev pub Tells : Type 0
   Tells =
       (input : I) (before after : MutBor W) (outcome : Result Done RunError) (told : T) → length (bytes input) ≤ INPUT_LIMIT

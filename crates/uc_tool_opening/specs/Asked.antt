@@ -1,4 +1,4 @@
--- What a line that reads asks of a store, once that is open.
+-- The query of a line that reads from a store, once that is open.
 use Rattle.std.specs.Prelude.{ℕ}
 use Rattle.uc_query_read.specs.declared.query.Query.{Query}
 use Rattle.uc_query_read.specs.declared.query.Query.TheVariants as query

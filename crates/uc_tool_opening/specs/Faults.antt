@@ -1,4 +1,4 @@
--- What stands against an opening that is refused.
+-- The fault of an opening that failed.
 use Rattle.std.specs.Prelude.{nat_lt, ◌||◌, Option, Some, None, if◌then◌else◌}
 use Rattle.uc_version_state.specs.declared.options.Options.{Options}
 use Rattle.uc_version_state.specs.declared.options.TheConstants.{GREATEST_FIRST_ID}
@@ -17,7 +17,7 @@ option_fault o =
     else if nat_lt o.first_id 1 || nat_lt GREATEST_FIRST_ID o.first_id then Some (FirstId o.first_id)
     else None
 
--- what stands against an opening that was refused so
+-- the option or number that makes an opening fail with this error
 abbrev pub fault_of_opening : OpenError → Options → Option OpeningFault
 fault_of_opening opening.BadOption options = option_fault options
 fault_of_opening (opening.SnapshotAhead keep) options = Some (Ahead keep)

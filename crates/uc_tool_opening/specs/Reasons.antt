@@ -1,4 +1,4 @@
--- Why a run is refused, as a reader is told beside the line that the run prints.
+-- Reasons why a run failed, which are printed in addition to the line of the run.
 use Rattle.std.specs.Prelude.{◌≡◌, ℕ, ⊤, List, Option, Some, None, IfSome}
 use Rattle.std.specs.Option.{option_map}
 use Rattle.uc_batch.specs.WriteLog.{WriteLog}
@@ -14,8 +14,8 @@ use Rattle.uc_tool_opening.specs.Faults.{fault_of_opening}
 use Rattle.uc_tool_opening.specs.declared.reason.Reason.{Reason}
 use Rattle.uc_tool_opening.specs.declared.reason.Reason.TheVariants as reason
 
--- What a run is refused for, where more can be said of it than its line says: the line of this number, from 1, of a text, or an
--- opening under these options.
+-- The cause why a run is rejected, if more can be said of it than its line says: the line of this number, from 1, in some input, or
+-- an opening under these options.
 pub data Cause : Type 0 where
   AtLine : Source → List ℕ → ℕ → Cause
   AtOpening : OpenError → Options → Cause
@@ -28,22 +28,22 @@ Explains (Some (AtLine source text number)) (reason.Opening fault) = ⊥
 Explains (Some (AtOpening error options)) (reason.Line said) = ⊥
 Explains (Some (AtOpening error options)) (reason.Opening fault) = fault_of_opening error options ≡ Some fault
 
--- What a reader is told of a run with this cause, or with none: the cause's own reason, or nothing. Where there is no cause it is
--- nothing; where there is one, want of memory may keep it back.
+-- The reason that is printed for a run with this cause, or with none. Without a cause there is no reason. With a cause there may be
+-- none if allocation fails.
 abbrev pub IsReason : Option Cause → Option Reason → Type 0
 IsReason cause told = IfSome told (Explains cause)
 
--- what is told of an opening that was refused so
+-- the reason of an opening that failed with this error
 abbrev pub reason_of_opening : OpenError → Options → Option Reason
 reason_of_opening error options = option_map reason.Opening (fault_of_opening error options)
 
--- Where an opening is what was refused, what stands against it is told. It takes no memory.
+-- If an opening failed, its reason is returned. It takes no memory.
 abbrev pub TellsOpening : Option Cause → Option Reason → Type 0
 TellsOpening None told = ⊤
 TellsOpening (Some (AtLine source text number)) told = ⊤
 TellsOpening (Some (AtOpening error options)) told = told ≡ reason_of_opening error options
 
--- the cause of an opening that is refused, if it is
+-- the cause of an opening that fails, if it does
 abbrev pub opening_cause : Opening → Option Cause
 opening_cause o = option_map (λ error. AtOpening error o.options) (opening_refusal o)
 

@@ -1,4 +1,4 @@
--- What is printed where no store is opened.
+-- The output if no store is opened.
 use Rattle.std.specs.Prelude.{ℕ, List, [], ◌∷◌, codes}
 use Rattle.uc_batch.specs.declared.ended.Ended.{Ended}
 use Rattle.uc_version_open.specs.declared.open_error.OpenError.{OpenError}
@@ -16,6 +16,6 @@ opening_refusal_line (opening.SnapshotAhead keep) = numbered_line (codes "refuse
 opening_refusal_line opening.TooManyRuns = codes "refused too many runs\n"
 opening_refusal_line opening.Memory = codes "out of memory\n"
 
--- what is printed of a log that was refused
+-- the output for a log that was rejected
 abbrev pub bad_log : Ended → Output
 bad_log ended = record { replies = ended_line ended ∷ []; done = BadLog }

@@ -19,11 +19,11 @@ abbrev pub figure_text : Figure → List ℕ
 figure_text (Number number) = spaced number
 figure_text (Range low high) = spaced low ++ spaced high
 
--- a name, and what stands behind it
+-- a name and its figure
 abbrev pub field_text : Field → List ℕ
 field_text field = 32 ∷ field.0 ++ figure_text field.1
 
--- words with a number, the fields behind it, and the end of the line
+-- words with a number, the fields after it, and the end of the line
 abbrev pub counted_line : List ℕ → ℕ → List Field → List ℕ
 counted_line words number fields = words ++ decimal number ++ flat_map field_text fields ++ 10 ∷ []
 

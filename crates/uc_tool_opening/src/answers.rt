@@ -31,7 +31,7 @@ fn push_rows(out: &mut Vec<u8>, rows: &Rows) -> Result<(), AllocError>
     Ok(())
 }
 
-/// Appends the lines of an answer. It costs what is appended, and fails only for want of memory.
+/// Appends the lines of an answer. It costs what is appended, and fails only if allocation fails.
 pub fn push_answer_lines(out: &mut Vec<u8>, answer: &Answer) -> Result<(), AllocError>
     ensures { OnOk result (out.new.items ≡ out.old.items ++ lines.answer_lines answer.now) }
 {

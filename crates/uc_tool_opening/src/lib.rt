@@ -1,20 +1,18 @@
-//! Code that the subcommands that open a store share: opening one from a log, saying why none is opened, and the lines of replies.
+//! Code that the subcommands share that open a store: opening one from a log, reporting why that fails, and the lines of replies.
 //!
 //! `open_ops` opens a store from a script's writes, by way of a log of them, and `writes_by_log` makes those that are fed later;
-//! `print_fault`, `print_refused_opening` and `print_bad_log` end a run that opened none with the one line that says why.
-//! Nothing here claims, compacts or answers: that is left to the
-//! subcommands above.
+//! `print_fault`, `print_refused_opening` and `print_bad_log` end a run that opened none with the one line that says why. Nothing
+//! here claims, compacts or answers: that is left to the subcommands above.
 //!
-//! Beside that line a reader may be told more: [`Reason`] is what is wrong with the first line at fault, or the option or
-//! number that stands against the opening. `specs/Reasons.antt` says which reason a run has. An [`Outcome`] is how a run ended,
-//! with its reason.
+//! Besides that line there may be a [`Reason`]: the fault of the first faulty line, or the option or number that makes the opening
+//! fail. `specs/Reasons.antt` says which reason a run has. An [`Outcome`] is how a run ended, with its reason.
 //!
 //! An `Err(AllocError)` or `Memory` comes only if an allocation fails.
 //!
 //! [`query_of`] says what a line that reads asks, for scripts and for what stands in front of a log alike.
 //!
-//! Read `specs/Opening.antt` and `specs/Refusals.antt` first, then `opening.rt` and `refused_runs.rt`. That the log of a
-//! script's writes gives them back is proved in `proofs/LogAgain.antt`.
+//! Read `specs/Opening.antt` and `specs/Refusals.antt` first, then `opening.rt` and `refused_runs.rt`. That the log of a script's
+//! writes gives them back is proved in `proofs/LogAgain.antt`.
 //!
 //! A reply is printed as one line or several whole ones, each a stated function of what it prints. Read `uc_tool_io`'s
 //! `specs/Line.antt`, then `specs/ReplyLines.antt` and `replies.rt`.

@@ -37,7 +37,7 @@ fn write_log(alloc: Global, first: u64, ops: &[Op]) -> Result<Vec<u8>, AllocErro
     Ok(log.finish())
 }
 
-/// The log of the operations, numbered from `first` on. They are let go of.
+/// The log of the operations, numbered from `first`. The operations are freed.
 fn log_of(alloc: Global, first: u64, ops: Ops) -> Result<Vec<u8>, AllocError>
     requires { FitsLog first ops }
     ensures { IfOk result (λ log. log.items ≡ log_text (batch_texts first ops)) }
@@ -45,7 +45,7 @@ fn log_of(alloc: Global, first: u64, ops: Ops) -> Result<Vec<u8>, AllocError>
     write_log(alloc, first, ops.as_slice())
 }
 
-/// A log in pieces, so that each can be let go of when it was read.
+/// A log in pieces, so that each can be freed once it is read.
 fn in_pieces(alloc: Global, log: Vec<u8>) -> Result<Pieces, AllocError>
     ensures { IfOk result (λ pieces. pieces ≡ log.items) }
 {
@@ -54,8 +54,8 @@ fn in_pieces(alloc: Global, log: Vec<u8>) -> Result<Pieces, AllocError>
     Ok(pieces)
 }
 
-/// A store that is being opened from operations, which are numbered from 1, by way of a log of them. What it is made from
-/// is let go of one after the other.
+/// A store that is being opened from operations, which are numbered from 1 and first encoded as a log. Each intermediate form is
+/// freed once the next one is made.
 fn opener_of(
     rt: &(impl Threads + Sync),
     alloc: Global,
@@ -92,7 +92,7 @@ pub fn open_ops(
     opener_of(rt, alloc, ops, options)?.finish(&InThreads(rt), alloc, keeps.as_slice())
 }
 
-/// Operations as writes, numbered from `first` on, by way of a log of them. What they are made from is let go of.
+/// Operations as writes, numbered from `first`, by way of a log of them. The operations and the log are freed.
 pub fn writes_by_log(alloc: Global, first: u64, ops: Ops) -> Result<Writes, AllocError>
     requires { FitsLog first ops }
     ensures { IfOk result (λ writes. writes ≡ record { list = numbered first ops; ended = Clean }) }
@@ -103,7 +103,7 @@ pub fn writes_by_log(alloc: Global, first: u64, ops: Ops) -> Result<Writes, Allo
     match read_writes(alloc, &log, Mode::PointInTime) {
         Ok(writes) => Ok(writes),
         Err(ReadError::Memory) => Err(AllocError),
-        // Point-in-time recovery refuses nothing.
+        // Point-in-time recovery rejects nothing.
         Err(ReadError::Batch(_, _) | ReadError::Log(_, _)) => unreachable!(),
     }
 }

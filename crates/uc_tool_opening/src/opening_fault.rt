@@ -63,8 +63,8 @@ pub fn option_fault(options: &Options) -> Option<OpeningFault>
     }
 }
 
-/// The fault of an opening that was refused so, under these options. It is `None` for want of memory, and for the
-/// number of threads, which a store that isn't shared doesn't have.
+/// The fault of an opening that failed with this error, under these options. It is `None` if allocation failed, and for the number
+/// of threads, which a store that isn't shared doesn't have.
 pub fn fault_of_opening(error: OpenError, options: &Options) -> Option<OpeningFault>
     ensures { result ≡ faults.fault_of_opening error options.now }
 {

@@ -1,4 +1,4 @@
-//! [`Reason`]: why a run is refused, for a reader.
+//! [`Reason`]: why a run failed, for people.
 
 ghost use Rattle.std.specs.Prelude.{◌≡◌, Some};
 ghost use Rattle.uc_tool_opening.specs.Reasons as reasons;
@@ -11,7 +11,7 @@ use uc_script::{Explanation, Source, explain};
 use uc_version_open::OpenError;
 use uc_version_state::Options;
 
-/// Why a run is refused, for a reader. It prints as one line, beside the fixed line of the run.
+/// Why a run failed, for people. It prints as one line, in addition to the fixed line of the run.
 #[derive(Debug, Drop, PartialEq, Eq, Error)]
 pub enum Reason {
     /// The fault of the first line at fault.
@@ -22,7 +22,7 @@ pub enum Reason {
     Opening(OpeningFault),
 }
 
-/// Why a text of this kind is refused whose first line at fault has this number. It is `None` if an allocation fails.
+/// The reason why input of this kind is rejected, whose first faulty line has this number. It is `None` if allocation fails.
 pub fn reason_of_line(alloc: Global, source: Source, text: &[u8], number: u64) -> Option<Reason>
     ensures { IsReason (Some (AtLine source text.now number)) result }
 {
@@ -31,7 +31,7 @@ pub fn reason_of_line(alloc: Global, source: Source, text: &[u8], number: u64) -
         .map(Reason::Line)
 }
 
-/// Why an opening under these options is refused with this error. It is `None` if [`fault_of_opening`] is.
+/// Why an opening under these options fails with this error. It is `None` if [`fault_of_opening`] is.
 pub fn reason_of_opening(error: OpenError, options: &Options) -> Option<Reason>
     ensures { result ≡ reasons.reason_of_opening error options.now }
 {

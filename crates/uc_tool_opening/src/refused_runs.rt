@@ -25,7 +25,7 @@ pub fn opening_refusal_line(alloc: Global, error: OpenError) -> Result<Vec<u8>, 
     }
 }
 
-/// Prints which line of a text is at fault.
+/// Prints the number of the line at fault.
 pub fn print_fault<W: Write>(alloc: Global, line: u64, writer: &mut W) -> Result<Done, RunError>
     ensures printed { Prints (refused (texts.numbered_line (codes "fault line ") line)).replies
         (W.contents writer.old) (W.contents writer.new) result }
@@ -49,7 +49,7 @@ pub fn print_refused_opening<W: Write>(
     print_refusal(&line, writer)
 }
 
-/// Prints why a log is refused.
+/// Prints why a log is rejected.
 pub fn print_bad_log<W: Write>(
     alloc: Global,
     ended: Ended,

@@ -41,7 +41,7 @@ pub fn compacted_line(alloc: Global, stretch: Stretch, id: u64) -> Result<Vec<u8
     )
 }
 
-/// The lines of some answers, in their order. It fails only for want of memory.
+/// The lines of some answers, in their order. Fails only if allocation fails.
 pub fn answers_lines(alloc: Global, answers: &[Answer]) -> Result<Vec<u8>, AllocError>
     ensures { IfOk result (λ text. text.items ≡ flat_map answer_lines answers.now) }
 {

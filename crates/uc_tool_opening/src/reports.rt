@@ -86,8 +86,8 @@ fn push_keeps(out: &mut Vec<u8>, keeps: &[u64]) -> Result<(), AllocError>
     Ok(())
 }
 
-/// The lines of a report: one for each run, the newest first, then their totals, the sequences that are kept and the last
-/// one. It fails only for want of memory.
+/// The lines of a report: one for each run, newest first, then their totals, the sequence numbers that are kept and the last one.
+/// Fails only if allocation fails.
 pub fn report_lines(alloc: Global, report: &Report) -> Result<Vec<u8>, AllocError>
     ensures { IfOk result (λ text. text.items ≡ lines.report_lines report.now) }
 {

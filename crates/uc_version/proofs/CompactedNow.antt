@@ -70,7 +70,7 @@ module _ (m : Operation) (o : Owner) (is_owner : IsOwner o) (s : Stretch) (fine 
   stretch_is : stretch_of claimed c ≡ h
   stretch_is = claimed_stretch o is_owner s fine
 
-  -- what an install of a stretch's compaction leaves of the owner who claimed it
+  -- the owner of a claim after the install of its stretch's compaction
   abbrev left_by : HeldStretch → Owner
   left_by g = record claimed {
     version = replaced g.first g.count (output_of m (compaction_of v g)) v;

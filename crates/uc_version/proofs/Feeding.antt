@@ -1,4 +1,4 @@
--- Claims go on to hold their runs when writes are fed.
+-- Claims continue to hold their runs when writes are fed.
 use Rattle.std.proofs.Common.{◌≡◌, ℕ, true, zero, suc, ◌+◌, ◌<◌, ◌≤◌, List, [], ◌∷◌, ◌++◌, Option, Some, None, length, length-append, map, get_or, take, drop, refl, sym, ap, ◌∙◌, subst, arith}
 use Rattle.std.specs.Prelude.{◌^◌, Result, Ok, Err, OnOk, OnErr, IfSome}
 use Rattle.std.specs.List.{AllByRecursion, flat_map}
@@ -40,7 +40,7 @@ part_behind new runs first count =
     ap (λ n. take count (drop n (new ++ runs))) (let e : first + length new ≡ length new + first = omega arith in e)
     ∙ ap (take count) (drop-append-add new runs first)
 
--- a stretch has a place behind so many runs more
+-- a stretch still has a place after `count` more runs
 abbrev pub Fits : ℕ → Option HeldStretch → Type 0
 Fits count held = IfSome held (λ h. h.first + count < 2 ^ 63)
 

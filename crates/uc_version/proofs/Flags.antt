@@ -1,4 +1,4 @@
--- What is read of slots, whichever list of them is looked at.
+-- Flags of slots are the same, whichever list of them is read.
 use Rattle.std.proofs.Common.{◌≡◌, ℕ, zero, suc, ◌+◌, ◌<◌, Bool, true, false, cond, eqb, ltb, List, [], ◌∷◌, ◌++◌, length, get_or, set, take, drop, refl, sym, ap, ◌∙◌, subst, ⊎_elim, get_or-set_same, get_or-set_other, arith}
 use Rattle.std.specs.Prelude.{◌↔◌, IsTrue, Option, Some, None, Contains, map}
 use Rattle.std.specs.List.{list_any}

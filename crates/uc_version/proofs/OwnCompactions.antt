@@ -1,4 +1,4 @@
--- A claim's own compaction, at any later time: no keep and no run behind it refuses it.
+-- A claim's own compaction, at any later time: no keep and no run after it makes its install fail.
 use Rattle.std.proofs.Common.{◌≡◌, ◌+◌, ◌<◌, ◌≤◌, true, List, length, fold, sym, subst, arith}
 use Rattle.uc_oper.specs.Operation.{Operation}
 use Rattle.uc_compact.specs.Inputs.{Compaction}

@@ -1,4 +1,4 @@
--- What claims, abandons and installs leave is an owner's.
+-- Claims, abandons and installs keep the invariant of an owner.
 use Rattle.std.proofs.Common.{◌≡◌, ℕ, ◌+◌, ◌<◌, ◌≤◌, ◌≢◌, Bool, true, false, cond, eqb, ltb, ◌&&◌, List, [], ◌∷◌, length, get_or, refl, sym, ap, ◌∙◌, subst, eq-eqb, get_or-set_same, arith}
 use Rattle.std.specs.Prelude.{Option, Some, None, Contains, option_map}
 use Rattle.std.specs.Option.{option_or}
@@ -38,7 +38,7 @@ use Rattle.uc_version.proofs.Legal.{is_legal, is_replaced}
 there : (n : ℕ) → 0 < n → ltb 0 n ≡ true
 there n lt = grind (arith, nat_tests)
 
--- a claim that isn't refused is in range, and finds no run that is claimed
+-- a claim that doesn't fail is in range, and has no run that is claimed
 pub fine_parts : (range : Option ClaimError) (busy : Option ℕ) → option_or range (option_map Busy busy) ≡ None → (range ≡ None) × (busy ≡ None)
 fine_parts None None e = (refl, refl)
 fine_parts None (Some slot) e = absurd cc

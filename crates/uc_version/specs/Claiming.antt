@@ -22,7 +22,7 @@ abbrev pub first_busy : List ℕ → List ℕ → Option ℕ
 first_busy claimed [] = None
 first_busy claimed (slot ∷ slots) = if list_any (λ s. s == slot) claimed then Some slot else first_busy claimed slots
 
--- Why a stretch can't be claimed: its range is refused, or runs of it are claimed, of which the newest is named.
+-- Why a stretch can't be claimed: its range isn't valid, or runs of it are claimed, the newest of which is named.
 abbrev pub claim_refusal : Owner → Stretch → Option ClaimError
 claim_refusal o s =
     option_or (range_refusal (length o.version.runs) s)

@@ -1,4 +1,4 @@
--- What feeding, keeping and releasing do to an owner.
+-- Effects of feeding, keeping and releasing on an owner.
 use Rattle.std.specs.Prelude.{◌≡◌, ◌≢◌, ℕ, ◌+◌, ◌<◌, List, [], ◌∷◌, Option, Some, None, map, length}
 use Rattle.uc_bytes.specs.declared.write.Write.{Write}
 use Rattle.uc_batch.specs.Rising.{IsRising, last_of}
@@ -11,12 +11,12 @@ use Rattle.uc_version_state.specs.Snapshots.{kept, released}
 use Rattle.uc_version.specs.declared.held_stretch.HeldStretch.{HeldStretch}
 use Rattle.uc_version.specs.Owners.{Owner}
 
--- a held stretch, behind `count` runs more
+-- a held stretch, after `count` more runs
 abbrev pub moved_down : ℕ → Option HeldStretch → Option HeldStretch
 moved_down count None = None
 moved_down count (Some h) = Some (record h { first = h.first + count })
 
--- the owner after writes were fed: claims go on to hold their runs, which stand behind the new ones
+-- the owner after writes were fed: claims continue to hold their runs, which are after the new ones
 abbrev pub after_feed : List Write → Owner → Owner
 after_feed ws o = record o { version = fed ws o.version; claims = map (moved_down (length (memtables_in o.version ws))) o.claims }
 
@@ -27,7 +27,7 @@ after_keep o = record o { version = kept o.version }
 abbrev pub after_release : ℕ → Owner → Owner
 after_release seq o = record o { version = released seq o.version }
 
--- The writes make one run of a version, which is this one, and come behind all that it has.
+-- The writes make one run of a version, which is this one, and are newer than all that it has.
 pub record MakesRun (v : Stored) (run : Contents) (last : ℕ) (ws : List Write) : Type 0 where
   pub some : ws ≢ []
   pub small : memtable_size ws < v.limit

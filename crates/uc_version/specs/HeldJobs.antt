@@ -17,7 +17,7 @@ stage_of (Refused made) = stages.Ended
 abbrev pub task : {O : Type 0} → Inside O → Task
 task i = record { claim = i.claim; compaction = i.asked; stage = stage_of i.progress }
 
--- What was made of the runs is what is asked, if it was made.
+-- The result made of the runs is the requested one, if it was made.
 abbrev pub IsMade : {O : Type 0} → Compaction → Progress O → Type 0
 IsMade asked Taken = ⊤
 IsMade asked (Run made) = made ≡ asked

@@ -56,13 +56,13 @@ IsStarted (Some s) task old new = (claim_refusal old s ≡ None) × (task ≡ So
 abbrev pub IsOwn : Owner → Task → Type 0
 IsOwn o task = task.compaction.inputs ≡ contents_of (claimed_runs o task.claim)
 
--- What was made of its runs is what was asked, if it was run.
+-- The compaction of the job's runs is the requested one, if it was run.
 abbrev pub IsMadeOf : Task → Option Compaction → Type 0
 IsMadeOf task None = task.stage ≢ Run
 IsMadeOf task (Some made) = (task.stage ≡ Run) × (made ≡ task.compaction)
 
--- What comes of a job: its run is installed and gets the next id; or it wasn't run; or its run is refused. In any case
--- its claim is given back.
+-- The result of a job: its run is installed and gets the next id; or it wasn't run; or its run can't be installed. In each case its
+-- claim is given back.
 abbrev pub HasEnded : Operation → Task → Owner → Owner → JobEnd → Type 0
 HasEnded m task old new (Installed id) =
     (task.stage ≡ Run) × MayReplace old.version (stretch_of old task.claim) task.compaction × (id ≡ old.version.next_id)

@@ -1,4 +1,4 @@
--- What the owner of a store has: a version, and the stretches of its runs that are claimed.
+-- The owner of a store: a version, and the stretches of its runs that are claimed.
 use Rattle.std.specs.Prelude.{◌≡◌, ℕ, ◌+◌, ◌≤◌, ◌==◌, true, Bool, ⊤, List, [], ◌∷◌, Option, Some, None, length, replicate}
 use Rattle.std.specs.List.{AllByRecursion, flat_map, list_any}
 use Rattle.uc_claims.specs.Holding.{AreDistinct}
@@ -45,7 +45,7 @@ abbrev pub Stands : Stored → Option HeldStretch → Type 0
 Stands v None = ⊤
 Stands v (Some h) = (2 ≤ h.count) × (h.first + h.count ≤ length v.runs) × NotesItsRuns v h
 
--- What holds of every owner.
+-- Invariant of every owner.
 pub record IsOwner (o : Owner) : Type 0 where
   pub version : IsVersion o.version
   pub options_good : are_good o.options ≡ true
@@ -54,6 +54,6 @@ pub record IsOwner (o : Owner) : Type 0 where
   -- no run is in two claims
   pub apart : AreDistinct (claimed_slots o)
 
--- an owner who has claimed nothing
+-- an owner that has claimed nothing
 abbrev pub unclaimed : Stored → Options → Owner
 unclaimed v options = record { version = v; options = options; claims = replicate MOST_CLAIMS None }

@@ -23,16 +23,15 @@ enum Progress<O: Operator> {
     Taken,
     Run(Compacted<O>),
     Ended,
-    /// It has ended, and what was made was refused.
+    /// It has ended, and its run couldn't be installed.
     Refused(Compacted<O>),
 }
 
-/// A compaction that is done away from its store, by any thread: the claim of a stretch, and shares of its runs. The owner
-/// takes it out by [`Owned::start_job`] and puts it back by [`Owned::end_job`]. If it is dropped before, its runs stay
-/// claimed for good.
+/// A compaction that any thread runs away from its store: the claim of a stretch, and references to its runs. The owner takes it
+/// out by [`Owned::start_job`] and puts it back by [`Owned::end_job`]. If it is dropped before, its runs stay claimed for good.
 ///
-/// It keeps its shares of the runs until it is dropped, also when it has ended. So the runs that its own replaced are
-/// freed where it is dropped, and not by their owner, and so is its own if it was refused.
+/// It keeps its references to the runs until it is dropped, even when it has ended. So the runs that its own replaced are freed
+/// where the job is dropped, and not by their owner, and so is its own if that couldn't be installed.
 pub struct Job<O: Operator> {
     claim: OwnedClaim,
     asked: Asked,
@@ -107,7 +106,7 @@ impl<O: Operator> Job<O> {
         (self.claim.again(), made)
     }
 
-    /// Keeps what was made of its runs, which was refused.
+    /// Keeps the run that it made, which couldn't be installed.
     fn keep(&mut self, made: Compacted<O>)
         requires { self.old.stage ≡ Ended }
         ensures { self.new ≡ self.old }
@@ -146,11 +145,10 @@ impl<O: Operator> Owned<O> {
         self.holds(&job.claim)
     }
 
-    /// Ends a job that was taken out of this store: installs its run, if it was run, and gives its claim back in any case.
-    /// It compares no points, copies and frees no run, and doesn't allocate. The job keeps its shares of the runs that
-    /// were replaced.
+    /// Ends a job that was taken out of this store: installs its run, if it was run, and gives its claim back in any case. It
+    /// compares no points, copies and frees no run, and doesn't allocate. The job keeps its references to the replaced runs.
     ///
-    /// A job that was run is refused only if no id is left, whatever was fed, kept, released or installed since.
+    /// A job that was run fails only if run IDs are exhausted, whatever was fed, kept, released or installed since.
     pub fn end_job(&mut self, job: &mut Job<O>) -> JobEnd
         requires out { job.old.stage ≢ Ended }
         requires held { is_held self.old job.old.claim ≡ true }

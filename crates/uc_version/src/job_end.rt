@@ -9,6 +9,6 @@ pub enum JobEnd {
     Installed(u64),
     /// It wasn't run.
     NotRun,
-    /// Its run was refused.
+    /// Its run couldn't be installed.
     Refused(InstallError),
 }

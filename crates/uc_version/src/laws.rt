@@ -92,13 +92,13 @@ pub fn claims_keep_their_runs<O: Operator>()
         (is_held (after_release seq o) c ≡ true) × (claimed_runs (after_release seq o) c ≡ claimed_runs o c) }
 {}
 
-/// A claim that isn't refused is held after it is made.
+/// A claim that succeeds is held after it is made.
 pub fn claims_are_held()
     ensures { (o : Owner) (s : Stretch) → IsOwner o → claim_refusal o s ≡ None →
         is_held (with_claim o (claim_of o s) s) (claim_of o s) ≡ true }
 {}
 
-/// A claim can be compacted under the current keeps, and be installed if an id is left. It is refused for nothing else.
+/// A claim can be compacted under the current keeps, and be installed if an id is left. Nothing else can make it fail.
 pub fn claims_can_be_compacted()
     ensures stand { (o : Owner) (c : Claim) → IsOwner o → is_held o c ≡ true →
         Stand (compaction_of o.version (stretch_of o c)).inputs (compaction_of o.version (stretch_of o c)).keeps }
@@ -110,8 +110,8 @@ pub fn claims_can_be_compacted()
 {}
 
 /// The run that a claim's runs were compacted to may be installed at any later time, while the claim is held and has its runs, if
-/// an id is left. Feeds, keeps, releases and other installs may come between. It is refused for nothing else: it knows
-/// each keep that it has to know, and if it was made for the oldest run, no run comes after its own.
+/// an id is left. Feeds, keeps, releases and other installs may come between. Nothing else can make it fail: it has each keep that
+/// it must have, and if it was made for the oldest run, no run comes after its own.
 pub fn own_compactions_are_refused_for_ids_alone<O: Operator>()
     ensures may { (o p : Owner) (c : Claim) (events : List Event) → IsOwner o → IsOwner p →
         is_held o c ≡ true → is_held p c ≡ true →

@@ -1,10 +1,10 @@
 //! The store of one owner: which stretches of runs are compacted, and what replaces them.
 //!
-//! An [`Owned`] has a version, and the claims of those who compact stretches of its runs. Read `specs/Owners.antt`
-//! first, then `specs/Claiming.antt`, `specs/Installing.antt` and `owned.rt`; and `specs/AtOnce.antt` with
-//! `at_once.rt`, `specs/Feeding.antt` with `live.rt`, `memtable_feed.rt` and `run_feed.rt`; and `specs/Jobs.antt` with `job.rt`.
-//! Compactions of any version's runs, and their installs, are in `uc_version_compact`, whoever claims them. Openings and what is
-//! fed are in `uc_version_open`, and versions in `uc_version_state`. This crate re-exports the public items of all three.
+//! An [`Owned`] has a version, and the claims of compactions of stretches of its runs. Read `specs/Owners.antt` first, then
+//! `specs/Claiming.antt`, `specs/Installing.antt` and `owned.rt`; and `specs/AtOnce.antt` with `at_once.rt`, `specs/Feeding.antt`
+//! with `live.rt`, `memtable_feed.rt` and `run_feed.rt`; and `specs/Jobs.antt` with `job.rt`. Compactions of any version's runs,
+//! and their installs, are in `uc_version_compact`, whoever claims them. Openings and what is fed are in `uc_version_open`, and
+//! versions in `uc_version_state`. This crate re-exports the public items of all three.
 //!
 //! An `Err(AllocError)`, or a variant `Memory`, comes only if an allocation fails.
 //!

@@ -34,14 +34,14 @@ impl<O: Operator> Owned<O> {
         count as u64
     }
 
-    /// Feeds writes: they fill memtables, and each becomes a run before all others. Returns how many runs there are more.
-    /// The last sequence becomes theirs; keeps stay, and so do claims, which go on to hold their runs. What was compacted
-    /// for a claim before a feed, a keep or a release can be installed after it, if an id is left. No writes change
-    /// nothing.
+    /// Feeds writes: they fill memtables, and each becomes a run before all others. Returns the number of new runs. The last
+    /// sequence number becomes theirs; keeps stay, and so do claims, which continue to hold their runs. The result of a compaction
+    /// for a claim that was taken before a feed, a keep or a release can be installed after it, if an id is left. An empty list
+    /// changes nothing.
     ///
-    /// It is refused if the first write isn't above the last sequence, then if a run would have no slot, then if no id is
-    /// left for one, and then for want of memory. The store is as it was then, and nothing is flushed but for the last.
-    /// It costs two copies of each text and a sort of what is fed. It copies no run that is there.
+    /// Fails, in this order, if the first write isn't above the last sequence number, if a run would have no slot, if run IDs are
+    /// exhausted, or if allocation fails. The store is then unchanged, and only in the last case was anything flushed. It costs two
+    /// copies of each key and value and a sort of what is fed. It copies no existing run.
     pub fn feed(&mut self, alloc: Global, writes: &Writes) -> Result<u64, FeedError>
         ensures ok { IfOk result (λ count.
             (feed_refusal self.old.version writes.now.list ≡ None)
@@ -55,8 +55,8 @@ impl<O: Operator> Owned<O> {
         self.feed_by(&Alone, alloc, writes)
     }
 
-    /// Feeds writes as [`feed`](Owned::feed) does, and these workers flush their memtables. What it gives is the same, and so is what
-    /// it refuses. Threads pay if the writes fill several memtables, of which they hold up to four meanwhile.
+    /// Feeds writes as [`feed`](Owned::feed) does, and these workers flush their memtables. The result and the errors are the same.
+    /// Threads pay if the writes fill several memtables, up to four of which they hold at a time.
     pub fn feed_by<W: Workers>(
         &mut self,
         workers: &W,
@@ -93,7 +93,7 @@ impl<O: Operator> Owned<O> {
         Ok(self.version.last())
     }
 
-    /// Releases a snapshot: the sequence is a keep no more. It is refused if it is none.
+    /// Releases a snapshot: the sequence number is no longer a keep. Fails if it is none.
     pub fn release(&mut self, seq: u64) -> Result<(), ReleaseError>
         ensures ok { OnOk result
             (Contains self.old.version.keeps seq × (self.new ≡ feeding.after_release seq self.old)) }

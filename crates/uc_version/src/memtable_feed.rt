@@ -50,9 +50,9 @@ impl<O: Operator> Owned<O> {
         move_down(&mut self.claims, 1);
     }
 
-    /// Feeds the writes of a memtable, which are all above the last sequence and together below the size from which on a
-    /// memtable is flushed, so they make one run. What it does is what [`feed`](Owned::feed) does of a list of these
-    /// writes, and so is what it refuses. It copies each text once.
+    /// Feeds the writes of a memtable, which are all above the last sequence number and together below the size at which a memtable
+    /// is flushed, so they make one run. The result and the errors are those of [`feed`](Owned::feed) with a list of these writes.
+    /// It copies each key and value once.
     pub fn feed_memtable(&mut self, alloc: Global, memtable: &Memtable) -> Result<(), FeedError>
         requires some { memtable.now ≢ [] }
         requires small { memtable_size memtable.now < self.old.version.limit }

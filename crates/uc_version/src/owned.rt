@@ -121,8 +121,8 @@ impl<O: Operator> Owned<O> {
         }
     }
 
-    /// Claims a stretch, so that it may be compacted. It is refused if the stretch isn't all there, has fewer than two
-    /// runs, or has claimed runs, of which the newest is named. Then the store is as it was. It doesn't allocate.
+    /// Claims a stretch, so that it may be compacted. Fails if the stretch isn't all there, has fewer than two runs, or has claimed
+    /// runs, the newest of which is named. The store is unchanged then. It doesn't allocate.
     pub fn claim(&mut self, stretch: Stretch) -> Result<OwnedClaim, ClaimError>
         ensures ok { IfOk result (λ claim.
             (claiming.claim_refusal self.old stretch ≡ None)
@@ -251,12 +251,12 @@ impl<O: Operator> Owned<O> {
         id
     }
 
-    /// Replaces the claim's runs by what they were compacted to, and gives the claim back. Returns the id of the new
-    /// run. It copies no run and doesn't allocate. Before any change it goes over the points of the claim's runs, which
-    /// takes up to four tenths of the time of their compaction. A refusal hands back both, and the store is as it was.
+    /// Replaces the claim's runs by their compaction, and gives the claim back. Returns the id of the new run. It copies no run and
+    /// doesn't allocate. Before any change it reads the points of the claim's runs, which takes up to four tenths of the time of
+    /// their compaction. On failure it returns both, and the store is unchanged.
     ///
-    /// The run that `compact` made for this claim is refused only if no id is left, whatever was fed, kept, released or installed
-    /// since.
+    /// The run that `compact` made for this claim fails only if run IDs are exhausted, whatever was fed, kept, released or
+    /// installed since.
     pub fn install(
         &mut self,
         claim: OwnedClaim,

@@ -49,9 +49,8 @@ impl<O: Operator> Owned<O> {
         move_down(&mut self.claims, 1);
     }
 
-    /// Feeds writes of which the run is made already; `last` is their last sequence. What it does is what
-    /// [`feed`](Owned::feed) does of a list of these writes, and so is what it refuses. It copies and sorts nothing, and
-    /// shares the run with the caller.
+    /// Feeds writes whose run is made already; `last` is their last sequence number. The result and the errors are those of
+    /// [`feed`](Owned::feed) with a list of these writes. It copies and sorts nothing, and shares the run with the caller.
     pub fn feed_run(&mut self, alloc: Global, run: &Arc<Run>, last: u64) -> Result<(), FeedError>
         requires { IsOfWrites self.old.version (arc_value run.now) last }
         ensures ok { OnOk result ((writes : List Write) → MakesRun self.old.version (arc_value run.now) last writes →

@@ -1,4 +1,4 @@
--- What is known of runs by their slots.
+-- Facts of runs by their slots.
 use Rattle.std.proofs.Common.{◌≡◌, ℕ, zero, suc, ◌<◌, Bool, List, [], ◌∷◌, length, get_or, map, refl, ap, ◌∙◌, arith}
 use Rattle.std.specs.List.{AllByRecursion}
 use Rattle.uc_version_state.specs.Versions.{PlacedRun, slots_of}

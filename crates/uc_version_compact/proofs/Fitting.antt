@@ -1,4 +1,4 @@
--- What fits may be installed.
+-- A compaction that fits may be installed.
 use Rattle.std.proofs.Common.{◌≡◌, ◌≤◌, List, length, sym, ap, ◌∙◌, subst, arith}
 use Rattle.std.proofs.lemmas.List.{length-map}
 use Rattle.uc_oper.specs.Operation.{Operation}

@@ -20,7 +20,7 @@ in_range n s two within =
     by_tests false true c ea eb ec = absurd cc
     by_tests false false true ea eb ec = absurd cc
 
--- a stretch that isn't refused for its range
+-- a stretch whose range is valid
 pub range_holds : (n : ℕ) (s : Stretch) → range_refusal n s ≡ None → (2 ≤ s.count) × (s.first + s.count ≤ n)
 range_holds n s fine = by_tests (ltb n s.first) (ltb (n - s.first) s.count) (ltb s.count 2) refl refl refl fine
   where

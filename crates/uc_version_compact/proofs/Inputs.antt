@@ -1,4 +1,4 @@
--- Runs that were compacted, one by one beside those that are claimed.
+-- Runs that were compacted, one by one with those that are claimed.
 use Rattle.std.proofs.Common.{◌≡◌, ℕ, zero, suc, ◌+◌, ◌<◌, List, [], ◌∷◌, ◌++◌, length, get_or, take, map, refl, sym, ap, ◌∙◌, arith}
 use Rattle.std.proofs.lemmas.List.{map-append, take_more, length-map}
 use Rattle.uc_run_entry.specs.Run.{Contents}

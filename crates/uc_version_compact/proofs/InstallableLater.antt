@@ -1,4 +1,4 @@
--- A stretch's own compaction in a later version: only runs that stand no more and a lack of ids refuse it.
+-- A stretch's own compaction in a later version: only missing runs and a lack of ids make its install fail.
 use Rattle.std.proofs.Common.{◌≡◌, ◌⊎◌, inl, inr, ◌+◌, ◌<◌, ◌≤◌, List, length, fold, refl, sym, ◌∙◌}
 use Rattle.std.specs.Prelude.{Some, None}
 use Rattle.uc_oper.specs.Operation.{Operation}

@@ -1,6 +1,6 @@
--- Behind a stretch that ended with the oldest run no run stands in a later version, and none behind what is left of it:
--- new runs come in front, an install puts one run where others were, and no id is given again. So from the stretch's
--- newest run on, if that is there, no more runs stand than the stretch had.
+-- No run comes after a stretch that ended with the oldest run, nor after the rest of it in a later version: new runs come in front,
+-- an install puts one run in place of others, and no id is given again. So from the stretch's newest run on, if that is there,
+-- there are no more runs than the stretch had.
 use Rattle.std.proofs.Common.{◌≡◌, ℕ, zero, suc, ◌+◌, ◌<◌, ◌≤◌, Bool, true, false, cond, eqb, List, [], ◌∷◌, ◌++◌, length, length-append, take, drop, map, fold, refl, ◌∙◌, arith}
 use Rattle.std.specs.Prelude.{⊤}
 use Rattle.std.proofs.lemmas.Bool.{eqb-true}
@@ -25,7 +25,7 @@ use Rattle.uc_version_state.proofs.SameRuns.{ids_rise}
 use Rattle.uc_version_compact.specs.Compacting.{runs_at, compaction_at}
 use Rattle.uc_version_compact.proofs.PartSlots.{part_length}
 
--- from a run with this id on there are at most so many, wherever it stands
+-- from a run with this id on there are at most `most` runs, wherever it is
 abbrev pub AreAtMostFrom : ℕ → ℕ → List PlacedRun → Type 0
 AreAtMostFrom id most [] = ⊤
 AreAtMostFrom id most (p ∷ ps) = (p.id ≡ id → length ps < most) × AreAtMostFrom id most ps
@@ -61,7 +61,7 @@ most_replaced id most new (suc first) (suc n) (p ∷ ps) other some within h = (
   most_replaced id most new first n ps other (omega (arith, some)) (omega (arith, within)) h.1,
 )
 
--- so many runs behind the first with this id, or behind all, there is none
+-- the list ends at most `most` places from the first run with this id on, or from its own end
 all_within : (id most : ℕ) (runs : List PlacedRun) → AreAtMostFrom id most runs → length runs ≤ place_of id runs + most
 all_within id most [] h = omega arith
 all_within id most (p ∷ ps) h = by_test (eqb p.id id) refl (all_within id most ps h.1)

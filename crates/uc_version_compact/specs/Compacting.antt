@@ -50,7 +50,7 @@ IsNotInstallable v claimed made IdsSpent =
     Fits v claimed made × KeepsKnown v.keeps (terms_of made) × AreInPlace v (ids_of claimed) × ¬ IdLeft v
 IsNotInstallable v claimed made Memory = ⊥
 
--- the error for a version's refusal
+-- the error for a version that can't install a compaction
 abbrev pub error_of : Refusal → InstallError
 error_of refusal.OlderBehind = WrongInputs
 error_of (refusal.UnknownKeep keep) = WrongKeeps keep

@@ -1,4 +1,4 @@
--- What the picker sees of a version.
+-- A version, as the picker sees it.
 use Rattle.std.specs.Prelude.{ℕ, Bool, List, map}
 use Rattle.uc_run_entry.specs.Size.{size_of}
 use Rattle.uc_version_state.specs.declared.candidate.Candidate.{Candidate}

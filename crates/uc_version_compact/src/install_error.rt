@@ -10,7 +10,7 @@ pub enum InstallError {
     /// It wasn't made for this keep: the least such one below the greatest sequence of the inputs.
     #[error("the compaction does not keep sequence {0}")]
     WrongKeeps(u64),
-    /// A run has been replaced meanwhile. An owner of a store never returns this.
+    /// A run has been replaced since. An owner of a store never returns this.
     #[error("the runs have been replaced")]
     Stale,
     /// No id is left: 2^64 - 1 is never given.

@@ -27,10 +27,9 @@ pub fn what_fits_may_be_installed<O: Operator>()
         MayInstall O.meaning v (install_for O.meaning claimed made) }
 {}
 
-/// The run that a stretch of a version was compacted to may be installed at any later time while its runs stand there as
-/// neighbours, if an id is left. Feeds, keeps, releases and installs of others may come between. It is refused for nothing
-/// else but runs that stand no more: it knows each keep that it has to know, and if it was made for the oldest run, no run
-/// comes after its own.
+/// The run that a stretch of a version was compacted to may be installed at any later time while its runs are there as neighbours,
+/// if an id is left. Feeds, keeps, releases and installs of others may come between. Only missing runs can make it fail: it has
+/// each keep that it must have, and if it was made for the oldest run, no run comes after its own.
 pub fn own_compactions_stay_installable<O: Operator>()
     ensures may { (v : Stored) (s : Stretch) (events : List Event) → IsVersion v →
         0 < s.count → s.first + s.count ≤ length v.runs → MayFollow O.meaning v events →

@@ -1,10 +1,11 @@
-//! Code by which both stores compact stretches of a version's runs: they pick one, merge its runs, judge the result and install it.
+//! Code by which both stores compact stretches of a version's runs: they pick one, merge its runs, validate the result and install
+//! it.
 //!
-//! The store of one owner (`uc_version`) and the store that threads share (`uc_share`) stand on this. Nothing here knows who
-//! claims runs.
+//! The store of one owner (`uc_version`) and the store that threads share (`uc_share`) use this crate. Nothing here depends on the
+//! owner of a claim.
 //!
-//! Read `specs/Compacting.antt` first, then `asked.rt`, `stretches.rt` and `refusal.rt`. `specs/Ranges.antt` says which
-//! stretches may be claimed at all, and `candidates.rt` picks one.
+//! Read `specs/Compacting.antt` first, then `asked.rt`, `stretches.rt` and `refusal.rt`. `specs/Ranges.antt` says which stretches
+//! may be claimed at all, and `candidates.rt` picks one.
 //!
 //! An `Err(AllocError)`, or a variant `Memory`, comes only if an allocation fails.
 //!

@@ -30,7 +30,7 @@ pub fn are_inputs<O: Operator>(made: &Compacted<O>, runs: &[Placed]) -> bool
     true
 }
 
-/// The error for a version's refusal of a compaction.
+/// The error for a version that can't install a compaction.
 pub fn error_of(refusal: Refusal) -> InstallError
     ensures { result ≡ compacting.error_of refusal }
 {
@@ -42,8 +42,8 @@ pub fn error_of(refusal: Refusal) -> InstallError
     }
 }
 
-/// Why a version refuses a compaction in place of the claimed runs, if it does. It ignores what the compaction was made
-/// of, compares no points and doesn't allocate.
+/// Why a version can't install a compaction in place of the claimed runs, if so. It ignores the inputs of the compaction, compares
+/// no points and doesn't allocate.
 pub fn present_refusal<O: Operator>(
     claimed: &[Placed],
     present: &Version,

@@ -1,4 +1,4 @@
--- How many writes there can be: a sequence each, below 2^56.
+-- A bound on the number of writes: each has its own sequence number, below 2^56.
 use Rattle.std.proofs.Common.{ℕ, ◌+◌, ◌^◌, ◌<◌, List, [], ◌∷◌, ◌++◌, length, length-append, arith}
 use Rattle.uc_bytes.specs.declared.write.Write.{Write}
 use Rattle.uc_batch.specs.Rising.{IsRising}

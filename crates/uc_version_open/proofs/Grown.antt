@@ -1,4 +1,4 @@
--- How far an opening comes with a write more.
+-- The state of an opening after one more write.
 use Rattle.std.proofs.Common.{◌≡◌, ◌≢◌, ℕ, suc, ◌-◌, ◌≤◌, Bool, true, false, cond, leb, not, ◌&&◌, List, [], ◌∷◌, ◌++◌, length, Some, None, refl, sym, ap, ◌∙◌, arith, length-append}
 use Rattle.std.proofs.lemmas.Bool.{leb-true, leb-false, le-leb, lt-leb}
 use Rattle.uc_bytes.specs.declared.write.Write.{Write}
@@ -19,7 +19,7 @@ both true ps = refl
 both false ps = refl
 
 module _ (limit : ℕ) where
-  -- a write behind the last part, or in a part of its own where that is full
+  -- a write after the last part, or in its own part if that is full
   abbrev pub grown_parts : List (List Write) → Write → List (List Write)
   grown_parts [] w = (w ∷ []) ∷ []
   grown_parts (p ∷ []) w = cond (leb limit (memtable_size p)) (p ∷ (w ∷ []) ∷ []) ((p ++ w ∷ []) ∷ [])
@@ -86,7 +86,7 @@ module _ (limit : ℕ) where
         ∙ ap (behind p) (flushing_grown (q ∷ ps) w)
         ∙ flushing_behind p (grown_parts (q ∷ ps) w) (grown_some (q ∷ ps) w)
 
-    -- as many runs as parts, but for the newest
+    -- as many runs as parts, without the newest part
     runs_count : (ps : List (List Write)) → ps ≢ [] → length ps ≡ suc (length (flushing_of ps).runs)
     runs_count [] some = absurd (some refl)
     runs_count (p ∷ []) some = refl

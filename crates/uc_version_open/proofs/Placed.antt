@@ -1,4 +1,4 @@
--- Runs that stand among others, behind so many.
+-- Runs among others, at a given place.
 use Rattle.std.proofs.Common.{◌≡◌, ℕ, List, [], ◌∷◌, ◌++◌, length, Some, None, Option, refl, sym, ap, ◌∙◌, append_assoc, Bool, true, false, cond, map, arith}
 use Rattle.std.proofs.lemmas.List.{map-append, append-nil}
 use Rattle.uc_bytes.specs.declared.write.Write.{Write}
@@ -8,7 +8,7 @@ use Rattle.uc_version_open.specs.Lending.{StandsAt, StandsIn}
 use Rattle.uc_version_open.specs.Progress.{Flushing}
 use Rattle.uc_version_open.specs.Steps.{is_full, is_spent, begun, grown, with_write, held_with}
 
--- more runs behind
+-- more runs after them
 stands_before : (place : ℕ) (part whole more : List Contents) → StandsAt place part whole → StandsAt place part (whole ++ more)
 stands_before place part whole more s = record {
   before = s.before;
@@ -42,7 +42,7 @@ same_front (x ∷ xs) ys (v ∷ vs) bs long e =
     let rest = same_front xs ys vs bs longs tails in
     (cc, rest.1)
 
--- the runs of what was lent, in place of it
+-- the runs of the lent memtables, in place of them
 pub settled : (place : ℕ) (runs lent full made : List Contents) → StandsAt place made ((runs ++ lent) ++ full) → length runs ≡ place → length lent ≡ length made → made ≡ lent
 settled place runs lent full made s few many =
     let whole : runs ++ (lent ++ full) ≡ s.before ++ (made ++ s.after) = sym (append_assoc runs lent full) ∙ s.whole_is in
@@ -55,7 +55,7 @@ settled_runs place runs lent full made runs' lent' s few many all none =
     ap (λ (rs : List Contents). (runs' ++ rs) ++ full) none
     ∙ ap (λ (rs : List Contents). rs ++ full) (append-nil runs' ∙ all ∙ ap (λ (rs : List Contents). runs ++ rs) (settled place runs lent full made s few many))
 
--- where the lent ones stand
+-- the places of the lent ones
 pub stands_behind : (place : ℕ) (runs lent full : List Contents) → place ≡ length runs → StandsAt place lent ((runs ++ lent) ++ full)
 stands_behind place runs lent full e = record { before = runs; after = full; whole_is = append_assoc runs lent full; place_is = sym e }
 

@@ -1,4 +1,4 @@
--- What a refusal says, and that none is leave to open.
+-- Facts that follow from a refusal; without a refusal the store may open.
 use Rattle.std.proofs.Common.{◌≡◌, ℕ, suc, ◌≤◌, Bool, true, false, cond, ◌&&◌, List, [], ◌∷◌, length, Option, Some, None, refl, sym, ap, ◌∙◌, arith}
 use Rattle.std.specs.Prelude.{nat_lt}
 use Rattle.std.specs.List.{AllByRecursion}
@@ -13,7 +13,7 @@ use Rattle.uc_version_open.specs.Refusal.{first_ahead, are_few, first_refusal, o
 use Rattle.uc_version_open.specs.Progress.{Flushing, Progress, flushing_of, progress_of}
 use Rattle.uc_version_open.proofs.Ended.{held_is}
 
--- no refusal: there is nothing to refuse
+-- no error: all checks pass
 nothing_wrong : (good : Bool) (ahead : Option ℕ) (few : Bool) → first_refusal good ahead few ≡ None → (good ≡ true) × (ahead ≡ None) × (few ≡ true)
 nothing_wrong false ahead few e = absurd cc
 nothing_wrong true (Some keep) few e = absurd cc

@@ -9,7 +9,7 @@ abbrev pub items_in : {V X : Type 0} → (V → List X) → Option V → List X
 items_in items None = []
 items_in items (Some v) = items v
 
--- a part of a list, behind so many elements
+-- a part of a list, after `place` elements
 pub record StandsAt (place : ℕ) (part whole : List Contents) : Type 0 where
   pub before : List Contents
   pub after : List Contents

@@ -1,11 +1,12 @@
--- A log's writes that are parted: the first ones are in a store that is being opened, the others stay behind them.
+-- A split list of a log's writes: the first ones are in a store that is being opened, the others come after them.
 use Rattle.std.specs.Prelude.{◌≡◌, ℕ, ◌-◌, ◌<◌, List, length, take, drop}
 use Rattle.uc_bytes.specs.declared.write.Write.{Write}
 use Rattle.uc_batch.specs.Rising.{IsRising}
 use Rattle.uc_version_state.specs.declared.options.Options.{Options}
 use Rattle.uc_version_open.specs.Progress.{Progress, progress_of}
 
--- these writes came so far, of which the store takes so many: where it is, how many more it takes, and what came behind
+-- the writes read up to now, of which the store takes at most `most`: its state, the number that it still takes, and the writes
+-- after those
 pub record IsParted (options : Options) (most : ℕ) (writes : List Write) (opener : Progress) (left : ℕ) (behind : List Write) : Type 0 where
   pub taken : opener ≡ progress_of options (take most writes)
   pub few : left ≡ most - length writes

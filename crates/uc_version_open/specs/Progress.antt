@@ -1,4 +1,4 @@
--- How far an opening has come after some writes.
+-- The state of an opening after some writes.
 use Rattle.std.specs.Prelude.{ℕ, List, [], ◌∷◌, length, Option, Some, None, ◌&&◌, if◌then◌else◌}
 use Rattle.uc_bytes.specs.declared.write.Write.{Write}
 use Rattle.uc_batch.specs.Rising.{last_of}
@@ -14,7 +14,7 @@ pub record Flushing : Type 0 where
   pub runs : List Contents
   pub newest : List Write
 
--- What is known of the writes so far: the last sequence, and their memtables, which are held only while the store may
+-- The state after the writes read up to now: the last sequence number, and their memtables, which are held only while the store may
 -- still open.
 pub record Progress : Type 0 where
   pub options : Options

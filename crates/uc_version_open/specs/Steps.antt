@@ -1,4 +1,4 @@
--- What a write changes in memtables, and their final runs.
+-- The change of memtables by a write, and their final runs.
 use Rattle.std.specs.Prelude.{ℕ, ◌+◌, ◌-◌, Bool, List, [], ◌∷◌, ◌++◌, length, Option, Some, None, ◌&&◌, nat_le, if◌then◌else◌}
 use Rattle.uc_bytes.specs.declared.write.Write.{Write}
 use Rattle.uc_claims.specs.declared.table.TheConstants.{MOST_SLOTS}

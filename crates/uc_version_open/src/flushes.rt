@@ -23,8 +23,8 @@ fn last_of(last: u64, writes: &[Write]) -> u64
     }
 }
 
-/// The runs of the memtables that writes fill, the oldest first. A memtable is flushed from `limit` bytes on, and what is
-/// left at the end too. It costs two copies of each text, and a sort of each memtable.
+/// The runs of the memtables that writes fill, the oldest first. A memtable is flushed once it has `limit` bytes, and so is the
+/// last one, at the end. It costs two copies of each key and value, and a sort of each memtable.
 pub fn flush_writes<W: Workers>(
     workers: &W,
     alloc: Global,
@@ -43,8 +43,8 @@ pub fn flush_writes<W: Workers>(
     memtables.into_runs(workers, alloc)
 }
 
-/// The version after writes were fed to it whose memtables these are, flushed, the oldest first: a new one that shares the
-/// runs which were there. It costs one look at the runs for their slots, and no look at a text.
+/// The version after these flushed memtables were fed to it, the oldest first: a new one that shares the existing runs. It costs
+/// one pass over the runs for their slots, and reads no key or value.
 pub fn version_with_flushed(
     alloc: Global,
     version: &Version,
@@ -60,9 +60,9 @@ pub fn version_with_flushed(
     version.with_runs(alloc, runs, last_of(version.last(), writes))
 }
 
-/// The version after writes were fed to it, as a new one that shares the runs which were there. It costs a copy of each
-/// text and a sort of each memtable that the writes fill, and one look at the runs for their slots. Threads flush full memtables
-/// side by side, up to four of which it holds meanwhile.
+/// The version after writes were fed to it, as a new one that shares the existing runs. It costs a copy of each key and value and a
+/// sort of each memtable that the writes fill, and one pass over the runs for their slots. Threads flush full memtables
+/// concurrently, up to four of which it holds at a time.
 pub fn fed_version<W: Workers>(
     workers: &W,
     alloc: Global,

@@ -12,7 +12,7 @@ use uc_batch::{Advance, BatchReader, BatchWrites, PieceReader, Pieces};
 enum AnyReader<'a> {
     /// Of a log in one piece, which is borrowed.
     Borrowed(BatchReader<'a>),
-    /// Of a log in pieces, which are let go of as they are read.
+    /// A log in pieces, which are freed as they are read.
     InPieces(PieceReader),
 }
 

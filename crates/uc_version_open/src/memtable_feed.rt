@@ -7,9 +7,9 @@ use std::alloc::{AllocError, Global};
 use uc_run::Memtable;
 use uc_version_state::{Version, feeds_and_keeps_give_versions, small_writes_fill_one_memtable};
 
-/// The version after a memtable's writes were fed to it, as a new one that shares the runs which were there. The memtable hasn't
-/// reached the version's limit, so it becomes one run. It costs one copy of each text and a sort, and one look at the
-/// runs for their slots.
+/// The version after a memtable's writes were fed to it, as a new one that shares the existing runs. The memtable is below the
+/// version's limit, so it becomes one run. It costs one copy of each key and value and a sort, and one pass over the runs for their
+/// slots.
 pub fn version_with_memtable(
     alloc: Global,
     version: &Version,

@@ -288,8 +288,8 @@ impl Memtables {
         Ok((kept, Loan { older, memtables }))
     }
 
-    /// Takes the runs of those that are lent, if these weren't flushed meanwhile; `older` is how many runs were there when they
-    /// were lent. It changes nothing that a contract sees.
+    /// Takes the runs of those that are lent, if these weren't flushed since; `older` is the number of runs when they were lent. It
+    /// changes nothing that a contract sees.
     pub(crate) fn settle(&mut self, older: usize, mut made: Vec<Run>) -> Result<(), AllocError>
         requires { StandsAt older made.items self.old.runs }
         ensures { self.new ≡ self.old }
@@ -303,8 +303,8 @@ impl Memtables {
     }
 }
 
-/// Inserts a write. If the store would need more runs than slots, drops everything: the opening will be refused. An
-/// `Err` changes nothing.
+/// Inserts a write. If the store would need more runs than slots, drops everything: the opening will fail. An `Err` changes
+/// nothing.
 pub(crate) fn hold_write<W: Workers>(
     workers: &W,
     alloc: Global,

@@ -27,9 +27,9 @@ use uc_version_state::{Options, Version, opening_gives_a_version, placed_onto};
 
 /// A store that is being opened, by the writes of a log one after the other.
 ///
-/// It refuses nothing before [`finish`](Opener::finish), since a fault of the log comes before a refused opening. It
-/// holds the runs so far, one memtable and, if threads flush, a few more that wait or that are flushed meanwhile; or nothing once
-/// the store can't open any more.
+/// It reports no error before [`finish`](Opener::finish), since a fault of the log comes before an error of the opening. It holds
+/// the runs made up to now, one memtable and, if threads flush, a few more that wait or are being flushed; or nothing once the
+/// store can't open any more.
 #[derive(Drop)]
 pub struct Opener {
     options: Options,
@@ -89,7 +89,7 @@ fn lend_some(
 }
 
 impl Opener {
-    /// A store without writes so far. Bad options are refused only at the end. It doesn't allocate.
+    /// A store without writes. Invalid options are reported only at the end. It doesn't allocate.
     pub fn new(alloc: Global, options: Options) -> Opener
         ensures { result ≡ progress_of options [] }
     {
@@ -111,10 +111,10 @@ impl Opener {
         self.last
     }
 
-    /// Takes the next write of the log. Its sequence is above all before it and at most
-    /// [`MAX_SEQUENCE`](uc_bytes::MAX_SEQUENCE). It costs a copy of the texts, amortized, and the flush of a memtable
-    /// if that is full, or of several if these workers flush several at once. An `Err` takes nothing. Runs that were made stay
-    /// where they stand, unless the store can't open any more.
+    /// Takes the next write of the log. Its sequence number is above all before it and at most
+    /// [`MAX_SEQUENCE`](uc_bytes::MAX_SEQUENCE). It costs a copy of the key and value, amortized, and the flush of a memtable if
+    /// that is full, or of several if these workers flush several at once. An `Err` takes nothing. Runs that were made stay, unless
+    /// the store can't open any more.
     pub fn insert<W: Workers>(
         &mut self,
         workers: &W,

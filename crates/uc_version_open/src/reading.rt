@@ -137,7 +137,7 @@ impl<'a, 'w, W: Workers> Work for ReadOn<'a, 'w, W> {
     }
 }
 
-/// The runs of memtables that these workers make, and how far this thread read on meanwhile.
+/// The runs of memtables that these workers make, and how far this thread read in that time.
 fn flush_beside_reading<'a, W: Workers>(
     workers: &W,
     alloc: Global,
@@ -162,7 +162,7 @@ fn flush_beside_reading<'a, W: Workers>(
     Ok((runs, reading?))
 }
 
-/// A round: the memtables that wait are flushed, and this thread reads on beside until as many wait again, or the log ends.
+/// A round: the waiting memtables are flushed, while this thread reads until as many wait again, or the log ends.
 pub(crate) fn flush_and_read_on<'a, W: Workers>(
     workers: &W,
     alloc: Global,

@@ -48,12 +48,11 @@ fn recover_batches<W: Workers>(
     }
 }
 
-/// Takes the writes of a log, up to its first fault, into a store that is being opened under these options. It goes once over the
-/// log.
+/// Takes the writes of a log, up to its first fault, into a store that is being opened under these options. It reads the log once.
 ///
-/// It holds what the opener holds, and one buffer for a batch of several records. Threads flush full memtables side by side while
-/// the calling one reads on. So beside that there are four of them with the runs that are made of them, and up to six where a batch
-/// fills several.
+/// It holds what the opener holds, and one buffer for a batch of several records. Threads flush full memtables concurrently while
+/// the calling one reads. So there are four more memtables with the runs that are made of them, and up to six if a batch fills
+/// several.
 pub fn recover<W: Workers>(
     workers: &W,
     alloc: Global,
@@ -69,8 +68,8 @@ pub fn recover<W: Workers>(
     recover_batches(workers, alloc, batches, options)
 }
 
-/// As [`recover`], of a log in pieces. Each is let go of when its batches were read, so what is left of the log grows smaller while
-/// the store grows.
+/// As [`recover`], of a log in pieces. Each is freed once its batches are read, so the rest of the log shrinks while the store
+/// grows.
 pub fn recover_pieces<W: Workers>(
     workers: &W,
     alloc: Global,
@@ -173,8 +172,8 @@ fn part_batch<W: Workers>(
     Ok(())
 }
 
-/// As [`recover`], for the first `most` writes alone. Those after them come as they are, the oldest first. It holds them beside
-/// what the opener holds, and up to four full memtables, which threads flush side by side.
+/// As [`recover`], for the first `most` writes alone. Those after them are returned as they are, the oldest first. It holds them
+/// besides what the opener holds, and up to four full memtables, which threads flush concurrently.
 pub fn recover_first<W: Workers>(
     workers: &W,
     alloc: Global,

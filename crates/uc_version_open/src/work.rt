@@ -1,6 +1,6 @@
 //! [`Work`]: what a thread does while others flush.
 
-/// The work of the calling thread while others flush. `join` tells of a closure's result only what doesn't borrow, so the closure
+/// The work of the calling thread while others flush. `join` proves of a closure's result only what doesn't borrow, so the closure
 /// holds a value of a type parameter.
 pub trait Work {
     /// The result.

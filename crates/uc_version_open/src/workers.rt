@@ -1,4 +1,4 @@
-//! [`Workers`]: who does the work that threads can share.
+//! [`Workers`]: how work is done that threads can share.
 ghost use Rattle.std.specs.Prelude.{◌≡◌, ⊤, IfOk, map};
 ghost use Rattle.std.specs.Thread.{IsSync};
 ghost use Rattle.uc_run.specs.Flush.{flushed};
@@ -29,7 +29,7 @@ pub trait Workers {
         requires { can_work }
         ensures { IfOk result (λ runs. runs.items ≡ map flushed full.now) };
 
-    /// The runs of these memtables, and what comes of the work that the calling thread does beside.
+    /// The runs of these memtables, and the result of the work that the calling thread does in that time.
     fn flush_beside<W: Work<Output = T> + Drop, T>(
         &self,
         alloc: Global,
@@ -83,7 +83,7 @@ fn flush_side_by_side<R: Threads + Sync>(
     Ok(runs)
 }
 
-/// The runs of some memtables, flushed side by side by other threads, and what comes of the work that this one does meanwhile.
+/// The runs of some memtables, flushed concurrently by other threads, and the result of the work that this one does in that time.
 fn side_by_side_beside<R: Threads + Sync, W: Work<Output = T> + Drop, T>(
     rt: &R,
     alloc: Global,

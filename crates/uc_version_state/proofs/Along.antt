@@ -1,4 +1,4 @@
--- What stays along a history.
+-- Facts that stay true along a history.
 use Rattle.std.proofs.Common.{◌≡◌, ℕ, ◌≤◌, List, [], ◌∷◌, ◌++◌, Contains, inl, inr, ⊎_elim, fold, sym, ap, ◌∙◌, subst, append-nil, arith}
 use Rattle.std.specs.Prelude.{None}
 use Rattle.std.specs.List.{flat_map}
@@ -42,7 +42,7 @@ module _ (is_run : FlushesAreRuns) (m : Operation) (laws : IsLawful m) where
   is_version h legal opens = versions_stay (opened h.opening) h.events opens legal.follow
 
   module _ (keeps_effects : FlushesKeepEffects m) where
-    -- more writes behind what agrees
+    -- more writes after writes that agree
     continued : (ws vs : List Write) (more : List Write) (key : List ℕ) (at : ℕ) → value_of m ws key at ≡ value_of m vs key at → value_of m (ws ++ more) key at ≡ value_of m (vs ++ more) key at
     continued ws vs more key at same =
         effect_continues m laws None ws more key at

@@ -1,4 +1,4 @@
--- What an event changes of a version.
+-- The effect of an event on a version.
 use Rattle.std.proofs.Common.{◌≡◌, refl}
 use Rattle.uc_batch.specs.Rising.{last_of}
 use Rattle.uc_version_state.specs.Versions.{Stored}

@@ -9,7 +9,7 @@ use Rattle.uc_version_state.specs.declared.candidate.Candidate.{Candidate}
 use Rattle.uc_version_state.specs.Picks.{total, are_unclaimed, is_within_ratio, is_collected, collected_behind, collected}
 use Rattle.uc_version_state.specs.Collecting.{MayBeCollected}
 
--- the first n of some runs may be collected behind those before them
+-- the first n of some runs may be collected after those before them
 record MayFollow (o : Options) (before runs : List Candidate) (n : ℕ) : Type 0 where
   pub there : n ≤ length runs
   pub unclaimed : are_unclaimed (take n runs) ≡ true

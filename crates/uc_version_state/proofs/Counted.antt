@@ -1,4 +1,4 @@
--- How often a slot is held, by all compactors together.
+-- The number of times that a slot is held, by all compactors together.
 use Rattle.std.proofs.Common.{◌≡◌, ◌≢◌, ℕ, ◌+◌, ◌<◌, ◌≤◌, List, ◌⊎◌, inl, inr, length, get_or, set, ap, arith}
 use Rattle.std.specs.List.{sum_by}
 use Rattle.std.proofs.lemmas.Bool.{cases_lt}

@@ -1,4 +1,4 @@
--- How many memtables are full so far.
+-- The number of memtables that are full.
 use Rattle.std.proofs.Common.{◌≡◌, ℕ, ◌+◌, ◌-◌, ◌^◌, ◌<◌, ◌≤◌, min, Bool, true, false, cond, leb, List, [], ◌∷◌, ◌++◌, length, get_or, drop, refl, sym, ap, ◌∙◌, subst, arith}
 use Rattle.std.specs.List.{sum_by}
 use Rattle.std.proofs.lemmas.Bool.{le-leb, lt-leb}
@@ -69,7 +69,7 @@ module _ (limit : ℕ) (all : List Write) (i full size : ℕ) (is_empty : Bool) 
   some_held [] = (w, [], refl)
   some_held (v ∷ vs) = (v, vs ++ w ∷ [], refl)
 
-  -- it has room
+  -- it isn't full
   pub grown : leb limit size_now ≡ false → HasCounted limit all (i + 1) full size_now false
   grown e = record {
     held = so_far.held ++ w ∷ [];

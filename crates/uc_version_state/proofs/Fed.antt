@@ -1,4 +1,4 @@
--- What feeding leaves is a version, and none is refused without writes.
+-- A version after a feed is a version, and a feed without writes isn't rejected.
 use Rattle.std.proofs.Common.{◌≤◌, List, arith}
 use Rattle.uc_bytes.specs.declared.write.Write.{Write}
 use Rattle.uc_batch.specs.Rising.{last_of}

@@ -32,7 +32,7 @@ same_front ws vs w v e =
     sym (take_at ws (w ∷ []) (length ws) refl) ∙ ap (λ (us : List Write). take (length ws) us) e ∙ take_at vs (v ∷ []) (length ws) (omega (arith, a, b, l))
 
 module _ (limit : ℕ) where
-  -- each part with another behind it has reached the limit
+  -- each part with another after it has reached the limit
   abbrev AreFull : List (List Write) → Type 0
   AreFull [] = ⊤
   AreFull (p ∷ ps) = (ps ≢ [] → limit ≤ memtable_size p) × AreFull ps

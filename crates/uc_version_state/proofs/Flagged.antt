@@ -45,6 +45,6 @@ pub pass_one : (flags : List Bool) (slot : ℕ) (rest all : List ℕ) → length
 pass_one flags slot rest all above far k lt =
     ap (λ b. get_or flags k false || (b || is_taken rest k)) (sym (ne_eqb slot k (λ e. omega (arith, above, lt, e)))) ∙ far k lt
 
--- behind the last
+-- after the last
 pub all_said : (flags : List Bool) (all : List ℕ) → AreSoFar flags [] all → (k : ℕ) → k < length flags → get_or flags k false ≡ is_taken all k
 all_said flags all far k lt = sym (or_false (get_or flags k false)) ∙ far k lt

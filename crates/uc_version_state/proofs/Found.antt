@@ -106,7 +106,7 @@ part_count runs first ids within same =
     omega (arith, within, named, taken, dropped)
 
 module _ (v : Stored) (is_version : IsVersion v) (ids : List ℕ) where
-  -- where they don't stand behind the place of the newest, they stand nowhere
+  -- if they aren't after the place of the newest, they are nowhere
   pub stand_nowhere : (ids_of (standing ids v.runs) ≡ ids → ⊥) → (first : ℕ) → ids_of (part_of first (length ids) v.runs) ≡ ids → ⊥
   stand_nowhere missing first same = by_count (length ids) refl
     where
@@ -149,7 +149,7 @@ module _ (v : Stored) (is_version : IsVersion v) (ids : List ℕ) where
     pub behind_is : behind ids v.runs ≡ drop (first + count) v.runs
     behind_is = ap (λ n. drop (n + length ids) v.runs) first_is ∙ ap (λ n. drop (first + n) v.runs) count_is
 
--- nothing stands behind them exactly where they reach the end
+-- nothing comes after them exactly if they reach the end
 pub last_if : (runs : List PlacedRun) (ids : List ℕ) (newest place : ℕ) → newest ≡ newest_id ids → place ≡ place_of newest runs → place ≤ length runs →
     (leb (length runs - place) (length ids) ≡ true → behind ids runs ≡ []) × (behind ids runs ≡ [] → leb (length runs - place) (length ids) ≡ true)
 last_if runs ids newest place newest_is place_is within = (

@@ -1,4 +1,4 @@
--- What isn't refused may happen.
+-- An event that isn't rejected may happen.
 use Rattle.std.proofs.Common.{◌≡◌, ap, subst}
 use Rattle.std.specs.Prelude.{Option, Some, None, IfNone}
 use Rattle.uc_oper.specs.Operation.{Operation}

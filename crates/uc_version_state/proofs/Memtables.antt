@@ -8,7 +8,7 @@ use Rattle.uc_batch.specs.Rising.{IsRising, last_of}
 use Rattle.uc_run.specs.Size.{memtable_size}
 use Rattle.uc_version_state.specs.Flushes.{memtables_from, memtables}
 
--- all parts, one behind the other
+-- all parts, concatenated
 abbrev pub joined : List (List Write) → List Write
 joined parts = flat_map (λ (part : List Write). part) parts
 
@@ -58,7 +58,7 @@ parts_rise last (p ∷ ps) some h = (some.0, rising-front last p (joined ps) h, 
 pub memtables_rise : (limit last : ℕ) (ws : List Write) → IsRising last ws → PartsRise last (memtables limit ws)
 memtables_rise limit last ws h = parts_rise last (memtables limit ws) (some_from limit [] ws) (subst (IsRising last) (sym (joined_from limit [] ws)) h)
 
--- the last sequence of parts one behind the other
+-- the last sequence number of concatenated parts
 pub last-joined : (last : ℕ) (p : List Write) (ps : List (List Write)) → last_of last (joined (p ∷ ps)) ≡ last_of (last_of last p) (joined ps)
 last-joined last [] ps = refl
 last-joined last (w ∷ ws) ps = last-joined w.seq ws ps

@@ -1,4 +1,4 @@
--- What an opening leaves is a version, which means its writes.
+-- An opening results in a version, which means its writes.
 use Rattle.std.proofs.Common.{◌≡◌, ℕ, ◌≤◌, Bool, true, false, List, [], ◌∷◌, ◌++◌, refl, arith, leb-true}
 use Rattle.std.specs.Prelude.{◌&&◌}
 use Rattle.uc_oper.specs.Operation.{Operation, IsLawful}

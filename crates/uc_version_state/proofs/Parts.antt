@@ -1,4 +1,4 @@
--- Runs in three parts: those in front of a stretch, the stretch, and those behind it.
+-- Runs in three parts: those in front of a stretch, the stretch, and those after it.
 use Rattle.std.proofs.Common.{◌≡◌, ◌≢◌, ℕ, ◌+◌, ◌<◌, List, [], ◌∷◌, ◌++◌, take, drop, refl, sym, ap, ◌∙◌}
 use Rattle.std.specs.List.{AllByRecursion}
 use Rattle.std.proofs.lemmas.List.{take-append-drop, append-nil, append_assoc, drop-drop}

@@ -15,7 +15,7 @@ use Rattle.uc_version_state.specs.Snapshots.{kept, released}
 use Rattle.uc_version_state.specs.Installs.{part_of, slot_of, replaced}
 use Rattle.uc_version_state.proofs.Placing.{count_flushed}
 
--- runs that stand in a version as neighbours, in order, behind so many
+-- runs that are neighbours in a version, in order, from a place on
 pub record Stands (v : Stored) (noted : List PlacedRun) : Type 0 where
   pub first : ℕ
   pub within : first + length noted ≤ length v.runs
@@ -126,7 +126,7 @@ module _ (v : Stored) (f n : ℕ) (some : 0 < n) (f_within : f + n ≤ length v.
 
 -- ---- runs that come before all others
 
--- neighbouring runs stand so many places further back
+-- neighbouring runs are `count` places further back
 part_behind : (id : ℕ) (runs : List PlacedRun) (ps : List (List Write)) (first count : ℕ) → part_of (first + length ps) count (flushed_onto id runs ps) ≡ part_of first count runs
 part_behind id runs [] first count = ap (λ n. part_of n count runs) (let e : first + 0 ≡ first = omega arith in e)
 part_behind id runs (p ∷ ps) first count =

@@ -61,7 +61,7 @@ kept_is_version v is = record {
   limit_some = is.limit_some;
 }
 
--- one that isn't among them comes behind them
+-- one that isn't among them is appended
 pub is_new : (seq : ℕ) (keeps : List ℕ) → (Contains keeps seq → ⊥) → keeps ++ seq ∷ [] ≡ with_keep seq keeps
 is_new seq keeps none = by_test (list_any (λ keep. eqb keep seq) keeps) refl
   where

@@ -1,4 +1,4 @@
--- What holds of the machine, and stays at every step.
+-- Invariants of the machine, which every step keeps.
 use Rattle.std.proofs.Common.{◌≡◌, ◌≢◌, ℕ, zero, suc, ◌+◌, ◌<◌, ◌≤◌, Bool, true, false, cond, eqb, eq-eqb, List, [], ◌∷◌, ◌++◌, ⊎_elim, Contains, length, get_or, set, take, replicate, fold, refl, sym, ap, ◌∙◌, subst, arith}
 use Rattle.std.specs.Prelude.{⊤}
 use Rattle.std.specs.List.{AllByRecursion}
@@ -36,7 +36,7 @@ Holds v (Taken noted) = IsNoted v noted
 Holds v (Checked noted) = IsNoted v noted × Stands v noted
 Holds v (Giving left) = ⊤
 
--- What holds between any two steps. A word is how often its slot is held, and that is once at the most.
+-- Invariant between any two steps. A word is the number of times that its slot is held, which is at most one.
 pub record Keeps (m : Operation) (s : Machine) : Type 0 where
   pub legal : IsLegal m s.history
   pub opens : IsVersion (opened s.history.opening)

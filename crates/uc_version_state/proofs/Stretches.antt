@@ -12,7 +12,7 @@ use Rattle.uc_version_state.proofs.Parts.{in_parts}
 slots-append : (k : ℕ) (ps qs : List PlacedRun) → times k (slots_of (ps ++ qs)) ≡ times k (slots_of ps) + times k (slots_of qs)
 slots-append k ps qs = ap (times k) (map-append (λ (p : PlacedRun). p.slot) ps qs) ∙ times-append k (slots_of ps) (slots_of qs)
 
--- a stretch, and what is behind it
+-- a stretch, and the runs after it
 part-le : (k first count : ℕ) (ps : List PlacedRun) → times k (slots_of (part_of first count ps)) + times k (slots_of (drop (first + count) ps)) ≤ times k (slots_of ps)
 part-le k first count ps =
     let all : times k (slots_of (take first ps ++ (part_of first count ps ++ drop (first + count) ps))) ≡ times k (slots_of ps) = ap (λ (qs : List PlacedRun). times k (slots_of qs)) (in_parts first count ps) in
@@ -25,7 +25,7 @@ part_distinct v is_version first count =
     distinct-from_times (slots_of (part_of first count v.runs))
     (λ k. let le = times-distinct (slots_of v.runs) is_version.slots_apart k in let part = part-le k first count v.runs in omega (arith, le, part))
 
--- a stretch behind another
+-- a stretch after another
 behind-le : (k first count later more rest : ℕ) (ps : List PlacedRun) → first + count + rest ≡ later →
     times k (slots_of (part_of first count ps)) + times k (slots_of (part_of later more ps)) ≤ times k (slots_of ps)
 behind-le k first count later more rest ps e =

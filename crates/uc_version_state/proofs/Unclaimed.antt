@@ -12,7 +12,7 @@ taken_by : (r : Candidate) (runs : List Candidate) (n : ℕ) (b : Bool) → r.cl
 taken_by r runs n true e l rest = absurd (omega (arith, l))
 taken_by r runs n false e l rest = ap (λ c. not c && are_unclaimed (take n runs)) e ∙ rest (omega (arith, l))
 
--- so many of them, or fewer, aren't claimed
+-- the first n of them aren't claimed, if at least n are unclaimed in front
 pub taken : (runs : List Candidate) (n : ℕ) → n ≤ unclaimed runs → are_unclaimed (take n runs) ≡ true
 taken runs zero l = refl
 taken [] (suc n) l = refl

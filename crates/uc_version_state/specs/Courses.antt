@@ -86,7 +86,7 @@ pub record LookThen (m : Operation) (o : Opening) (noted : List (List PlacedRun)
 abbrev pub noted_at : Opening → Stretch → List PlacedRun
 noted_at o s = part_of s.first s.count (opened o).runs
 
--- Two stretches of an opening, of two runs or more, that share none, and what happens meanwhile, which needs no claim word.
+-- Two stretches of an opening, of two runs or more, that share none, and concurrent events, which need no claim word.
 pub record LookApart (m : Operation) (o : Opening) (s t : Stretch) (meanwhile : List Event) : Type 0 where
   pub lawful : IsLawful m
   pub legal : IsLegal m (record { opening = o; events = meanwhile })

@@ -1,4 +1,4 @@
--- What fed writes do to a version: they fill memtables, whose runs stand before all others (RocksDB wiki, "MemTable").
+-- The effect of fed writes on a version: they fill memtables, whose runs come before all others (RocksDB wiki, "MemTable").
 use Rattle.std.specs.Prelude.{ℕ, ◌+◌, ◌≤◌, ◌<◌, ◌^◌, Bool, true, false, List, [], ◌∷◌, length, Option, Some, None, nat_le, nat_lt}
 use Rattle.uc_bytes.specs.declared.write.Write.{Write}
 use Rattle.uc_batch.specs.Rising.{IsRising, last_of}

@@ -43,7 +43,7 @@ least_free slots = free_from (length slots) 0 slots
 abbrev pub with_run : ℕ → List PlacedRun → Contents → List PlacedRun
 with_run id older run = record { id = id; slot = least_free (slots_of older); run = run } ∷ older
 
--- runs in turn, the oldest first, before older ones: their ids go on from one
+-- runs in turn, the oldest first, before older ones: their ids count up from one
 abbrev pub placed_onto : ℕ → List PlacedRun → List Contents → List PlacedRun
 placed_onto id older [] = older
 placed_onto id older (run ∷ runs) = placed_onto (id + 1) (with_run id older run) runs

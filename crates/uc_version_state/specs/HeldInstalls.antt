@@ -9,9 +9,9 @@ use Rattle.uc_version_state.specs.declared.install.Install.TheInside.{Inside}
 abbrev pub install : Inside → Install
 install i = record { ids = i.ids.items; keeps = i.keeps.items; oldest = i.oldest; output = arc_value i.output }
 
--- What holds of every install.
+-- Invariant of every install.
 pub record IsInstall (i : Install) : Type 0 where
-  -- an install of a single run would replace a run by itself
+  -- an install of a single run would replace a run by a copy of it
   pub two : 2 ≤ length i.ids
   pub keeps_rise : IsStrictlySortedBy nat_cmp i.keeps
 

@@ -1,4 +1,4 @@
--- What happens to a store after its opening.
+-- Events of a store after its opening.
 use Rattle.std.specs.Prelude.{ℕ, zero, suc, ◌+◌, ⊤, List, [], ◌∷◌, ◌++◌, Contains, fold, length}
 use Rattle.std.specs.List.{flat_map}
 use Rattle.uc_oper.specs.Operation.{Operation}

@@ -1,4 +1,4 @@
--- What an installed compaction does to a version (RocksDB wiki, "Universal Compaction").
+-- The effect of an installed compaction on a version (RocksDB wiki, "Universal Compaction").
 use Rattle.std.specs.Prelude.{◌≡◌, ◌≢◌, ℕ, ◌+◌, ◌-◌, ◌^◌, ◌<◌, ◌≤◌, ◌==◌, suc, Bool, true, List, [], ◌∷◌, ◌++◌, Contains, take, drop, length, if◌then◌else◌}
 use Rattle.std.specs.List.Sorted.{IsStrictlySortedBy}
 use Rattle.std.specs.Ordering.{nat_cmp}

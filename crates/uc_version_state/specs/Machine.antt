@@ -68,7 +68,7 @@ pub data Action : Type 0 where
   Check : Action
   -- publishes a run that replaces them
   Publish : Install → Action
-  -- gives up the noted runs
+  -- abandons the noted runs
   Abandon : Action
   -- gives the word of one slot back
   Give : ℕ → Action

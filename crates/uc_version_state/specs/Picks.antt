@@ -44,8 +44,8 @@ first_picked rule above (r ∷ runs) =
 abbrev pub is_within_ratio : ℕ → ℕ → ℕ → Bool
 is_within_ratio ratio sum size = nat_le (100 * size) ((100 + ratio) * sum)
 
--- Whether a run is collected after `count` others of this sum: it isn't claimed, and either it is the first, or there
--- is room for it and it is within the ratio of the sum.
+-- Whether a run is collected after `count` others of this sum: it isn't claimed, and either it is the first, or the limit isn't
+-- reached and it is within the ratio of the sum.
 abbrev pub is_collected : Options → ℕ → ℕ → Candidate → Bool
 is_collected o count sum r = not r.claimed && (nat_eq count 0 || nat_lt count o.greatest && is_within_ratio o.ratio sum r.size)
 
@@ -83,7 +83,7 @@ abbrev pub number_of_runs : Options → List Candidate → Option Stretch
 number_of_runs o runs =
     if nat_lt o.trigger (length runs) then first_picked (unclaimed_at_most (min (length runs - o.trigger + 1) o.greatest)) 0 runs else None
 
--- What is compacted next: nothing below the trigger, otherwise the pick of the first rule that picks any.
+-- The stretch that is compacted next: none below the trigger, otherwise the pick of the first rule that picks any.
 abbrev pub picked : Options → List Candidate → Option Stretch
 picked o runs =
     if nat_lt (length runs) o.trigger then None

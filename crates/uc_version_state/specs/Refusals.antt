@@ -1,4 +1,4 @@
--- What refuses an install.
+-- Reasons why an install is rejected.
 use Rattle.std.specs.Prelude.{◌≡◌, ℕ, Bool, not, ◌&&◌, ◌==◌, List, [], ◌∷◌, Option, Some, None, nat_lt, if◌then◌else◌}
 use Rattle.std.specs.List.{list_any}
 use Rattle.uc_oper.specs.Operation.{Operation}
@@ -37,7 +37,7 @@ IsRefused v ids t IdsSpent = NothingBelow (behind ids v.runs) t × KeepsKnown v.
 abbrev pub terms_in : Install → Terms
 terms_in i = record { keeps = i.keeps; oldest = i.oldest; high = i.output.high }
 
--- an install's output is what it is made of, which no look at ids can tell
+-- an install's output is made of its inputs, which can't be checked by ids
 abbrev pub IsMade : Operation → Stored → Install → Type 0
 IsMade m v i = i.output ≡ output_of m (compaction_in i v)
 

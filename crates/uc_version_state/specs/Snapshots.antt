@@ -3,7 +3,7 @@ use Rattle.std.specs.Prelude.{ℕ, ◌==◌, not, List, [], ◌∷◌, ◌++◌,
 use Rattle.std.specs.List.{filter, list_any}
 use Rattle.uc_version_state.specs.Versions.{Stored}
 
--- keeps with one more behind them, if it isn't among them
+-- keeps, with one more appended, if it isn't among them
 abbrev pub with_keep : ℕ → List ℕ → List ℕ
 with_keep seq keeps = if list_any (λ keep. keep == seq) keeps then keeps else keeps ++ seq ∷ []
 

@@ -1,4 +1,4 @@
-//! Writes that are fed: what refuses them, and the version after them.
+//! Writes that are fed: why they are rejected, and the version after them.
 ghost use Rattle.std.specs.Arc.{arc_value};
 ghost use Rattle.std.specs.Prelude.{◌≡◌, ◌<◌, ◌^◌, ◌+◌, ◌++◌, ◌∷◌, ℕ, [], false, IfOk, length, slice_index_or};
 ghost use Rattle.uc_version_state.specs.Versions.{IsVersion, slots_of};

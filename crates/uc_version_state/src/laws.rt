@@ -175,13 +175,13 @@ pub fn events_change_what_they_say()
     ensures limit { (v : Stored) (e : Event) → (after v e).limit ≡ v.limit }
 {}
 
-/// No writes change nothing, and are never refused.
+/// An empty list of writes changes nothing, and never fails.
 pub fn no_writes_change_nothing()
     ensures same { (v : Stored) → fed [] v ≡ v }
     ensures may { (v : Stored) → IsVersion v → MayFeed v [] }
 {}
 
-/// Writes, which rise, may be fed exactly if nothing refuses them.
+/// Writes, which rise, may be fed exactly if nothing rejects them.
 pub fn no_refusal_is_leave_to_feed()
     ensures { (v : Stored) (ws : List Write) → IsRising 0 ws → (feed_refusal v ws ≡ None) ↔ MayFeed v ws }
 {}

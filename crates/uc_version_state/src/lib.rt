@@ -1,17 +1,17 @@
-//! Versions: what a store holds at a moment, what may happen to it, and which runs are compacted next.
+//! Versions: the contents of a store at one point in time, the events that may change it, and the runs that are compacted next.
 //!
-//! A [`Version`] has sorted runs, the newest first, the keeps (snapshots' sequences), and the number of the next run.
-//! An event changes it; a history is an opening and the events after it. Read `specs/Versions.antt` first, then
-//! `specs/Openings.antt`, `specs/Installs.antt` and `specs/Histories.antt`. `laws.rt` says what a store opens with, and
-//! that no event changes what is read.
+//! A [`Version`] has sorted runs, the newest first, the keeps (snapshots' sequences), and the number of the next run. An event
+//! changes it; a history is an opening and the events after it. Read `specs/Versions.antt` first, then `specs/Openings.antt`,
+//! `specs/Installs.antt` and `specs/Histories.antt`. `laws.rt` says what a store opens with, and that no event changes what is
+//! read.
 //!
-//! [`Options`] say how a store is opened and compacted. The rules of picking are those of RocksDB's universal
-//! compaction: space amplification, size ratio and number of runs, in this order. `specs/Picks.antt` defines them,
-//! `picking.rt` picks, and `pick_laws.rt` has the laws of a pick.
+//! [`Options`] say how a store is opened and compacted. The rules of picking are those of RocksDB's universal compaction: space
+//! amplification, size ratio and number of runs, in this order. `specs/Picks.antt` defines them, `picking.rt` picks, and
+//! `pick_laws.rt` has the laws of a pick.
 //!
-//! Concurrent compactors are a machine of single steps. `specs/Machine.antt` is the whole machine: what a compactor
-//! does, when it may, and what follows. In `specs/Courses.antt` any number of compactors make their steps in any order,
-//! and others feed, keep and release between them. `step_laws.rt` has the law that no checked compactor is ever displaced.
+//! Concurrent compactors are a machine of single steps. `specs/Machine.antt` is the whole machine: what a compactor does, when it
+//! may, and what follows. In `specs/Courses.antt` any number of compactors make their steps in any order, and others feed, keep and
+//! release between them. `step_laws.rt` has the law that no checked compactor is ever displaced.
 //!
 //! An `Err(AllocError)` comes only if an allocation fails.
 //!

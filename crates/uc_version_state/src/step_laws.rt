@@ -53,9 +53,9 @@ pub fn a_lone_compactor_installs()
     opening_gives_a_version();
 }
 
-/// Nor is it empty beside others. Two compactors look, with any two stretches of any opening that share no run. Whatever is
-/// then fed, kept and released, the one installs its output, and after it the other. The runs of each stay in place until it
-/// does. `uc_version_compact::two_own_compactions_install_beside_others` says that these installs may happen.
+/// Nor is it empty with concurrent compactors. Two compactors look, with any two stretches of any opening that share no run.
+/// Whatever is then fed, kept and released, the one installs its output, and after it the other. The runs of each stay in place
+/// until it does. `uc_version_compact::two_own_compactions_install_beside_others` says that these installs may happen.
 pub fn two_compactors_install_beside_others()
     ensures installs { (m : Operation) (o : Opening) (s t : Stretch) (meanwhile : List Event) (i j : Install) →
         let history : History = record { opening = o; events = meanwhile } in

@@ -1,12 +1,12 @@
-//! [`Version`]: what a store holds at a moment.
+//! [`Version`]: the contents of a store at one point in time.
 ghost use Rattle.std.specs.Prelude.{◌≡◌};
 ghost use Rattle.uc_version_state.specs.Versions.{IsVersion};
 
 use crate::placed::Placed;
 use std::marker::Model;
 
-/// The contents of a store at a moment (RocksDB wiki, "Universal Compaction", "Snapshot"): sorted runs, the newest first;
-/// the keeps, at which reads are made; the last sequence; the number of the next run; and from how many bytes on a
+/// The contents of a store at one point in time (RocksDB wiki, "Universal Compaction", "Snapshot"): sorted runs, the newest first;
+/// the keeps, at which reads are made; the last sequence number; the number of the next run; and the size in bytes at which a
 /// memtable is flushed.
 pub struct Version {
     pub(crate) runs: Vec<Placed>,

@@ -109,7 +109,7 @@ fn report<R: Read, W: Write>(
     )
 }
 
-/// Prints why the words don't name a run, or the help that they ask for, which may fail as any text may.
+/// Prints why the arguments don't name a run, or the help that they request, which may fail as any output may.
 fn explain(rt: &(impl Print + Eprint), error: &Error) -> Done {
     let is_printed = error.print(rt).is_ok();
     match error.kind() {
@@ -138,7 +138,7 @@ fn run_subcommand<R: Read, W: Write>(
     }
 }
 
-/// Runs it from standard input to standard output, and says on standard error why it is refused.
+/// Runs it from standard input to standard output, and prints on standard error why it fails.
 fn run_matches<R: Eprint + Print + Input + AllocGlobal + Threads + Wait + Sync>(
     rt: &R,
     matches: &ArgMatches<'_>,
