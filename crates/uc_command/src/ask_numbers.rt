@@ -2,7 +2,7 @@
 use clap::ArgMatches;
 
 /// The numbers of `ucstore ask`: threads that answer and compact, the size of a piece of queries, and the part of the log it opens.
-#[derive(Clone, Copy, Debug, PartialEq, Eq)]
+#[derive(Clone, Copy)]
 pub struct AskNumbers {
     /// The number of workers that answer.
     pub workers: usize,

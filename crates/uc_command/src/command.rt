@@ -33,15 +33,6 @@ that line. A refused opening prints `refused` and why; standard error names the 
 Status: 0 done, 2 a refused command line, script or opening, 4 out of memory, 5 a read or write fault
 or too long an input.";
 
-/// The usual numbers of workers, of queries of a piece, of compactors, and of writes that come later of `ucstore ask`.
-const WORKERS: &str = "4";
-
-const PIECE: &str = "16";
-
-const COMPACTORS: &str = "0";
-
-const LATER: &str = "0";
-
 /// Strings of the command line's help that are made at run time, so that each fact is written in one place.
 #[derive(Drop)]
 pub struct Shown {
@@ -70,18 +61,57 @@ impl Shown {
     }
 }
 
-/// A number that the words may set.
-fn number<'a>(alloc: Global, name: &'a str, usual: &'a str, help: &'a str) -> Arg<'a> {
-    Arg::new(alloc, name)
-        .long(name)
-        .value_name("NUMBER")
-        .default_value(usual)
-        .help(help)
+/// The numbers that an option accepts.
+#[derive(Clone, Copy)]
+enum Accepted {
+    /// Those of 32 bits.
+    Short,
+    /// Those of 64 bits.
+    Long,
+    /// Those of 64 bits but 0.
+    FromOne,
+    /// Those from a least to a greatest one.
+    Within(i64, i64),
 }
 
-/// One of 32 bits.
-fn short_number<'a>(alloc: Global, name: &'a str, usual: &'a str, help: &'a str) -> Arg<'a> {
-    number(alloc, name, usual, help).value_parser(value_parser!(u32))
+/// An option whose value is a number.
+#[derive(Clone, Copy)]
+struct NumberOption<'a> {
+    name: &'a str,
+    /// The value if the words set none.
+    usual: &'a str,
+    accepted: Accepted,
+    help: &'a str,
+}
+
+/// An option that `clap` parses.
+fn number<'a>(alloc: Global, option: &NumberOption<'a>) -> Arg<'a> {
+    let arg = Arg::new(alloc, option.name)
+        .long(option.name)
+        .value_name("NUMBER")
+        .default_value(option.usual)
+        .help(option.help);
+    match option.accepted {
+        Accepted::Short => arg.value_parser(value_parser!(u32)),
+        Accepted::Long => arg.value_parser(value_parser!(u64)),
+        Accepted::FromOne => arg.value_parser(value_parser!(u64).range(1..)),
+        Accepted::Within(least, greatest) => {
+            arg.value_parser(value_parser!(u64).range(least..=greatest))
+        }
+    }
+}
+
+/// A subcommand with more options.
+fn with_numbers<'a>(
+    alloc: Global,
+    command: Command<'a>,
+    options: &[NumberOption<'a>],
+) -> Result<Command<'a>, AllocError> {
+    let mut command = command;
+    for option in options {
+        command = command.arg(number(alloc, option))?;
+    }
+    Ok(command)
 }
 
 /// `--operator`.
@@ -95,76 +125,48 @@ fn operator<'a>(alloc: Global, shown: &'a Shown) -> Arg<'a> {
         )
 }
 
-/// `--memtable`.
-fn memtable<'a>(alloc: Global, shown: &'a Shown) -> Arg<'a> {
-    number(
-        alloc,
-        "memtable",
-        shown.memtable.as_str(),
-        "Flush a memtable once it holds this many bytes (write_buffer_size)",
-    )
-    .value_parser(value_parser!(u64))
-}
-
-/// A subcommand, with the operator and how large a memtable grows.
-fn with_writes<'a>(
-    alloc: Global,
-    command: Command<'a>,
-    shown: &'a Shown,
-) -> Result<Command<'a>, AllocError> {
-    command
-        .arg(operator(alloc, shown))?
-        .arg(memtable(alloc, shown))
-}
-
-/// A subcommand, with the options that say when runs are compacted, and how far.
-fn with_limits<'a>(
-    alloc: Global,
-    command: Command<'a>,
-    shown: &'a Shown,
-) -> Result<Command<'a>, AllocError> {
-    command
-        .arg(short_number(
-            alloc,
-            "trigger",
-            shown.trigger.as_str(),
-            "Compact once there are this many runs (level0_file_num_compaction_trigger)",
-        ))?
-        .arg(short_number(
-            alloc,
-            "ratio",
-            shown.ratio.as_str(),
-            "Take the next run too while it is at most this many percent larger than the newer ones \
-             together (size_ratio)",
-        ))?
-        .arg(short_number(
-            alloc,
-            "percent",
-            shown.percent.as_str(),
-            "Compact everything once the newer runs together exceed this percentage of the oldest run's \
-             size (max_size_amplification_percent)",
-        ))
-}
-
-/// A subcommand, with the options that say how many runs are compacted at once.
-fn with_widths<'a>(
-    alloc: Global,
-    command: Command<'a>,
-    shown: &'a Shown,
-) -> Result<Command<'a>, AllocError> {
-    command
-        .arg(short_number(
-            alloc,
-            "least",
-            shown.least.as_str(),
-            "Compact at least this many runs of similar size (min_merge_width); to lower their number, 2 do",
-        ))?
-        .arg(short_number(
-            alloc,
-            "greatest",
-            shown.greatest.as_str(),
-            "Compact at most this many runs at once (max_merge_width)",
-        ))
+/// The options of a store.
+fn store_options(shown: &Shown) -> [NumberOption<'_>; 6] {
+    [
+        NumberOption {
+            name: "memtable",
+            usual: shown.memtable.as_str(),
+            accepted: Accepted::Long,
+            help: "Flush a memtable once it holds this many bytes (write_buffer_size)",
+        },
+        NumberOption {
+            name: "trigger",
+            usual: shown.trigger.as_str(),
+            accepted: Accepted::Short,
+            help: "Compact once there are this many runs (level0_file_num_compaction_trigger)",
+        },
+        NumberOption {
+            name: "ratio",
+            usual: shown.ratio.as_str(),
+            accepted: Accepted::Short,
+            help: "Take the next run too while it is at most this many percent larger than the newer ones \
+                together (size_ratio)",
+        },
+        NumberOption {
+            name: "percent",
+            usual: shown.percent.as_str(),
+            accepted: Accepted::Short,
+            help: "Compact everything once the newer runs together exceed this percentage of the oldest run's \
+                size (max_size_amplification_percent)",
+        },
+        NumberOption {
+            name: "least",
+            usual: shown.least.as_str(),
+            accepted: Accepted::Short,
+            help: "Compact at least this many runs of similar size (min_merge_width); to lower their number, 2 do",
+        },
+        NumberOption {
+            name: "greatest",
+            usual: shown.greatest.as_str(),
+            accepted: Accepted::Short,
+            help: "Compact at most this many runs at once (max_merge_width)",
+        },
+    ]
 }
 
 /// A subcommand that opens a store, with the store's operator and options.
@@ -173,17 +175,8 @@ fn over_a_store<'a>(
     command: Command<'a>,
     shown: &'a Shown,
 ) -> Result<Command<'a>, AllocError> {
-    let command = with_writes(alloc, command, shown)?;
-    let command = with_limits(alloc, command, shown)?;
-    with_widths(alloc, command, shown)
-}
-
-/// `ucstore play`.
-fn play<'a>(alloc: Global, shown: &'a Shown) -> Result<Command<'a>, AllocError> {
-    let play = Command::new(alloc, "play")
-        .about(PLAY_ABOUT)
-        .after_help(PLAY_HELP);
-    over_a_store(alloc, play, shown)
+    let command = command.arg(operator(alloc, shown))?;
+    with_numbers(alloc, command, &store_options(shown))
 }
 
 const REPORT_ABOUT: &str = "Open a write-ahead log, report what the store holds, compact it as \
@@ -207,14 +200,6 @@ option or number.
 
 Status: 0 done, 2 a refused command line or opening, 3 a log with a fault, 4 out of memory, 5 a read or
 write fault or too long an input.";
-
-/// `ucstore report`.
-fn report<'a>(alloc: Global, shown: &'a Shown) -> Result<Command<'a>, AllocError> {
-    let report = Command::new(alloc, "report")
-        .about(REPORT_ABOUT)
-        .after_help(REPORT_HELP);
-    over_a_store(alloc, report, shown)
-}
 
 const ASK_ABOUT: &str =
     "Answer queries over a write-ahead log, by workers, while compactors compact its store";
@@ -245,66 +230,33 @@ Example: (printf 'get 6b last\\nlog\\n'; cat 000003.log) | ucstore ask --operato
 Status: 0 done, 2 a refused command line, query or opening, 3 a log with a fault, 4 out of memory, 5 a
 read or write fault or too long an input.";
 
-/// `--workers`.
-fn workers<'a>(alloc: Global) -> Arg<'a> {
-    number(
-        alloc,
-        "workers",
-        WORKERS,
-        "Answer the queries by this many workers, 1 to 64",
-    )
-    .value_parser(value_parser!(u64).range(1..=64))
-}
-
-/// `--piece`.
-fn piece<'a>(alloc: Global) -> Arg<'a> {
-    number(
-        alloc,
-        "piece",
-        PIECE,
-        "A worker takes this many queries at a time, at least 1",
-    )
-    .value_parser(value_parser!(u64).range(1..))
-}
-
-/// `--compactors`.
-fn compactors<'a>(alloc: Global) -> Arg<'a> {
-    number(
-        alloc,
-        "compactors",
-        COMPACTORS,
-        "Compact by this many threads meanwhile, at most 16",
-    )
-    .value_parser(value_parser!(u64).range(0..=16))
-}
-
-/// `--later`.
-fn later<'a>(alloc: Global) -> Arg<'a> {
-    number(
-        alloc,
-        "later",
-        LATER,
-        "Open without the log's last writes, this many, and feed them one by one meanwhile",
-    )
-    .value_parser(value_parser!(u64))
-}
-
-/// `--workers`, `--piece`, `--compactors` and `--later`.
-fn with_threads<'a>(alloc: Global, command: Command<'a>) -> Result<Command<'a>, AllocError> {
-    command
-        .arg(workers(alloc))?
-        .arg(piece(alloc))?
-        .arg(compactors(alloc))?
-        .arg(later(alloc))
-}
-
-/// `ucstore ask`.
-fn ask<'a>(alloc: Global, shown: &'a Shown) -> Result<Command<'a>, AllocError> {
-    let ask = Command::new(alloc, "ask")
-        .about(ASK_ABOUT)
-        .after_help(ASK_HELP);
-    over_a_store(alloc, with_threads(alloc, ask)?, shown)
-}
+/// The options of `ask` alone.
+static ASK_OPTIONS: [NumberOption<'static>; 4] = [
+    NumberOption {
+        name: "workers",
+        usual: "4",
+        accepted: Accepted::Within(1, 64),
+        help: "Answer the queries by this many workers, 1 to 64",
+    },
+    NumberOption {
+        name: "piece",
+        usual: "16",
+        accepted: Accepted::FromOne,
+        help: "A worker takes this many queries at a time, at least 1",
+    },
+    NumberOption {
+        name: "compactors",
+        usual: "0",
+        accepted: Accepted::Within(0, 16),
+        help: "Compact by this many threads meanwhile, at most 16",
+    },
+    NumberOption {
+        name: "later",
+        usual: "0",
+        accepted: Accepted::Long,
+        help: "Open without the log's last writes, this many, and feed them one by one meanwhile",
+    },
+];
 
 const DUMP_ABOUT: &str = "Print what a write-ahead log holds, and where it breaks";
 
@@ -323,14 +275,71 @@ default column family, and of transactions those that aren't prepared.
 Status: 0 clean or torn, 3 a fault, 2 a refused command line, 4 out of memory, 5 a read or write fault or
 too long an input.";
 
-/// `ucstore dump`.
-fn dump<'a>(alloc: Global) -> Command<'a> {
-    Command::new(alloc, "dump")
-        .about(DUMP_ABOUT)
-        .after_help(DUMP_HELP)
+/// A subcommand: its name, and what its `--help` says.
+struct Subcommand {
+    name: &'static str,
+    about: &'static str,
+    help: &'static str,
+    options: OptionsOf,
 }
 
-/// A command, with one below it that there may have been no memory for.
+/// The options that a subcommand has.
+#[derive(Clone, Copy)]
+enum OptionsOf {
+    None,
+    /// The operator and the options of a store.
+    Store,
+    /// Those, after the ones of threads over a store.
+    Threads,
+}
+
+/// The subcommands, in the order in which `--help` names them.
+static SUBCOMMANDS: [Subcommand; 4] = [
+    Subcommand {
+        name: "play",
+        about: PLAY_ABOUT,
+        help: PLAY_HELP,
+        options: OptionsOf::Store,
+    },
+    Subcommand {
+        name: "ask",
+        about: ASK_ABOUT,
+        help: ASK_HELP,
+        options: OptionsOf::Threads,
+    },
+    Subcommand {
+        name: "report",
+        about: REPORT_ABOUT,
+        help: REPORT_HELP,
+        options: OptionsOf::Store,
+    },
+    Subcommand {
+        name: "dump",
+        about: DUMP_ABOUT,
+        help: DUMP_HELP,
+        options: OptionsOf::None,
+    },
+];
+
+/// A subcommand as `clap` parses it.
+fn parsed_subcommand<'a>(
+    alloc: Global,
+    subcommand: &'a Subcommand,
+    shown: &'a Shown,
+) -> Result<Command<'a>, AllocError> {
+    let command = Command::new(alloc, subcommand.name)
+        .about(subcommand.about)
+        .after_help(subcommand.help);
+    match subcommand.options {
+        OptionsOf::None => Ok(command),
+        OptionsOf::Store => over_a_store(alloc, command, shown),
+        OptionsOf::Threads => {
+            over_a_store(alloc, with_numbers(alloc, command, &ASK_OPTIONS)?, shown)
+        }
+    }
+}
+
+/// A command with one more subcommand, unless that could not be allocated.
 fn with_subcommand<'a>(
     command: Command<'a>,
     subcommand: Result<Command<'a>, AllocError>,
@@ -340,14 +349,14 @@ fn with_subcommand<'a>(
 
 /// The whole command line.
 pub fn ucstore<'a>(alloc: Global, shown: &'a Shown) -> Result<Command<'a>, AllocError> {
-    let command = Command::new(alloc, "ucstore")
+    let mut command = Command::new(alloc, "ucstore")
         .about(ABOUT)
         .version("0.2.0")
         .subcommand_required(true);
-    let command = with_subcommand(command, play(alloc, shown))?;
-    let command = with_subcommand(command, ask(alloc, shown))?;
-    let command = with_subcommand(command, report(alloc, shown))?;
-    command.subcommand(dump(alloc))
+    for each in &SUBCOMMANDS {
+        command = with_subcommand(command, parsed_subcommand(alloc, each, shown))?;
+    }
+    Ok(command)
 }
 
 /// The options of a subcommand that opens a store that the words set.

@@ -16,9 +16,10 @@ use std::rt::Env;
 use std::sync::Wait;
 use std::thread::Threads;
 use uc_command::{AskNumbers, Shown};
-use uc_oper::{Append, Counter, Maximum, Tail};
+use uc_oper::{Append, Counter, Maximum, Operator, Tail};
 use uc_tool::{
-    Done, OperatorName, Outcome, Refusal, ask, dump, is_plan, play, report_log, through_buffer,
+    Done, OperatorName, Options, Outcome, Refusal, ask, dump, is_plan, play, report_log,
+    through_buffer,
 };
 
 /// The delimiter of `--operator append`.
@@ -27,33 +28,15 @@ const COMMA: u8 = b',';
 /// The number of bytes that `--operator tail` keeps.
 const KEPT: usize = 4;
 
-/// Runs it with the operator that the words name.
-macro_rules! run_with_operator {
-    ($matches:expr, $run:ident::<_, R, W>($($given:expr),*)) => {
-        match uc_command::operator_name($matches) {
-            Some(OperatorName::Counter) => $run::<Counter, R, W>($($given),*),
-            Some(OperatorName::Append) => $run::<Append<COMMA>, R, W>($($given),*),
-            Some(OperatorName::Maximum) => $run::<Maximum, R, W>($($given),*),
-            Some(OperatorName::Tail) => $run::<Tail<KEPT>, R, W>($($given),*),
-            // The parser lets no other name through.
-            None => return Outcome::without_reason(Done::Refused),
-        }
-    };
-}
-
-/// Plays a script under the operator that the words name.
-fn play_script<R: Read, W: Write>(
-    rt: &(impl Threads + Sync),
-    alloc: Global,
-    matches: &ArgMatches<'_>,
-    reader: &mut R,
-    writer: &mut W,
-) -> Outcome {
-    let options = uc_command::options(matches);
-    run_with_operator!(
-        matches,
-        play::<_, R, W>(rt, alloc, reader, writer, &options)
-    )
+/// The work of a subcommand that opens a store.
+#[derive(Clone, Copy)]
+enum Work {
+    /// Plays a script.
+    Play,
+    /// Answers queries over a log, by this many threads.
+    Ask(AskNumbers),
+    /// Reports on a log.
+    Report,
 }
 
 /// Says on standard error how many of the writes that come later weren't fed, if any weren't.
@@ -65,48 +48,65 @@ fn tell_left(rt: &impl Eprint, left: u64) {
     }
 }
 
-/// Answers queries over a log under the operator that the words name.
-fn ask_log<R: Read, W: Write>(
+/// Does the work under an operator.
+fn work_with<O: Operator, R: Read, W: Write>(
     rt: &(impl Eprint + Threads + Wait + Sync),
     alloc: Global,
-    matches: &ArgMatches<'_>,
+    work: Work,
+    options: &Options,
     reader: &mut R,
     writer: &mut W,
 ) -> Outcome {
-    let options = uc_command::options(matches);
-    let AskNumbers {
-        workers,
-        piece,
-        compactors,
-        later,
-    } = uc_command::numbers_of(matches);
-    // The parser lets no other numbers through.
-    if !is_plan(workers, piece, compactors) {
-        return Outcome::without_reason(Done::Refused);
+    match work {
+        Work::Play => play::<O, R, W>(rt, alloc, reader, writer, options),
+        Work::Report => report_log::<O, R, W>(rt, alloc, reader, writer, options),
+        Work::Ask(
+            AskNumbers {
+                workers,
+                piece,
+                compactors,
+                later,
+            },
+        ) => {
+            // The parser lets no other numbers through.
+            if !is_plan(workers, piece, compactors) {
+                return Outcome::without_reason(Done::Refused);
+            }
+            let (outcome, beside) = ask::<O, R, W>(
+                rt, alloc, reader, writer, options, workers, piece, compactors, later,
+            );
+            tell_left(rt, beside.left);
+            outcome
+        }
     }
-    let (outcome, beside) = run_with_operator!(
-        matches,
-        ask::<_, R, W>(
-            rt, alloc, reader, writer, &options, workers, piece, compactors, later
-        )
-    );
-    tell_left(rt, beside.left);
-    outcome
 }
 
-/// Reports on a log under the operator that the words name.
-fn report<R: Read, W: Write>(
-    rt: &(impl Threads + Sync),
+/// Does the work under the operator that the words name.
+fn work_as_named<R: Read, W: Write>(
+    rt: &(impl Eprint + Threads + Wait + Sync),
     alloc: Global,
+    work: Work,
     matches: &ArgMatches<'_>,
     reader: &mut R,
     writer: &mut W,
 ) -> Outcome {
-    let options = uc_command::options(matches);
-    run_with_operator!(
-        matches,
-        report_log::<_, R, W>(rt, alloc, reader, writer, &options)
-    )
+    let options = &uc_command::options(matches);
+    match uc_command::operator_name(matches) {
+        Some(OperatorName::Counter) => {
+            work_with::<Counter, R, W>(rt, alloc, work, options, reader, writer)
+        }
+        Some(OperatorName::Append) => {
+            work_with::<Append<COMMA>, R, W>(rt, alloc, work, options, reader, writer)
+        }
+        Some(OperatorName::Maximum) => {
+            work_with::<Maximum, R, W>(rt, alloc, work, options, reader, writer)
+        }
+        Some(OperatorName::Tail) => {
+            work_with::<Tail<KEPT>, R, W>(rt, alloc, work, options, reader, writer)
+        }
+        // The parser lets no other name through.
+        None => Outcome::without_reason(Done::Refused),
+    }
 }
 
 /// Prints why the arguments don't name a run, or the help that they request, which may fail as any output may.
@@ -129,9 +129,12 @@ fn run_subcommand<R: Read, W: Write>(
     writer: &mut W,
 ) -> Outcome {
     match matches.subcommand() {
-        Some(("play", words)) => play_script(rt, alloc, words, reader, writer),
-        Some(("ask", words)) => ask_log(rt, alloc, words, reader, writer),
-        Some(("report", words)) => report(rt, alloc, words, reader, writer),
+        Some(("play", words)) => work_as_named(rt, alloc, Work::Play, words, reader, writer),
+        Some(("ask", words)) => {
+            let work = Work::Ask(uc_command::numbers_of(words));
+            work_as_named(rt, alloc, work, words, reader, writer)
+        }
+        Some(("report", words)) => work_as_named(rt, alloc, Work::Report, words, reader, writer),
         Some(("dump", _)) => Outcome::without_reason(dump(alloc, reader, writer)),
         // The parser requires a subcommand, and lets no other name through.
         _ => Outcome::without_reason(Done::Refused),
