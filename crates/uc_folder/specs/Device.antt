@@ -5,28 +5,28 @@ use Rattle.std.specs.Prelude.{ℕ, zero, suc, Bool, true, false, not, ◌&&◌, 
 abbrev pub Batch : Type 0
 Batch = List ℕ
 
--- A record of a log. A whole one has a batch, and a mark: how many records of its log were on the device for certain when it was
--- written. Of a torn one a part is there, or zeros, or older bytes.
+-- A record of a log. A whole one has a batch, and a mark: the number of records of its log that were durable when it was written. A
+-- torn one is there in part, or as zeros, or as older bytes.
 pub data Record : Type 0 where
   Whole : Batch → ℕ → Record
   Torn : Record
 
--- A file: the records that are on the device, and those that wait for a sync. It is suspect once a sync of it failed: then what
--- waits can still be read, but no sync puts it on the device. A base has, besides the logs before its number, the first `past`
--- batches of the log of its number.
+-- A file: the durable records, and those that wait for a sync. It is suspect once a sync of it failed: then the waiting records can
+-- still be read, but no sync makes them durable. A base has, besides the logs before its number, the first `past` batches of the
+-- log of its number.
 pub record File : Type 0 where
   pub kept : List Record
   pub waiting : List Record
   pub suspect : Bool
   pub past : ℕ
 
--- the file of a name, and what the name stood for before, since the names were synced
+-- the file of a name, and the files that it may stand for after a crash, since the last sync of the names
 pub record Entry : Type 0 where
   pub now : Option File
   pub before : List (Option File)
 
--- A folder: the logs and bases by their numbers, two files with temporary names, the copy of a log and a base that is written, and
--- a number that none of a log or base exceeds.
+-- A directory: the logs and bases by their numbers, two files with temporary names, the copy of a log and a base that is being
+-- written, and a number that no log or base exceeds.
 pub record Device : Type 0 where
   pub logs : ℕ → Entry
   pub bases : ℕ → Entry
@@ -40,14 +40,14 @@ first_number = 1
 
 -- ---- reading
 
--- The batches that are read: those before the first record that isn't whole. What stands after it isn't read.
+-- The batches that are read: those before the first record that isn't whole. Records after it aren't read.
 abbrev pub first_whole : List Record → List Batch
 first_whole [] = []
 first_whole (Whole b mark ∷ rs) = b ∷ first_whole rs
 first_whole (Torn ∷ rs) = []
 
--- A reader that passes over torn records: from a place on it reads those whose sequence is the next one. A record's sequence is its
--- place.
+-- A reader that skips torn records: from a place on it reads those whose sequence number is the next one. A record's sequence
+-- number is its place.
 abbrev pub read_by_sequence : ℕ → ℕ → List Record → List Batch
 read_by_sequence next place [] = []
 read_by_sequence next place (Whole b mark ∷ rs) =
@@ -66,13 +66,13 @@ are_whole [] = true
 are_whole (Whole b mark ∷ rs) = are_whole rs
 are_whole (Torn ∷ rs) = false
 
--- whether a record says that more than a number of records were on the device
+-- whether a record says that more than a number of records were durable
 abbrev pub tell_more : ℕ → List Record → Bool
 tell_more n [] = false
 tell_more n (Whole b mark ∷ rs) = nat_lt n mark || tell_more n rs
 tell_more n (Torn ∷ rs) = tell_more n rs
 
--- Damage, which no crash leaves: the first record that isn't whole was on the device, as another record says.
+-- Damage, which no crash leaves: the first record that isn't whole was durable, as another record says.
 abbrev pub are_damaged : List Record → Bool
 are_damaged rs = not (are_whole rs) && tell_more (length (first_whole rs)) rs
 
@@ -119,26 +119,26 @@ abbrev pub past_of : Option File → ℕ
 past_of None = 0
 past_of (Some f) = f.past
 
--- the batches of a log that the newest base hasn't
+-- the batches of a log that the newest base doesn't have
 abbrev pub after_base : Device → ℕ → List Batch
 after_base d k =
     if nat_lt k (newest_base d) then []
     else (if k == newest_base d then drop (past_of (d.bases k).now) (content (d.logs k).now) else content (d.logs k).now)
 
--- the batches that an opening reads: those of the newest base, and of the logs from its number on
+-- the batches that opening reads: those of the newest base, and of the logs from its number on
 abbrev pub recovered : Device → List Batch
 recovered d = content (d.bases (newest_base d)).now ++ upto (after_base d) (suc (last_log d))
 
 -- ---- a crash
 
--- The choice of a crash for a name: which of the files is left that it stood for; how many of the records that wait in it, and which of
--- those whole.
+-- The choice of a crash for a name: the file that remains of those that it may stand for; the number of its waiting records that
+-- remain, and which of those are whole.
 pub record Keep : Type 0 where
   pub which : ℕ
   pub count : ℕ
   pub whole : ℕ → Bool
 
--- of these records any are left whole, and the others are torn
+-- any of these records remain whole, and the others are torn
 abbrev pub left_of : (ℕ → Bool) → List Record → List Record
 left_of whole [] = []
 left_of whole (r ∷ rs) = (if whole 0 then r else Torn) ∷ left_of (λ k. whole (suc k)) rs
@@ -161,7 +161,7 @@ crashed_entry keep e = record { now = crashed_name keep (slice_index_or (e.now �
 abbrev pub empty_file : File
 empty_file = record { kept = []; waiting = []; suspect = false; past = 0 }
 
--- the folder after a crash that keeps this of each log and of each base
+-- the directory after a crash that keeps this of each log and of each base
 abbrev pub crashed : (ℕ → Keep) → (ℕ → Keep) → Device → Device
 crashed logs bases d = record {
   logs = λ k. crashed_entry (logs k) (d.logs k);
@@ -176,7 +176,7 @@ crashed logs bases d = record {
 abbrev pub appended : Record → File → File
 appended r f = record f { waiting = f.waiting ++ r ∷ [] }
 
--- A sync that is done. At least a number of records are on the device then: those that were there when it began.
+-- A sync that succeeds. At least the records that were there when it began are durable then.
 abbrev pub synced : ℕ → File → File
 synced n f =
     if f.suspect then f
@@ -185,8 +185,8 @@ synced n f =
       waiting = drop (max n (length f.kept)) (f.kept ++ f.waiting);
     }
 
--- The records after a number of them are cut off, and the others are synced. A cut that fails is done or isn't, in memory as on the
--- device.
+-- The records after a number of them are cut off, and the others are synced. A cut that fails is done or isn't, both in memory and
+-- on the device.
 abbrev pub cut : ℕ → File → File
 cut n f =
     if f.suspect then f
@@ -195,11 +195,11 @@ cut n f =
 abbrev pub suspected : File → File
 suspected f = record f { suspect = true }
 
--- all of a file with a temporary name is on the device
+-- all of a file with a temporary name is durable
 abbrev pub sealed : File → File
 sealed f = record f { kept = f.kept ++ f.waiting; waiting = [] }
 
--- a new file that has what is read of another one
+-- a new file with the readable contents of another one
 abbrev pub copied : Option File → File
 copied o = record { kept = []; waiting = whole_part (records_of o); suspect = false; past = 0 }
 
@@ -226,7 +226,7 @@ changed change e = record e { now = changed_name change e.now }
 abbrev pub stands_for : Option File → Entry → Entry
 stands_for o e = record { now = o; before = e.now ∷ e.before }
 
--- the name is on the device
+-- the name is durable
 abbrev pub named : Entry → Entry
 named e = record e { before = [] }
 

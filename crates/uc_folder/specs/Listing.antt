@@ -1,4 +1,4 @@
--- The names that a folder lists, and the files that an opening reads by them.
+-- The names in a directory, and the files that opening reads by them.
 use Rattle.std.specs.Prelude.{ℕ, ◌≡◌, ◌≤◌, ◌<◌, Bool, true, false, List, Option, Some, None, Result, Ok, Err, fold, ◌==◌, ◌&&◌, max, min, if◌then◌else◌}
 use Rattle.std.specs.List.{list_any}
 use Rattle.uc_folder.specs.declared.listing.Base.{Base}
@@ -11,7 +11,7 @@ use Rattle.uc_folder.specs.Device.{Device, first_number, is_there, is_used, past
 abbrev pub base_in : List Base → ℕ
 base_in bases = fold (λ most (b : Base). max most b.number) first_number bases
 
--- of the bases of a number the one counts that has most of the log of that number
+-- of several bases of a number, the one that has most of the log of that number
 abbrev pub past_in : ℕ → List Base → ℕ
 past_in n bases = fold (λ most (b : Base). if b.number == n then max most b.past else most) 0 bases
 
@@ -45,11 +45,11 @@ found_of bases logs = record {
 abbrev pub AreFound : List Base → List Listed → Found → Type 0
 AreFound bases logs f = (f ≡ found_of bases logs) × ((k : ℕ) → f.base ≤ k → k < f.log → is_listed k logs ≡ true) × (first_number < f.log → f.is_there ≡ true)
 
--- One of these isn't listed.
+-- None of these is listed.
 abbrev pub IsLacking : List Base → List Listed → ℕ → Type 0
 IsLacking bases logs n = (base_in bases ≤ n) × (n ≤ log_in (base_in bases) logs) × (first_number < log_in (base_in bases) logs) × (is_listed n logs ≡ false)
 
--- the result of an opening by names
+-- the result of opening by names
 abbrev pub IsFoundIn : List Base → List Listed → Result Found Missing → Type 0
 IsFoundIn bases logs (Ok f) = AreFound bases logs f
 IsFoundIn bases logs (Err m) = IsLacking bases logs m.0
@@ -59,7 +59,7 @@ abbrev pub IsMissingIn : ℕ → ℕ → List Listed → Option ℕ → Type 0
 IsMissingIn from to logs (Some k) = (from ≤ k) × (k < to) × (is_listed k logs ≡ false)
 IsMissingIn from to logs None = (k : ℕ) → from ≤ k → k < to → is_listed k logs ≡ true
 
--- the names of a folder: its bases and logs, in any order
+-- the names in a directory: its bases and logs, in any order
 pub record IsListing (d : Device) (bases : List Base) (logs : List Listed) : Type 0 where
   pub bases_are : (k : ℕ) → list_any (λ (b : Base). b.number == k) bases ≡ is_there (d.bases k).now
   pub pasts_are : (k : ℕ) → past_in k bases ≡ past_of (d.bases k).now

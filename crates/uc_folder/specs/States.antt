@@ -12,7 +12,7 @@ use Rattle.uc_folder.specs.declared.action.Action.TheVariants.{Nothing, CreateLo
 use Rattle.uc_folder.specs.declared.state.State.{State}
 use Rattle.uc_folder.specs.declared.state.Step.{Step}
 
--- the number of a phase of the writer, and what it has
+-- the number of a phase of the writer, and its fields
 abbrev pub writer_code : Writer → ℕ
 writer_code Making = 0
 writer_code Founding = 1
@@ -67,7 +67,7 @@ next_code Waiting = 3
 abbrev pub next_of : ℕ → Option NextLog
 next_of code = if code == 0 then Some Absent else (if code == 1 then Some Creating else (if code == 2 then Some Recording else (if code == 3 then Some Waiting else None)))
 
--- the number of a phase of the checkpointer, and those that it has
+-- the number of a phase of the checkpointer, and its fields
 abbrev pub checkpointer_code : Checkpointer → ℕ
 checkpointer_code Idle = 0
 checkpointer_code (Writing n part) = 1
@@ -133,7 +133,7 @@ with_phases s (Some w) (Some n) (Some c) = Some (record {
 })
 with_phases s w n c = None
 
--- the machine of numbers, if they are one's, and the numbers that grow are below 2^63
+-- the machine with these numbers, if there is one, and the numbers that grow are below 2^63
 abbrev pub machine_of : State → Option Machine
 machine_of s =
     if nat_lt s.log (2 ^ 63) && nat_lt s.count (2 ^ 63)

@@ -1,4 +1,4 @@
--- The machine: which operation comes next, and what follows from how it went.
+-- The state machine: the next operation, and the state after it succeeds or fails.
 use Rattle.std.specs.Prelude.{ℕ, ◌+◌, Bool, true, false, nat_lt, nat_le, ◌==◌, ◌&&◌, ◌||◌, if◌then◌else◌}
 use Rattle.uc_folder.specs.declared.machine.Machine.{Machine}
 use Rattle.uc_folder.specs.declared.listing.Found.{Found}
@@ -32,7 +32,7 @@ next_write (Spoiled n) log count synced = Nothing
 next_write Closing log count synced = SyncLog log count
 next_write Failed log count synced = Nothing
 
--- After the name of a log was removed, or none was. A sealed log is on the device as it is: its batches aren't copied.
+-- After the name of a log was removed, or none was. A sealed log is durable as it is: its batches aren't copied.
 abbrev pub clearing_after : ℕ → ℕ → Bool → Writer
 clearing_after k top sealed = if nat_lt k top then Clearing (k + 1) top sealed else (if sealed then Settling else SettingAside)
 
@@ -59,7 +59,7 @@ writer_after (Spoiled n) is_done log = Spoiled n
 writer_after Closing true log = Ready
 writer_after _ _ log = Failed
 
--- the number of its log then
+-- the number of its log in that phase
 abbrev pub log_after : Writer → Bool → ℕ → ℕ
 log_after Closing true log = log + 1
 log_after _ _ log = log
@@ -71,13 +71,13 @@ count_after (Both n) true count = count + 1
 count_after Closing true count = 0
 count_after _ _ count = count
 
--- the number of them that are on the device for certain
+-- the number of them that are durable
 abbrev pub synced_after : Writer → Bool → ℕ → ℕ → ℕ
 synced_after Settling true count synced = count
 synced_after Closing true count synced = 0
 synced_after _ _ count synced = synced
 
--- the log after its log then
+-- the next log in that phase
 abbrev pub next_after : Writer → Bool → NextLog → NextLog
 next_after Closing true next = Absent
 next_after _ _ next = next
@@ -86,7 +86,7 @@ next_after _ _ next = next
 abbrev pub removing_from : ℕ → ℕ → Checkpointer
 removing_from k base = if nat_lt k base then RemovingLog k else Idle
 
--- once the names that were read are on the device, what the newest base has is removed
+-- once the names that were read are durable, the files that the newest base makes obsolete are removed
 abbrev pub checkpointer_then : Writer → Bool → ℕ → ℕ → Checkpointer → Checkpointer
 checkpointer_then (Naming top sealed) true least base c = removing_from least base
 checkpointer_then _ _ least base c = c
@@ -101,7 +101,7 @@ told_write m is_done = record m {
   checkpointer = checkpointer_then m.writer is_done m.least m.base m.checkpointer;
 }
 
--- ---- the next log, which is made while batches are appended
+-- ---- the next log, which is created while batches are appended
 
 abbrev pub next_make : NextLog → ℕ → Action
 next_make Creating log = CreateLog (log + 1)
@@ -169,7 +169,7 @@ checkpointer_after (RemovingLog k) true least base = RemovingBase k
 checkpointer_after (RemovingBase k) true least base = removing_after k base
 checkpointer_after _ _ least base = Idle
 
--- the number of the newest base whose name is on the device for certain
+-- the number of the newest base whose name is durable
 abbrev pub base_after : Checkpointer → Bool → ℕ → ℕ
 base_after (Fixing n past) true base = n
 base_after _ _ base = base
@@ -179,7 +179,7 @@ abbrev pub least_after : Checkpointer → Bool → ℕ → ℕ → ℕ
 least_after (RemovingBase k) true least base = if nat_lt k base then k + 1 else least
 least_after _ _ least base = least
 
--- the newest base that may have its name: its number, and how many batches of the log of that number it has
+-- the newest base that may have its name: its number, and the number of batches of the log of that number that it has
 abbrev pub tried_after : Checkpointer → ℕ → ℕ
 tried_after (Renaming n past) tried = n
 tried_after _ tried = tried
@@ -199,13 +199,13 @@ told_checkpoint m is_done = record m {
 
 -- ---- requests
 
--- a batch is to be appended
+-- a batch is submitted
 abbrev pub submitting : Writer → Writer
 submitting Ready = Appending
 submitting (Syncing n) = Both n
 submitting w = w
 
--- all that was appended is to be synced
+-- a sync of all that was appended is requested
 abbrev pub syncing : Writer → ℕ → Writer
 syncing Ready count = Syncing count
 syncing Appending count = Both count
@@ -224,7 +224,7 @@ is_open (Syncing n) = true
 is_open (Both n) = true
 is_open w = false
 
--- the next log is to be made
+-- the next log is requested
 abbrev pub asking_next : Writer → NextLog → NextLog
 asking_next w Absent = if is_open w then Creating else Absent
 asking_next w next = next
@@ -233,12 +233,12 @@ asking_next w next = next
 abbrev pub is_later : ℕ → ℕ → ℕ → ℕ → Bool
 is_later tried past n new = nat_lt tried n || (tried == n && nat_lt past new)
 
--- whether what a base is to have is on the device: all of it is in logs before the present one
+-- whether the contents of a base are durable: all of them are in logs before the present one
 abbrev pub is_in_older : ℕ → ℕ → ℕ → Bool
 is_in_older log n new = nat_lt n log || (n == log && new == 0)
 
--- A base is to be made of the logs before a number, and of the first batches of the log of that number. No batch of the present log
--- is taken: the next log is gone on in before.
+-- A base is requested, made of the logs before a number, and of the first batches of the log of that number. It takes no batch of
+-- the present log: the writer switches to the next log before.
 abbrev pub may_begin : Machine → ℕ → ℕ → Bool
 may_begin m n new = is_open m.writer && is_later m.tried m.past n new && nat_le m.base n && is_in_older m.log n new
 

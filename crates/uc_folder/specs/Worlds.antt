@@ -1,4 +1,4 @@
--- The machine and the device together, over every list of events.
+-- The machine and the device together, for every list of events.
 use Rattle.std.specs.Prelude.{not, take, min, length, ◌≡◌, ℕ, ◌+◌, ◌≤◌, ◌<◌, Bool, true, false, ◌&&◌, List, [], ◌∷◌, ◌++◌, Option, Some, None, nat_lt, if◌then◌else◌}
 use Rattle.uc_folder.specs.Device.{Batch, Record, Whole, Torn, File, Device, Keep, first_number, crashed, crashed_file, empty_file, appended, synced, cut, suspected, sealed, copied, rows_of, at, change_log, name_log, name_base, sync_names, write_copy, write_partial, records_of, content, are_whole, are_damaged, is_there, past_of, newest_base, last_log, upto}
 use Rattle.uc_folder.specs.declared.machine.Machine.{Machine}
@@ -9,7 +9,7 @@ use Rattle.uc_folder.specs.declared.action.Action.{Action}
 use Rattle.uc_folder.specs.declared.action.Action.TheVariants.{Nothing, CreateLog, Append, SyncLog, CutLog, SyncNames, SetAside, CopyLog, SyncCopy, NameCopy, WriteBase, SyncBase, NameBase, RemoveLog, RemoveBase}
 use Rattle.uc_folder.specs.Steps.{next_write, told_write, next_make, told_make, next_sync, told_sync, next_checkpoint, told_checkpoint, submitting, syncing, asking_next, switching, may_begin, checkpointing, opened}
 
--- The folder and its machine; the batches that were submitted for each log, the one that was submitted last, and all that were
+-- The directory and its machine; the batches that were submitted for each log, the one that was submitted last, and all that were
 -- acknowledged as synced.
 pub record World : Type 0 where
   pub device : Device
@@ -21,7 +21,7 @@ pub record World : Type 0 where
 abbrev pub submitted : World → List Batch
 submitted w = upto w.parts w.machine.log ++ w.parts w.machine.log
 
--- the batches of older logs, and the first ones of the present log
+-- the batches of older logs, followed by the first ones of the present log
 abbrev pub first_of : (ℕ → List Batch) → ℕ → ℕ → List Batch
 first_of parts log n = upto parts log ++ take n (parts log)
 
@@ -42,7 +42,7 @@ abbrev pub is_done : Outcome → Bool
 is_done Done = true
 is_done _ = false
 
--- the folder after an operation
+-- the directory after an operation
 abbrev pub carried_out : Batch → (ℕ → List Batch) → Device → Action → Device
 carried_out batch parts d Nothing = d
 carried_out batch parts d (CreateLog k) = name_log k (Some empty_file) d
@@ -87,28 +87,28 @@ device_after DoneUntold batch parts d a = failed (carried_out batch parts d a) a
 pub data Event : Type 0 where
   -- a batch is submitted
   Submit : Batch → Event
-  -- all that was appended is to be synced
+  -- a sync of all that was appended is requested
   AskSync : Event
-  -- the next log is to be made
+  -- the next log is requested
   AskNext : Event
   -- a switch to it is requested
   AskSwitch : Event
-  -- a base is to be made of the logs before a number, and of some batches of the log of that number
+  -- a base is requested, made of the logs before a number, and of some batches of the log of that number
   AskCheckpoint : ℕ → ℕ → Event
-  -- the writer's next operation is carried out
+  -- the writer's next operation is executed
   Writes : Outcome → Event
-  -- the next log is made, or its name is synced
+  -- the next log is created, or its name is synced
   Makes : Outcome → Event
-  -- the sync of the log ends that was asked for: it takes effect here, on what had been appended when it was asked for
+  -- the requested sync of the log ends: it takes effect here, on the records that had been appended when it was requested
   Syncs : Outcome → Event
-  -- the checkpointer's next operation is carried out
+  -- the checkpointer's next operation is executed
   Checkpoints : Outcome → Event
   -- The machine crashes, and the directory is opened again: the listing has the least number, and the greatest of a log. The
   -- current log may be called sealed.
   Crash : (ℕ → Keep) → (ℕ → Keep) → ℕ → ℕ → Bool → Event
-  -- the process ends, and the folder is opened again as it can be read
+  -- the process ends, and the directory is opened again as it can be read
   Restart : ℕ → ℕ → Bool → Event
-  -- the same, where of the log that was written only what is on the device can be read
+  -- the same, where only the durable part of the current log can be read
   Reread : Keep → ℕ → ℕ → Bool → Event
 
 -- a batch is taken if the writer may append one
@@ -128,7 +128,7 @@ parts_after Mending true log count parts = at log (take count (parts log)) parts
 parts_after Closing true log count parts = at (log + 1) [] parts
 parts_after w done log count parts = parts
 
--- the batches acknowledged as synced after an operation of the writer: all, once it has put the log on the device
+-- the batches acknowledged as synced after an operation of the writer: all, once the log is durable
 abbrev pub acked_after : Writer → Bool → List Batch → List Batch → List Batch
 acked_after Settling true all acked = all
 acked_after Closing true all acked = all
@@ -141,7 +141,7 @@ acked_then (Both n) true parts log acked = first_of parts log n
 acked_then (Spoiled n) true parts log acked = first_of parts log n
 acked_then w done parts log acked = acked
 
--- the result of an opening by the names that are listed
+-- the result of opening by the names that are listed
 abbrev pub found : Device → ℕ → ℕ → Found
 found d least top = record {
   base = newest_base d;
@@ -163,7 +163,7 @@ abbrev pub is_settled : Option File → Bool
 is_settled None = false
 is_settled (Some f) = are_whole f.kept && (are_none f.waiting && not f.suspect)
 
--- the folder is opened: from then on what was read is what was submitted
+-- the directory is opened: from then on the batches that were read are those that were submitted
 abbrev pub opens : ℕ → ℕ → Bool → World → World
 opens least top sealed w = record {
   device = w.device;
@@ -173,7 +173,7 @@ opens least top sealed w = record {
   acked = w.acked;
 }
 
--- the folder, where of the log that is written only this is on the device
+-- the directory, where only this part of the current log is durable
 abbrev pub reread : Keep → World → Device
 reread keep w = change_log w.machine.log (crashed_file keep) w.device
 
@@ -215,7 +215,7 @@ happens w (Crash logs bases least top sealed) = opens least top sealed (record w
 happens w (Restart least top sealed) = opens least top sealed w
 happens w (Reread keep least top sealed) = opens least top sealed (record w { device = reread keep w })
 
--- a folder without a file, which is opened
+-- an empty directory, which is opened
 abbrev pub new_device : Device
 new_device = record { logs = λ k. record { now = None; before = [] }; bases = λ k. record { now = None; before = [] }; copy = empty_file; partial = empty_file; names = first_number }
 
