@@ -10,7 +10,7 @@ use std::alloc::Global;
 use std::convert::AsStr;
 use std::env;
 use std::io::{self, Read, Write};
-use std::marker::Sync;
+use std::marker::{Send, Sync};
 use std::process::ExitCode;
 use std::rt::Env;
 use std::sync::Wait;
@@ -49,7 +49,7 @@ fn tell_left(rt: &impl Eprint, left: u64) {
 }
 
 /// Does the work under an operator.
-fn work_with<O: Operator, R: Read, W: Write>(
+fn work_with<O: Operator + Send + Sync, R: Read, W: Write>(
     rt: &(impl Eprint + Threads + Wait + Sync),
     alloc: Global,
     work: Work,
