@@ -88,6 +88,25 @@ class Calls(InFolder):
         with Db(self.folder) as db:
             self.assertEqual(dict(db.items()), {b"": b"", b"a": b"1,more"})
 
+    def test_an_idle_database_compacts_to_one_run(self):
+        told = []
+        options = DbOptions(compact_when_idle_milliseconds=20)
+        with Db(self.folder, options=options, events=told.append) as db:
+            for number in range(3):
+                db[b"%d" % number] = b"v"
+                db.flush()
+            begun = time.monotonic()
+            while db.stats().runs > 1 and time.monotonic() < begun + 20:
+                time.sleep(0.01)
+            self.assertEqual((db.stats().runs, db.stats().last, list(db.keys())), (1, 3, [b"0", b"1", b"2"]))
+        self.assertIn(1, [event.runs for event in told if event.kind == EventKind.COMPACTED])
+        with Db.in_memory(options=DbOptions(compact_when_idle_milliseconds=0)) as db:
+            for number in range(2):
+                db[b"%d" % number] = b"v"
+                db.flush()
+            time.sleep(0.1)
+            self.assertEqual((db.stats().runs, db.stats().compactions), (2, 0))
+
     def test_keys_and_values_are_like_bytes(self):
         with Db.in_memory() as db:
             db[bytearray(b"key")] = memoryview(b"-value-")[1:-1]

@@ -75,6 +75,7 @@ mod gap;
 mod group;
 mod header;
 mod holder;
+mod idle;
 mod kept;
 mod lanes;
 mod log;
