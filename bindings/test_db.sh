@@ -7,7 +7,7 @@
 # for them.
 # - rust: crashes and faults of a device at each call, damaged bytes, threads and each order of their steps, use for long,
 #   processes that are ended by signal 9, an example.
-# - c: each function, threads, the cases of bindings/cases and drawn ones, and programs, by gcc and clang and as C++.
+# - c: each function, threads, moves of cursors, the cases of bindings/cases and drawn ones, and programs, by gcc and clang and as C++.
 # - sanitizers: those of addresses, undefined behaviour and threads. valgrind: once.
 # - python: each call, the same cases, the types by mypy where there is one, and how fast a scan is.
 # - ended: programs of C and Python are ended by signal 9 while eight threads write, and the example until it is done.
@@ -25,8 +25,8 @@ trap 'rm -rf "$work" "$room"' EXIT
 export HOME=${HOME:-$(getent passwd "$(id -u)" | cut -d: -f6)}
 export PATH=$PATH:${CARGO_HOME:-$HOME/.cargo}/bin
 seed=${SEED:-1}
-cases_drawn=30
-if [ -n "${LONG:-}" ]; then cases_drawn=600; fi
+cases_drawn=30 cursors_drawn=300
+if [ -n "${LONG:-}" ]; then cases_drawn=600 cursors_drawn=6000; fi
 strict=(-Wall -Wextra -Werror -pedantic)
 # What a database has too: no sequences of batches, and no reports.
 played=()
@@ -112,13 +112,14 @@ compile() { # NAME COMPILER.. -- LIBRARY..
 # The programs by one compiler, and what they say.
 run_programs() { # COMPILER.. -- LIBRARY..
     local name
-    for name in db_test db_threads db_first; do
+    for name in db_test db_threads db_cursors db_first; do
         compile "$name" "$@"
     done
     rm -rf "$work"/{calls,threads,visits}
     mkdir "$work/calls"
     "$work/db_test" "$work/calls"
     "$work/db_threads" "$work/threads"
+    "$work/db_cursors" "$cursors_drawn" 1000000 "$seed"
     expect db_first.c '5 visits, 2 before' "$(cd "$work" && ./db_first)"
     expect 'db_first.c, again' '10 visits, 7 before' "$(cd "$work" && ./db_first)"
 }
@@ -154,9 +155,12 @@ try_valgrind() {
     local checked=(valgrind --quiet --leak-check=full --errors-for-leak-kinds=all --error-exitcode=9 --child-silent-after-fork=yes)
     compile db_test gcc -std=c99 -O1 -g -- "${static[@]}"
     compile db_threads gcc -std=c99 -O1 -g -- "${static[@]}"
+    compile db_cursors gcc -std=c99 -O1 -g -- "${static[@]}"
     mkdir "$work/checked"
     "${checked[@]}" "$work/db_test" "$work/checked"
     "${checked[@]}" "$work/db_threads" "$work/checked/threads"
+    # Lent keys and values are read until the next move.
+    "${checked[@]}" "$work/db_cursors" 10 20000 "$seed"
 }
 
 # The module, with the libraries that are tried.

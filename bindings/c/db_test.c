@@ -12,6 +12,7 @@
 #include <string.h>
 #include <sys/resource.h>
 #include <sys/wait.h>
+#include <time.h>
 #include <ucstore_db.h>
 #include <unistd.h>
 
@@ -78,6 +79,7 @@ static void try_versions(void) {
     OK(ucstore_db_options_init(&options, sizeof options));
     CHECK(options.size == sizeof options && options.sync == UCSTORE_DB_SYNC_ALWAYS && options.compactors == 2);
     CHECK(options.write_buffer_size == 4 << 20 && options.checkpoint_least == 64 << 20 && options.event == NULL);
+    CHECK(options.compact_when_idle_milliseconds == 1000);
 }
 
 /* A program compiled with another header has a smaller or a larger struct of options. */
@@ -600,6 +602,50 @@ static void try_memory(void) {
     OK(ucstore_db_close(db));
 }
 
+/* Returns the statistics of a database. */
+static struct ucstore_db_stats stats_of(struct ucstore_db *db) {
+    struct ucstore_db_stats stats;
+    memset(&stats, 0, sizeof stats);
+    stats.size = sizeof stats;
+    OK(ucstore_db_stats(db, &stats));
+    return stats;
+}
+
+/* Returns true if the counter k is three. */
+static bool is_three(struct ucstore_db *db) {
+    uint64_t found = 0;
+    size_t size = 0;
+    return ucstore_db_get(db, "k", 1, &found, sizeof found, &size) == UCSTORE_DB_OK && found == 3 && size == sizeof found;
+}
+
+/* An idle database compacts to one run, unless the option says that it never does. */
+static void try_idle(void) {
+    struct ucstore_db_options options = counters();
+    struct ucstore_db *idle = NULL, *other = NULL;
+    struct ucstore_db_stats stats;
+    const struct timespec pause = {0, 10000000};
+    int run, wait;
+    options.compact_when_idle_milliseconds = 0;
+    OK(ucstore_db_in_memory(&options, &other));
+    options.compact_when_idle_milliseconds = 20;
+    OK(ucstore_db_in_memory(&options, &idle));
+    for (run = 0; run < 3; run++) {
+        OK(ucstore_db_merge(idle, "k", 1, one, sizeof one));
+        OK(ucstore_db_merge(other, "k", 1, one, sizeof one));
+        OK(ucstore_db_flush(idle));
+        OK(ucstore_db_flush(other));
+    }
+    for (wait = 0; wait < 2000 && stats_of(idle).runs > 1; wait++) {
+        CHECK(nanosleep(&pause, NULL) == 0);
+    }
+    stats = stats_of(idle);
+    CHECK(stats.runs == 1 && stats.compactions > 0 && stats.last == 3 && is_three(idle));
+    stats = stats_of(other);
+    CHECK(stats.runs == 3 && stats.compactions == 0 && stats.last == 3);
+    OK(ucstore_db_close(idle));
+    OK(ucstore_db_close(other));
+}
+
 /* Checks the statuses in a forked child. */
 static bool is_forked(struct ucstore_db *db, struct ucstore_db_cursor *cursor) {
     size_t size = 0;
@@ -659,6 +705,7 @@ int main(int argc, char **argv) {
     try_sources();
     try_recovery();
     try_events();
+    try_idle();
     try_damage();
     try_full_device();
     printf("calls of the database are as they have to be\n");

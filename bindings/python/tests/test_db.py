@@ -1,6 +1,6 @@
 """Tests of `ucstore.Db`: results and errors of its calls, threads, forks, callbacks, and the speed of scans."""
 
-import collections
+import collections.abc
 import ctypes
 import doctest
 import os
@@ -87,6 +87,92 @@ class Calls(InFolder):
             self.assertEqual(refused.exception.args, (b"b",))
         with Db(self.folder) as db:
             self.assertEqual(dict(db.items()), {b"": b"", b"a": b"1,more"})
+
+    def test_it_is_a_mapping(self):
+        with Db(self.folder) as db:
+            self.assertIsInstance(db, collections.abc.MutableMapping)
+            self.assertEqual((len(db), bool(db)), (0, False))
+            db.update({b"a": b"1", b"b": b"2"})
+            db.update([(b"c", bytearray(b"3")), (b"a", b"4")])
+            self.assertEqual(db.stats().batches, 2)
+            db.update()
+            self.assertEqual((len(db), bool(db)), (3, True))
+            with db.snapshot() as snapshot:
+                self.assertIsInstance(snapshot, collections.abc.Mapping)
+                self.assertNotIsInstance(snapshot, collections.abc.MutableMapping)
+                self.assertEqual(db.pop(b"a"), b"4")
+                self.assertEqual((db.pop(b"a", None), b"a" in db), (None, False))
+                with self.assertRaises(KeyError):
+                    db.pop(b"a")
+                self.assertEqual((db.setdefault(b"b", b"5"), db.setdefault(b"d", b"6")), (b"2", b"6"))
+                self.assertEqual(db.popitem(), (b"b", b"2"))
+                self.assertEqual(dict(db.items()), {b"c": b"3", b"d": b"6"})
+                self.assertEqual(dict(db), {b"c": b"3", b"d": b"6"})
+                self.assertEqual((len(snapshot), dict(snapshot), bool(snapshot)), (3, {b"a": b"4", b"b": b"2", b"c": b"3"}, True))
+                db.clear()
+                self.assertEqual((list(db), len(db), bool(db), len(snapshot)), ([], 0, False, 3))
+                db.clear()
+                with self.assertRaises(KeyError):
+                    db.popitem()
+        with Db(self.folder) as db:
+            self.assertEqual(list(db.items()), [])
+
+    def test_an_idle_database_compacts_to_one_run(self):
+        told = []
+        options = DbOptions(compact_when_idle_milliseconds=20)
+        with Db(self.folder, options=options, events=told.append) as db:
+            for number in range(3):
+                db[b"%d" % number] = b"v"
+                db.flush()
+            begun = time.monotonic()
+            while db.stats().runs > 1 and time.monotonic() < begun + 20:
+                time.sleep(0.01)
+            self.assertEqual((db.stats().runs, db.stats().last, list(db.keys())), (1, 3, [b"0", b"1", b"2"]))
+        self.assertIn(1, [event.runs for event in told if event.kind == EventKind.COMPACTED])
+        with Db.in_memory(options=DbOptions(compact_when_idle_milliseconds=0)) as db:
+            for number in range(2):
+                db[b"%d" % number] = b"v"
+                db.flush()
+            time.sleep(0.1)
+            self.assertEqual((db.stats().runs, db.stats().compactions), (2, 0))
+
+    def test_an_update_is_written_whole_or_not_at_all(self):
+        with Db.in_memory() as db:
+            for pairs in [(b"a", b"1"), (b"b", None)], [(b"a", b"1"), (b"b",)], {b"a": b"1", "b": b"2"}, [b"ab", 7]:
+                with self.assertRaises((TypeError, ValueError)):
+                    db.update(pairs)
+                self.assertEqual((list(db.items()), db.stats().batches), ([], 0))
+            with Db.in_memory() as other:
+                other.update({b"%d" % key: b"v" for key in range(1000)})
+                db.update(other)
+                self.assertEqual((list(db.items()), db.stats().batches), (list(other.items()), 1))
+
+    def test_a_clear_is_one_range_deletion(self):
+        with Db.in_memory() as db:
+            keys = [b"", b"\0", b"\0\xff", b"k" * 3000, b"\xff", b"\xff\xff", b"\xff\xff\0"]
+            db.update(dict.fromkeys(keys, b"v"))
+            last = db.stats().last
+            db.clear()
+            self.assertEqual((list(db.keys()), db.stats().last), ([], last + 1))
+            db[b"later"] = b"v"
+            self.assertEqual(list(db), [b"later"])
+
+    def test_equality_is_identity(self):
+        with Db.in_memory() as db, Db.in_memory() as other, db.snapshot() as snapshot:
+            self.assertTrue(db == db and not db != db and db != other and db != {} and db != snapshot)
+            self.assertEqual(len({db, other, snapshot, db}), 3)
+
+    def test_lengths_of_many_and_of_large_rows(self):
+        with Db.in_memory() as db:
+            db.update((b"%06d" % key, b"v" * (key % 30)) for key in range(20_000))
+            db[b"large"] = bytes(3_000_000)
+            self.assertEqual(len(db), 20_001)
+            db.delete_range(b"000100", b"010000")
+            self.assertEqual(len(db), 10_101)
+        with self.assertRaises(Closed):
+            len(db)
+        with self.assertRaises(Closed):
+            bool(db)
 
     def test_keys_and_values_are_like_bytes(self):
         with Db.in_memory() as db:

@@ -1,7 +1,7 @@
 """Uses each call of `ucstore.Db` as a typed program does. mypy checks it, and nothing runs it."""
 
 from pathlib import Path
-from typing import Dict, Iterator, List, Optional, Tuple
+from typing import Dict, Iterator, List, Mapping, MutableMapping, Optional, Tuple, Union
 
 from ucstore import Db, DbBatch, DbOptions, DbSnapshot, DbStats, Event, EventKind, Operator, Progress, Sync, UcstoreError
 
@@ -44,12 +44,24 @@ def read(db: Db, snapshot: DbSnapshot) -> Dict[bytes, bytes]:
     return dict(rows)
 
 
+def use_as_mappings(db: Db, snapshot: DbSnapshot) -> int:
+    changed: MutableMapping[bytes, bytes] = db
+    held: Mapping[bytes, bytes] = snapshot
+    value: bytes = changed.setdefault(b"key", b"value")
+    db.update({b"a": b"1"})
+    db.update([(b"b", bytearray(b"2"))])
+    other: Union[bytes, int] = db.get(b"key", 7)
+    print(value, other, db.pop(b"a"), db.popitem(), held.get(b"b"), bool(db), db == snapshot, {db: 1})
+    db.clear()
+    return len(db) + len(held)
+
+
 def main(folder: Path) -> None:
     options = DbOptions(sync=Sync.EVERY, sync_milliseconds=100)
     with Db(folder, Operator.COUNTER, options, progress=watch, events=hear) as db, Db.in_memory() as other:
         with db.write_batch() as batch, db.snapshot() as snapshot:
             write(other, batch)
-            print(read(other, snapshot))
+            print(read(other, snapshot), use_as_mappings(other, snapshot))
         stats: DbStats = db.stats()
         text: str = db.stats_text()
         failure: Optional[UcstoreError] = db.failure()

@@ -7,11 +7,12 @@ The first database that is opened loads the shared library: the file that `UCSTO
 from __future__ import annotations
 
 import atexit
+import contextlib
 import ctypes
 import os
 import weakref
 from types import TracebackType
-from typing import Callable, Optional, Sequence, Type, Union
+from typing import Callable, Iterable, Mapping, MutableMapping, Optional, Sequence, Tuple, Type, Union
 
 from . import Operator, UcstoreError
 from ._db_library import OK, Options, Stats, event_function, library, progress_function
@@ -124,7 +125,7 @@ class DbSnapshot(Alone, Reader):
         self.close()
 
 
-class Db(Reader):
+class Db(Reader, MutableMapping[bytes, bytes]):
     """A durable database in a directory, which threads share.
 
     >>> import tempfile
@@ -134,6 +135,9 @@ class Db(Reader):
     ...     with Db(folder) as db:
     ...         list(db.items())
     [(b'colour', b'blue')]
+
+    It is a `MutableMapping`. `len` reads all rows, and deleting a key that has no value is no error. `pop`, `popitem` and
+    `setdefault` read and then write, so a write of another thread may come in between.
 
     Keys and values are bytes or bytes-like. When a write returns, it is acknowledged, and durable unless the options say
     otherwise. Calls release the interpreter lock. After a fork only the parent can use the database: in the child its
@@ -225,6 +229,22 @@ class Db(Reader):
         """Deletes all keys from `begin` (inclusive) to `end` (exclusive). The range may be empty."""
         first, second = bytes_of(begin), bytes_of(end)
         self._call("delete_range", first, len(first), second, len(second))
+
+    def clear(self) -> None:
+        """Deletes all keys that have a value at the time of the call, by one range deletion."""
+        with contextlib.closing(self.items(reverse=True)) as rows:
+            for key, _ in rows:
+                self.delete_range(b"", key + b"\0")
+                return
+
+    def update(  # type: ignore[override]
+        self, other: Union[Mapping[bytes, bytes], Iterable[Tuple[Bytes, Bytes]]] = ()
+    ) -> None:
+        """Sets each key of a mapping, or of pairs, to its value: all of them by one batch, atomically."""
+        pairs: Iterable[Tuple[Bytes, Bytes]] = other.items() if isinstance(other, Mapping) else other
+        with self.write_batch() as batch:
+            for key, value in pairs:
+                batch.put(key, value)
 
     def write_batch(self) -> DbBatch:
         """Returns a batch that is written when its `with` block ends, unless that raises.

@@ -45,12 +45,13 @@ class Options(ctypes.Structure):
         ("recovers_to_fault", ctypes.c_uint32), ("progress", _ProgressFunction), ("progress_context", _Pointer),
         ("event", _EventFunction), ("event_context", _Pointer), ("recover_to", _U64), ("give_up_until", _U64),
         ("marks", ctypes.POINTER(_U64)), ("marks_count", _Size), ("must_exist", ctypes.c_uint32), ("reserved", ctypes.c_uint32),
+        ("compact_when_idle_milliseconds", _U64),
     ]
 
     @classmethod
     def of(cls, operator: Operator, options: DbOptions) -> Options:
         """Returns the options as a C struct. Raises `BadOption` for a number that its field would truncate."""
-        found = cls(ctypes.sizeof(cls), operator, *options, recover_to=_NONE, give_up_until=_NONE)
+        found = cls(ctypes.sizeof(cls), operator, recover_to=_NONE, give_up_until=_NONE, **options._asdict())
         if any(getattr(found, name) != value for name, value in zip(DbOptions._fields, options)):
             raise BadOption()
         return found

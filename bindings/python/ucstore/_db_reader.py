@@ -2,11 +2,12 @@
 
 from __future__ import annotations
 
+import contextlib
 import ctypes
 import io
 import itertools
 import threading
-from typing import Iterable, Iterator, List, Optional, Tuple, Union
+from typing import Iterable, Iterator, List, Mapping, Optional, Tuple, TypeVar, Union, cast, overload
 
 from ._db_library import NOT_FOUND, OK, ROOM, Library
 from ._db_types import Closed
@@ -15,6 +16,7 @@ Bytes = Union[bytes, bytearray, memoryview]
 """A key or a value. Other bytes-like objects are accepted too."""
 
 _Row = Tuple[bytes, bytes]
+_Default = TypeVar("_Default")
 
 _Pointer, _Size, _U64 = ctypes.c_void_p, ctypes.c_size_t, ctypes.c_uint64
 
@@ -113,6 +115,23 @@ class Cursor(Alone):
         finally:
             self.close()
 
+    def count(self) -> int:
+        """Returns the number of rows, and closes the cursor."""
+        rows, length = 0, _GROWTH * _GROWTH * _PAGE_BYTES
+        lengths = (_U64 * (2 * _GROWTH * _GROWTH * _PAGE_ROWS))()
+        try:
+            while True:
+                room = (ctypes.c_char * length)()
+                found = self._fill(lengths, room)
+                while found is not None and found[0] > 0:
+                    rows += found[0]
+                    found = self._fill(lengths, room)
+                if found is None:
+                    return rows
+                length = found[1]
+        finally:
+            self.close()
+
     def _fill(
         self, lengths: ctypes.Array[ctypes.c_uint64], room: ctypes.Array[ctypes.c_char]
     ) -> Optional[Tuple[int, int]]:
@@ -154,16 +173,25 @@ class Rows(Iterator[_Row]):
         self._cursor.close()
 
 
-class Reader(Handle):
+class Reader(Handle, Mapping[bytes, bytes]):
     """Read methods of a database and its snapshots. Rows are in byte order of the keys.
 
-    As in a dict, only `reader[key]` raises `KeyError`. Each call raises `OutOfMemory` if an allocation fails, and
-    `Closed` and `Forked`.
+    A reader is a `Mapping`, with three differences from a dict: `items`, `keys` and `values` return iterators over the state
+    at the time of the call, `len` reads all rows, and two readers are equal only if they are the same object. As in a dict,
+    only `reader[key]` raises `KeyError`. Each call raises `OutOfMemory` if an allocation fails, and `Closed` and `Forked`.
     """
 
     _prefix = ""
 
-    def get(self, key: Bytes, default: Optional[bytes] = None) -> Optional[bytes]:
+    @overload
+    def get(self, key: Bytes) -> Optional[bytes]:
+        ...
+
+    @overload
+    def get(self, key: Bytes, default: Union[bytes, _Default]) -> Union[bytes, _Default]:
+        ...
+
+    def get(self, key: Bytes, default: object = None) -> object:
         """Returns the value of a key, or `default`."""
         found = self._get(bytes_of(key))
         return default if found is None else found
@@ -175,9 +203,27 @@ class Reader(Handle):
             raise KeyError(key)
         return found
 
-    def __contains__(self, key: Bytes) -> bool:
-        """Returns True if a key has a value."""
-        return self._get(bytes_of(key)) is not None
+    def __contains__(self, key: object) -> bool:
+        """Returns True if a key has a value. Raises `TypeError` if the key is not bytes-like."""
+        return self._get(bytes_of(cast(Bytes, key))) is not None
+
+    def __len__(self) -> int:
+        """Returns the number of keys that have a value. Takes linear time: all rows are read.
+
+        Python calls it for `list(reader)` too. `list(reader.keys())` reads the rows once.
+        """
+        return self._cursor(b"", None, None).count()
+
+    def __bool__(self) -> bool:
+        """Returns True if any key has a value. Reads one row."""
+        with contextlib.closing(self.items()) as rows:
+            return next(rows, None) is not None
+
+    def __eq__(self, other: object) -> bool:
+        """Returns True for the same object. To compare contents, compare copies, such as `dict(reader.items())`."""
+        return self is other
+
+    __hash__ = object.__hash__
 
     def get_many(self, keys: Iterable[Bytes]) -> List[Optional[bytes]]:
         """Returns the value of each key, or None, at one point in time."""
@@ -193,7 +239,7 @@ class Reader(Handle):
                 return _values(room.raw, found)
             length = size.value
 
-    def items(
+    def items(  # type: ignore[override]
         self, low: Bytes = b"", high: Optional[Bytes] = None, *, prefix: Optional[Bytes] = None, reverse: bool = False
     ) -> Rows:
         """Returns an iterator over the keys from `low` to below `high`, or those that begin with `prefix`, with their values.
@@ -203,13 +249,13 @@ class Reader(Handle):
         """
         return Rows(self._cursor(low, high, prefix), reverse)
 
-    def keys(
+    def keys(  # type: ignore[override]
         self, low: Bytes = b"", high: Optional[Bytes] = None, *, prefix: Optional[Bytes] = None, reverse: bool = False
     ) -> Iterator[bytes]:
         """Returns an iterator over the keys of `items`."""
         return (key for key, _ in self.items(low, high, prefix=prefix, reverse=reverse))
 
-    def values(
+    def values(  # type: ignore[override]
         self, low: Bytes = b"", high: Optional[Bytes] = None, *, prefix: Optional[Bytes] = None, reverse: bool = False
     ) -> Iterator[bytes]:
         """Returns an iterator over the values of `items`."""

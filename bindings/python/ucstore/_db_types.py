@@ -131,6 +131,9 @@ class DbOptions(NamedTuple):
     """Minimum size of the logs in bytes for a checkpoint. 2^64 - 1: never make one automatically."""
     recovers_to_fault: bool = False
     """True to open a corrupted database, read-only, up to the corruption."""
+    compact_when_idle_milliseconds: int = 1000
+    """Time without a write after which the database is compacted to one run, if there are `compactors`. A write ends this
+    work, and does not wait for it. 0: never."""
 
 
 class Progress(NamedTuple):
@@ -150,7 +153,7 @@ class EventKind(enum.IntEnum):
     FLUSHED = 0
     """A memtable was flushed to a run."""
     COMPACTED = 1
-    """Runs were compacted into one."""
+    """Runs were compacted into one, also by an idle database."""
     CHECKPOINTED = 2
     """A checkpoint was written to the file `text`, and the older logs were deleted."""
     STALLED = 3

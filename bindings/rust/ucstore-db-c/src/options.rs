@@ -7,6 +7,7 @@ use crate::status::Status;
 use db::{ucstore, Operator, Options, Sync};
 use std::ffi::c_void;
 use std::mem::offset_of;
+use std::time::Duration;
 
 const SYNC_ALWAYS: u32 = 0;
 const SYNC_EVERY: u32 = 1;
@@ -74,6 +75,8 @@ pub struct COptions {
     pub must_exist: u32,
     /// Must be 0.
     pub reserved: u32,
+    /// Milliseconds without a write after which the database is compacted to one run; 0 for never.
+    pub compact_when_idle_milliseconds: u64,
 }
 
 impl COptions {
@@ -101,6 +104,10 @@ impl COptions {
             sync: self.read_sync()?,
             store: self.read_store(),
             compactors: self.compactors as usize,
+            compact_when_idle: match self.compact_when_idle_milliseconds {
+                0 => None,
+                milliseconds => Some(Duration::from_millis(milliseconds)),
+            },
             slow_trigger: self.slow_trigger,
             checkpoint_ratio: self.checkpoint_ratio,
             checkpoint_least: self.checkpoint_least,
@@ -168,6 +175,9 @@ impl Default for COptions {
             marks_count: 0,
             must_exist: options.must_exist.into(),
             reserved: 0,
+            compact_when_idle_milliseconds: options
+                .compact_when_idle
+                .map_or(0, |after| after.as_millis() as u64),
         }
     }
 }

@@ -33,6 +33,11 @@ impl JobsOut {
         self.flushes.load(Ordering::Acquire) > 0
     }
 
+    /// Whether any job is out.
+    pub(crate) fn is_any(&self) -> bool {
+        self.is_flushing() || self.compactions() > 0
+    }
+
     /// The number of compactions that are out.
     fn compactions(&self) -> usize {
         self.compactions.load(Ordering::Acquire)
@@ -94,7 +99,7 @@ impl Shared {
 
     /// Takes a flush out of the store, if a memtable is full, or else a compaction, if fewer than `most` are out. So one of the
     /// database's own threads is always free for a flush.
-    fn take_job(&self, store: &Store, most: usize) -> Result<Option<Taken<'_>>, Error> {
+    pub(crate) fn take_job(&self, store: &Store, most: usize) -> Result<Option<Taken<'_>>, Error> {
         if self.jobs.compactions() < most {
             return self.take_any(store);
         }
@@ -170,7 +175,7 @@ impl Shared {
     }
 
     /// Counts a compaction, and reports it.
-    fn tell_compacted(&self, begun: Instant) {
+    pub(crate) fn tell_compacted(&self, begun: Instant) {
         self.counts.compactions.add(1);
         self.events.push(Event::Compacted {
             runs: self.runs.load(Ordering::Relaxed),

@@ -21,7 +21,7 @@ pub enum Event {
         /// The time that it took.
         took: Duration,
     },
-    /// Runs were compacted to one.
+    /// Runs were compacted to one, also by a database that was [idle](crate::Options::compact_when_idle).
     Compacted {
         /// The number of runs now.
         runs: u64,

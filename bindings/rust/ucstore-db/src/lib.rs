@@ -76,6 +76,7 @@ mod gap;
 mod group;
 mod header;
 mod holder;
+mod idle;
 mod kept;
 mod log;
 mod lookups;

@@ -2,6 +2,7 @@
 
 use crate::error::Error;
 use crate::event::{Event, Listener, Progress};
+use std::time::Duration;
 use ucstore::{Operator, Store};
 
 /// When a write is on the device.
@@ -34,6 +35,11 @@ pub struct Options {
     pub store: ucstore::Options,
     /// The number of threads that compact; one more is kept for flushes. With 0, writes flush and compact.
     pub compactors: usize,
+    /// Time without a write after which the database is compacted to one run, by a thread of its own, at least a millisecond; with `None` it
+    /// isn't, nor without `compactors`. The thread notices within as much time again, and takes at most a tenth of a processor. It compacts only
+    /// what `stop_trigger` flushes of the memtables hold, and takes up to twice the data's memory meanwhile. A write ends its work,
+    /// and doesn't wait for it.
+    pub compact_when_idle: Option<Duration>,
     /// From how many runs on writes are slowed, by a millisecond each time.
     pub slow_trigger: u32,
     /// By how many times the logs exceed the data when a checkpoint is made.
@@ -103,6 +109,7 @@ impl Default for Options {
             sync: Sync::Always,
             store: ucstore::Options::default(),
             compactors: 2,
+            compact_when_idle: Some(Duration::from_secs(1)),
             slow_trigger: 20,
             checkpoint_ratio: 2,
             checkpoint_least: 64 << 20,

@@ -174,6 +174,11 @@ impl Shared {
         told
     }
 
+    /// Whether a group is being written.
+    pub(crate) fn is_writing(&self) -> bool {
+        self.is_writing.load(Ordering::Relaxed)
+    }
+
     /// Takes a group, after its record in the log if there is one.
     pub(crate) fn take(&self, log: &mut Option<Log>, group: &Group) -> Result<(), Error> {
         self.check()?;

@@ -40,6 +40,11 @@ impl Workers {
         for _ in 0..compactors.saturating_add(compactors.min(1)) {
             workers.spawn("compactor", Shared::compact_until_closed)?;
         }
+        if let Some(after) = shared.options.compact_when_idle.filter(|_| compactors > 0) {
+            workers.spawn("idle", move |shared| {
+                shared.compact_idle_until_closed(after)
+            })?;
+        }
         if lock(&shared.log).is_some() {
             let thread = workers.spawn("checkpointer", Shared::checkpoint_until_closed)?;
             shared.checkpointer.get_or_init(|| thread);
