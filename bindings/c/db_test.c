@@ -79,7 +79,7 @@ static void try_versions(void) {
     OK(ucstore_db_options_init(&options, sizeof options));
     CHECK(options.size == sizeof options && options.sync == UCSTORE_DB_SYNC_ALWAYS && options.compactors == 2);
     CHECK(options.write_buffer_size == 4 << 20 && options.checkpoint_least == 64 << 20 && options.event == NULL);
-    CHECK(options.compact_when_idle_milliseconds == 1000);
+    CHECK(options.compact_when_idle_milliseconds == 0);
 }
 
 /* A program compiled with another header has a smaller or a larger struct of options. */

@@ -131,9 +131,9 @@ class DbOptions(NamedTuple):
     """Minimum size of the logs in bytes for a checkpoint. 2^64 - 1: never make one automatically."""
     recovers_to_fault: bool = False
     """True to open a corrupted database, read-only, up to the corruption."""
-    compact_when_idle_milliseconds: int = 1000
-    """Time without a write after which the database is compacted to one run, if there are `compactors`. A write ends this
-    work, and does not wait for it. 0: never."""
+    compact_when_idle_milliseconds: int = 0
+    """Time without a write after which the database is compacted to one run, if there are `compactors`: reads become faster.
+    It takes up to twice the data's memory meanwhile. A write ends this work, and does not wait for it. 0: never."""
 
 
 class Progress(NamedTuple):

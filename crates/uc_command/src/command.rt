@@ -64,13 +64,13 @@ impl Shown {
 /// The numbers that an option accepts.
 #[derive(Clone, Copy)]
 enum Accepted {
-    /// Those of 32 bits.
+    /// Numbers of 32 bits.
     Short,
-    /// Those of 64 bits.
+    /// Numbers of 64 bits.
     Long,
-    /// Those of 64 bits but 0.
+    /// Numbers of 64 bits, except 0.
     FromOne,
-    /// Those from a least to a greatest one.
+    /// Numbers from a least to a greatest one.
     Within(i64, i64),
 }
 
@@ -289,7 +289,7 @@ enum OptionsOf {
     None,
     /// The operator and the options of a store.
     Store,
-    /// Those, after the ones of threads over a store.
+    /// The options of a store, after those of threads.
     Threads,
 }
 

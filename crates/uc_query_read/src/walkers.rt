@@ -343,7 +343,7 @@ impl<'a> Walkers<'a> {
         })
     }
 
-    /// The least of their next keys. It costs a comparison of texts.
+    /// The least of their next keys. It costs a comparison of keys.
     pub(crate) fn least(&self) -> Option<Least<'a>>
         ensures next { (low : List ℕ) (strict : Bool) → AllByRecursion (StandsAt low strict) self.now.cursors →
             IsNextKey (points_of (runs_of self.now.cursors)) low strict (option_map (λ least. least.key.now) result) }

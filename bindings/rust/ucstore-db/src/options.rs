@@ -35,10 +35,10 @@ pub struct Options {
     pub store: ucstore::Options,
     /// The number of threads that compact; one more is kept for flushes. With 0, writes flush and compact.
     pub compactors: usize,
-    /// Time without a write after which the database is compacted to one run, by a thread of its own, at least a millisecond; with `None` it
-    /// isn't, nor without `compactors`. The thread notices within as much time again, and takes at most a tenth of a processor. It compacts only
-    /// what `stop_trigger` flushes of the memtables hold, and takes up to twice the data's memory meanwhile. A write ends its work,
-    /// and doesn't wait for it.
+    /// Time without a write after which the database is compacted to one run, by a thread of its own: at least a millisecond. With `None`, the
+    /// default, it isn't, nor without `compactors`. It makes reads faster, and takes up to twice the data's memory meanwhile. The thread notices
+    /// within as much time again, takes at most a tenth of a processor, and compacts only what `stop_trigger` flushes of the memtables
+    /// hold. A write ends its work, and doesn't wait for it.
     pub compact_when_idle: Option<Duration>,
     /// From how many runs on writes are slowed, by a millisecond each time.
     pub slow_trigger: u32,
@@ -109,7 +109,7 @@ impl Default for Options {
             sync: Sync::Always,
             store: ucstore::Options::default(),
             compactors: 2,
-            compact_when_idle: Some(Duration::from_secs(1)),
+            compact_when_idle: None,
             slow_trigger: 20,
             checkpoint_ratio: 2,
             checkpoint_least: 64 << 20,

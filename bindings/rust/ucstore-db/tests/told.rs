@@ -48,8 +48,6 @@ fn flushes_compactions_and_checkpoints_are_told() {
     let (told, events) = Told::listener();
     let options = Options {
         events,
-        // On a machine that stops this thread for long, the database would be idle.
-        compact_when_idle: None,
         ..Default::default()
     };
     let db = open_with(&Device::default(), &options).unwrap();
