@@ -1,4 +1,4 @@
-//! What the machine's processors give together, whatever a program does: rounds of arithmetic that need no memory.
+//! Measures the machine's processors together by rounds of arithmetic that need no memory.
 //!
 //!     machine
 //!

@@ -1,4 +1,4 @@
-//! What `ucstore report --operator counter` does, in plain Rust, to measure it against.
+//! The work of `ucstore report --operator counter` in plain Rust, as its baseline.
 //!
 //!     baseline [--memtable N] [--trigger N] [--ratio N] [--percent N] [--least N] [--greatest N] [--values]
 //!

@@ -1,4 +1,4 @@
-//! What a log's keys have in the end, from one thread over a `BTreeMap`, to measure `ucstore report` against.
+//! The final values of a log's keys, by one thread over a `BTreeMap`: a baseline for `ucstore report`.
 //!
 //! It reads a log of counters from standard input, folds its writes as they come, and prints how many keys have a value then,
 //! and a checksum of both: the line that `baseline --values` prints.

@@ -4,6 +4,7 @@ use crate::call::{call, Refusal};
 use crate::handle::{CursorHandle, DbHandle, Handle, SnapshotHandle};
 use crate::memory::{text, Place, Room};
 use crate::status::Status;
+use db::ucstore::end_of_prefix;
 use db::{Error, Rows, Snapshot};
 use std::ffi::{c_char, c_void};
 use std::ops::Bound;
@@ -230,14 +231,6 @@ unsafe fn bounds<'a>(
 /// The end of a range below a key, if there is one.
 fn below(high: Option<&[u8]>) -> Bound<&[u8]> {
     high.map_or(Bound::Unbounded, Bound::Excluded)
-}
-
-/// The least key above all that begin with a prefix; none if there is no key above them.
-fn end_of_prefix(prefix: &[u8]) -> Option<Vec<u8>> {
-    let last = prefix.iter().rposition(|byte| *byte != u8::MAX)?;
-    let mut end = prefix[..=last].to_vec();
-    end[last] += 1;
-    Some(end)
 }
 
 /// Creates a cursor over a range of the current state of a database.

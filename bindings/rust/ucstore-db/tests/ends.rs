@@ -1,4 +1,4 @@
-//! What a crash leaves at the end of a log: holes, lengths without contents, and values that look like logs.
+//! Ends of logs that a crash leaves: holes, lengths without contents, and values that look like logs.
 
 mod common;
 

@@ -1,4 +1,4 @@
-//! What a write waits for on a slow device: not for the sync of all that was written before, unless it is to be synced itself.
+//! Writes on a slow device: none waits for the sync of what was written before it, unless it is to be synced itself.
 
 mod common;
 

@@ -1,4 +1,4 @@
-//! What a database tells of itself: events, the progress of an opening, its operator and its numbers.
+//! Reports of a database: events, the progress of an opening, its operator and its statistics.
 
 mod common;
 

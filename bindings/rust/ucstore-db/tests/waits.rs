@@ -1,4 +1,4 @@
-//! Who waits for whom: slow devices, panics of event functions, closes, and refused options.
+//! Threads that wait for each other: slow devices, panics of event functions, closes, and rejected options.
 
 mod common;
 

@@ -86,7 +86,7 @@ pub use lookup_source::LookupSource;
 pub use options::{Operator, Options};
 pub use replay::{Replay, Replayed};
 pub use report::Report;
-pub use scan::{KeyValue, Scan};
+pub use scan::{end_of_prefix, KeyValue, Scan};
 pub use snapshot::Snapshot;
 pub use source::{BackSource, Source};
 pub use store::Store;

@@ -53,8 +53,8 @@ fn after(key: &[u8]) -> Vec<u8> {
     [key, &[0]].concat()
 }
 
-/// The least key above all that begin with a prefix; none if there is no key above them.
-pub(crate) fn end_of_prefix(prefix: &[u8]) -> Option<Vec<u8>> {
+/// Returns the least key above all keys with a prefix, or `None` if there is none. So `prefix..end_of_prefix(prefix)` are those keys.
+pub fn end_of_prefix(prefix: &[u8]) -> Option<Vec<u8>> {
     let last = prefix.iter().rposition(|byte| *byte != u8::MAX)?;
     let mut end = prefix[..=last].to_vec();
     end[last] += 1;

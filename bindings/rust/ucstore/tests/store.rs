@@ -1,4 +1,4 @@
-//! What each method answers, and what it refuses.
+//! Each method: its results, and its errors.
 
 use std::error::Error as StdError;
 use std::io::{self, Write};

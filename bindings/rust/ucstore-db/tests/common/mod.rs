@@ -1,4 +1,4 @@
-//! What the tests share: a device that crashes and fails, and drawn histories beside a map.
+//! Shared by the tests: a device that crashes and fails, and drawn histories beside a map.
 #![allow(dead_code, unused_imports)]
 
 mod around;
