@@ -3,6 +3,7 @@ pub mod Bounds
 pub mod Spelling
 pub mod ReadBack
 pub mod Told
+pub mod Blank
 pub mod Searched
 pub mod Onward
 pub mod Folders

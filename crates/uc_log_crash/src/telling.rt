@@ -1,10 +1,17 @@
 //! [`tells`]: whether a batch says that a log was on the device.
-ghost use Rattle.std.specs.Prelude.{◌<◌, ◌≤◌, ◌↔◌, IsTrue, IfOk, length};
+ghost use Rattle.std.specs.Prelude.{◌≡◌, ◌<◌, ◌≤◌, ◌↔◌, false, IsTrue, IfOk, length, drop, nat_lt};
+ghost use Rattle.uc_logrec.specs.Format.{room, stored_code};
 ghost use Rattle.uc_log_crash.specs.Marks.{Tells, SaysBeyond, mark_of, sequence_of};
 
 use crate::mark::mark_of;
 use std::alloc::AllocError;
 use uc_logrec::{Next, next_payload};
+
+/// The last place of a block where a header fits.
+const LAST_PLACE: u64 = 32_761;
+
+/// The size of a block in bytes.
+const BLOCK_SIZE: u64 = 32_768;
 
 /// Whether a batch has a sequence after the last one.
 #[tactic(auto, unfolding(crate::specs::Marks::sequence_of))]
@@ -30,6 +37,21 @@ fn says_beyond(payload: &[u8], end: u64, last: u64, offset: u64) -> bool
     }
 }
 
+/// Whether a record would begin at an offset whose type is zero. Then there is no payload, which is found here without a look at the
+/// zeros that follow.
+fn is_blank(log: &[u8], offset: u64) -> bool
+    ensures fits { IsTrue result → nat_lt (room offset) 7 ≡ false }
+    ensures blank { IsTrue result → stored_code (drop offset log.now) ≡ 0 }
+{
+    if offset % BLOCK_SIZE > LAST_PLACE {
+        return false;
+    }
+    match log.get(offset as usize..) {
+        Some([_, _, _, _, _, _, code, ..]) => *code == 0,
+        _ => false,
+    }
+}
+
 /// Whether a whole batch lies at an offset of a log, with a sequence after the last one, whose mark says that the log was on the device
 /// beyond a place when it was written.
 ///
@@ -43,6 +65,9 @@ pub fn tells(
 ) -> Result<bool, AllocError>
     ensures { IfOk result (λ told. IsTrue told ↔ Tells log.now end last offset) }
 {
+    if is_blank(log, offset) {
+        return Ok(false);
+    }
     let (next, _) = next_payload(log, offset, joined)?;
     Ok(match next {
         Next::Whole(payload) => says_beyond(payload, end, last, offset),

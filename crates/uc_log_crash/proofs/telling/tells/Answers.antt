@@ -1,8 +1,16 @@
 use Rattle.std.proofs.Common.{ℕ, List, subst, sym}
+use Rattle.std.proofs.lemmas.Bool.{false≢true}
 use Rattle.uc_logrec.specs.declared.log_reader.Next.{Next}
 use Rattle.uc_logrec.specs.Position.{LiesIn, LeadsIn}
+use Rattle.uc_log_crash.proofs.Blank.{nothing_lies}
 use Rattle.uc_log_crash.proofs.Told.{told_there}
 use Rattle.uc_log_crash.proofs.telling.tells.Goals as goal
+
+pub returns-then-is_blank : goal.returns-then-is_blank
+returns-then-is_blank c = (
+  λ never. absurd (false≢true never),
+  λ told. absurd (nothing_lies c.args.log.now told.payload c.args.offset told.after (c.is_blank.ensures.fits c.if-is_blank.true) (c.is_blank.ensures.blank c.if-is_blank.true) told.lies),
+)
 
 pub returns-in-Whole : goal.returns-in-Whole
 returns-in-Whole c =
