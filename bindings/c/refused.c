@@ -178,7 +178,7 @@ enum {
     PUT, DELETE, MERGE, DELETE_RANGE, BATCH_PUT, BATCH_DELETE, BATCH_MERGE, BATCH_DELETE_RANGE, WRITE, WRITE_BYTES, PREPARE,
     PREPARE_BYTES, FLUSH, SNAPSHOT, RELEASE, GET, SOURCE, GET_AT, GET_MANY, SCAN, SCAN_AT, VIEW, VIEW_AGAIN, VIEW_GET, VIEW_SOURCE,
     VIEW_GET_AT, VIEW_GET_MANY, VIEW_SCAN, VIEW_SCAN_BACK, VIEW_SCAN_AT, VIEW_CLOSE, CHECKPOINT, CHECKPOINT_NEXT, JOB, JOB_RUN,
-    JOB_END, COMPACT, OPEN, REPLAY, NEXT, KINDS
+    JOB_END, COMPACT, OPEN, REPLAY, NEXT, FIRST_TOLD, MARK_BYTES, KINDS
 };
 
 static size_t draw_text(uint8_t *text, size_t most) {
@@ -278,6 +278,27 @@ static int32_t replay_log(void) {
         CHECK(ucstore_close(&again) == UCSTORE_OK);
     }
     CHECK(status != UCSTORE_LOG_ENDS || (ended.kind == UCSTORE_CLEAN && place.offset == history_length));
+    return status;
+}
+
+/* Looks for damage in the log, whose batches have no marks. */
+static int32_t find_told(void) {
+    uint64_t place = 7;
+    bool told = true;
+    int32_t status = ucstore_log_first_told(history, history_length, 0, 0, &told, &place);
+    CHECK(told == (status != UCSTORE_OK) && place == 7);
+    return status;
+}
+
+/* Lays out a mark, and reads it again. */
+static int32_t lay_mark(uint64_t unsynced) {
+    uint8_t batch[24] = {0};
+    uint64_t found = 0;
+    size_t size = 7;
+    bool marked = false;
+    int32_t status = ucstore_log_mark_bytes(unsynced, batch + 12, 12, &size);
+    CHECK(status == UCSTORE_OK || (size == 7 && batch[12] == 0));
+    CHECK(status != UCSTORE_OK || (ucstore_log_mark(batch, 24, &marked, &found) == UCSTORE_OK && marked && found == unsynced));
     return status;
 }
 
@@ -384,8 +405,12 @@ static int32_t try_call(const struct call *call) {
         return open_log();
     case REPLAY:
         return replay_log();
-    default:
+    case NEXT:
         return ucstore_log_next(history, history_length, &place, room, ROOM, &size, &number, &ended);
+    case FIRST_TOLD:
+        return find_told();
+    default:
+        return lay_mark(call->at);
     }
 }
 
@@ -406,7 +431,7 @@ static int32_t with_refusals(const struct call *call, struct held *held) {
     size_t before = 0;
     long blocks = live;
     while (try_refused(call, before++, &status) && status == UCSTORE_OUT_OF_MEMORY) {
-        CHECK(call->kind == OPEN || call->kind == REPLAY || call->kind == NEXT ? live == blocks : true);
+        CHECK(call->kind >= OPEN ? live == blocks : true);
         look(&found);
         CHECK(is_same(&found, held));
     }

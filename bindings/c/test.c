@@ -805,6 +805,64 @@ static void skip(void) {
     CHECK(ucstore_close(&again) == UCSTORE_OK && ucstore_close(&made) == UCSTORE_OK);
 }
 
+/* Lays out a batch of one deletion with a mark, for a log of some length. Returns the length of its record. */
+static size_t marked_record(struct ucstore *of, uint64_t unsynced, uint64_t length, uint8_t *room, size_t room_length) {
+    const uint8_t header[] = {0, 0, 0, 0, 0, 0, 0, 0, 1, 0, 0, 0}, body[] = {0, 1, 'a'};
+    uint8_t batch[64];
+    size_t size = 99;
+    memcpy(batch, header, sizeof header);
+    CHECK(ucstore_log_mark_bytes(unsynced, batch + sizeof header, 12, &size) == UCSTORE_OK);
+    memcpy(batch + sizeof header + size, body, sizeof body);
+    CHECK(ucstore_prepare_bytes(of, batch, sizeof header + size + sizeof body, length, room, room_length, &size) == UCSTORE_OK);
+    CHECK(ucstore_commit(of) == UCSTORE_OK);
+    return size;
+}
+
+/* Marks of batches, as bytes and read again. */
+static void marks(void) {
+    const uint8_t header[] = {0, 0, 0, 0, 0, 0, 0, 0, 0, 0, 0, 0}, of_300[] = {3, 3, 's', 0xac, 0x02};
+    const uint64_t greatest = UINT64_MAX / 2;
+    uint8_t batch[24], room[6] = {7, 7, 7, 7, 7, 7};
+    uint64_t unsynced = 77;
+    size_t size = 99;
+    bool marked = true;
+    CHECK(ucstore_log_mark_bytes(300, room, 4, &size) == UCSTORE_ROOM && size == 5 && room[0] == 7);
+    CHECK(ucstore_log_mark_bytes(300, room, 6, &size) == UCSTORE_OK && size == 5);
+    CHECK(memcmp(room, of_300, 5) == 0 && room[5] == 7);
+    CHECK(ucstore_log_mark_bytes(greatest + 1, room, 6, &size) == UCSTORE_BAD_PLACE && size == 5 && room[0] == 3);
+    memcpy(batch, header, sizeof header);
+    CHECK(ucstore_log_mark_bytes(greatest, batch + 12, 12, &size) == UCSTORE_OK && size == 12);
+    CHECK(ucstore_log_mark(batch, 23, &marked, &unsynced) == UCSTORE_OK && !marked && unsynced == 77);
+    CHECK(ucstore_log_mark(NULL, 0, &marked, &unsynced) == UCSTORE_OK && !marked && unsynced == 77);
+    CHECK(ucstore_log_mark(batch, 24, &marked, &unsynced) == UCSTORE_OK && marked && unsynced == greatest);
+    memcpy(batch + 12, of_300, 5);
+    CHECK(ucstore_log_mark(batch, 17, &marked, &unsynced) == UCSTORE_OK && marked && unsynced == 300);
+}
+
+/* The first batch of a log is damaged. The second one says that it was durable, or nothing of it. */
+static void told_damage(void) {
+    for (uint64_t unsynced = 0; unsynced < 40; unsynced++) {
+        struct ucstore made = {0};
+        struct ucstore_options options;
+        uint8_t log[128];
+        uint64_t place = 77;
+        size_t second, length;
+        bool told = true;
+        CHECK(ucstore_options_init(&options) == UCSTORE_OK);
+        CHECK(ucstore_create(&made, UCSTORE_APPEND, &options) == UCSTORE_OK);
+        second = marked_record(&made, 0, 0, log, sizeof log);
+        length = second + marked_record(&made, unsynced, second, log + second, sizeof log - second);
+        CHECK(second == 26);
+        log[20] ^= 1;
+        CHECK(ucstore_log_first_told(log, second, 0, 0, &told, &place) == UCSTORE_OK && !told && place == 77);
+        CHECK(ucstore_log_first_told(log, length, 0, 2, &told, &place) == UCSTORE_OK && !told && place == 77);
+        CHECK(ucstore_log_first_told(log, length, length + 1, 0, &told, &place) == UCSTORE_BAD_PLACE && place == 77);
+        CHECK(ucstore_log_first_told(log, length, 0, 0, &told, &place) == UCSTORE_OK && told == (unsynced < second));
+        CHECK(place == (told ? second : 77));
+        CHECK(ucstore_close(&made) == UCSTORE_OK);
+    }
+}
+
 /* The files that an opening reads of a folder, and a log that is missing. */
 static void folder_files(void) {
     const struct ucstore_folder_base bases[] = {{4, 7}, {4, 9}, {2, 99}};
@@ -1325,6 +1383,8 @@ int main(int argc, char **argv) {
     nothing_is_read();
     durable();
     skip();
+    marks();
+    told_damage();
     folder_files();
     folder_machine();
     for (uint32_t one = UCSTORE_APPEND; one <= UCSTORE_TAIL; one++) {

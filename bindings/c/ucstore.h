@@ -6,7 +6,7 @@
  *
  * Each function of a store takes a pointer to the handle first. Each function except `ucstore_version` returns one of the statuses
  * below. On any status but UCSTORE_OK no write takes effect and no output is written, except as stated at `ucstore_prepare`,
- * `ucstore_prepare_bytes`, `ucstore_checkpoint_next`, `ucstore_log_next` and `ucstore_replay`.
+ * `ucstore_prepare_bytes`, `ucstore_checkpoint_next`, `ucstore_log_next`, `ucstore_replay` and `ucstore_log_mark_bytes`.
  *
  * Writes go to a memtable, which is flushed to a run when it is full, and runs are compacted. By default the calling thread does
  * both, automatically. With jobs, other threads do.
@@ -611,6 +611,27 @@ int32_t ucstore_log_next(const uint8_t *log, size_t log_length, struct ucstore_l
  * UCSTORE_NO_STORE, UCSTORE_IDS_SPENT, UCSTORE_RUNS_CLAIMED, UCSTORE_OUT_OF_MEMORY. */
 int32_t ucstore_replay(struct ucstore *store, const uint8_t *log, size_t log_length, struct ucstore_log_place *place,
                        bool may_skip, struct ucstore_ended *ended);
+
+/* Finds the first batch after a fault of a log that tells damage. The whole batches of the log end at the offset `end`, with the sequence
+ * number `last`. Each batch of a database's log has a mark, which says up to where the log was durable when the batch was written. `told`
+ * gets true if a later batch says so of bytes after `end`, and `place` gets its offset: a batch that was durable is damaged, which no crash
+ * leaves. `log` may start at any block of the log, of 32,768 bytes; the offsets are then relative to that block.
+ *
+ * UCSTORE_BAD_PLACE: `end` is past the end of the log.
+ * UCSTORE_OUT_OF_MEMORY. */
+int32_t ucstore_log_first_told(const uint8_t *log, size_t log_length, uint64_t end, uint64_t last, bool *told, uint64_t *place);
+
+/* Reads the mark of a batch that is given as bytes. `marked` gets false if it has none, and `unsynced` else the number of bytes of its log
+ * before its record that were not durable for certain when it was written. */
+int32_t ucstore_log_mark(const uint8_t *batch, size_t batch_length, bool *marked, uint64_t *unsynced);
+
+/* Copies the bytes of a mark to `room`, at most 12, and stores their length in `size`. They belong right after the 12 bytes of a batch's
+ * header.
+ *
+ * UCSTORE_ROOM: they do not fit. `size` gets the length that is needed.
+ * UCSTORE_BAD_PLACE: `unsynced` is 2^63 or more.
+ * UCSTORE_OUT_OF_MEMORY. */
+int32_t ucstore_log_mark_bytes(uint64_t unsynced, uint8_t *room, size_t room_length, size_t *size);
 
 /* Finds the files to read when the folder of a database is opened: the newest base, and the logs from its number to `found->log`. The
  * logs and bases that the folder lists may be in any order. Logs in the order of their numbers take linear time.

@@ -46,6 +46,10 @@ static const uint8_t piece[] = {176, 2, 185, 166, 24, 0, 1, 1, 0, 0, 0, 0, 0, 0,
 static const uint8_t laid[] = {1, 0, 0, 0, 0, 0, 0, 0, 1, 1, 0, 0, 0, 0, 0, 0, 0, 'a', 1, 0, 0, 0, 0, 0, 0, 0, '1',
                                2, 0, 0, 0, 0, 0, 0, 0, 0, 1, 0, 0, 0, 0, 0, 0, 0, 'b', 0, 0, 0, 0, 0, 0, 0, 0};
 
+/* The log of two empty batches, numbered from 1. Each one's mark says that the log was durable up to its record. */
+static const uint8_t marked_log[] = {197, 142, 72, 77, 16, 0, 1, 1, 0, 0, 0, 0, 0, 0, 0, 0, 0, 0, 0, 3, 2, 's', 0,
+                                     245, 110, 166, 13, 16, 0, 1, 2, 0, 0, 0, 0, 0, 0, 0, 0, 0, 0, 0, 3, 2, 's', 0};
+
 /* A row: 1,2 under a. */
 static const uint8_t row[] = {1, 0, 0, 0, 0, 0, 0, 0, 'a', 3, 0, 0, 0, 0, 0, 0, 0, '1', ',', '2'};
 
@@ -609,6 +613,41 @@ static void no_walk(void) {
     CHECK(step(&past, NULL, 0, UCSTORE_BAD_PLACE, 7, 7) && is_at(&past, 28, 0, 0));
 }
 
+/* Returns true if the search for damage after an offset has this status and answer. */
+static bool told(uint64_t end, uint64_t seq, int32_t status, bool found, uint64_t at) {
+    bool is_told = status != UCSTORE_OK;
+    uint64_t place = 7;
+    const int32_t answer = ucstore_log_first_told(marked_log, sizeof marked_log, end, seq, &is_told, &place);
+    return answer == status && is_told == (status != UCSTORE_OK || found) && place == at;
+}
+
+/* The second batch tells that the first one was durable. Nothing tells it of the second one, and there is no place past the log. */
+static void damage_is_told(void) {
+    CHECK(sizeof marked_log == 46 && told(0, 0, UCSTORE_OK, true, 23));
+    CHECK(told(0, 2, UCSTORE_OK, false, 7) && told(23, 1, UCSTORE_OK, false, 7));
+    CHECK(told(46, 0, UCSTORE_OK, false, 7) && told(47, 0, UCSTORE_BAD_PLACE, false, 7));
+}
+
+/* The mark of a batch in that log, of one without a mark, and of no bytes. */
+static void marks_are_read(void) {
+    bool marked = false;
+    uint64_t unsynced = 7;
+    CHECK(ucstore_log_mark(marked_log + 7, 16, &marked, &unsynced) == UCSTORE_OK && marked && unsynced == 0);
+    unsynced = 7;
+    CHECK(ucstore_log_mark(numbered, sizeof numbered, &marked, &unsynced) == UCSTORE_OK && !marked && unsynced == 7);
+    CHECK(ucstore_log_mark(NULL, 0, &marked, &unsynced) == UCSTORE_OK && !marked && unsynced == 7);
+}
+
+/* Bytes of marks: one that fits the buffer, one that does not, and one that is too large. */
+static void marks_are_laid_out(void) {
+    uint8_t room[] = {7, 7, 7, 7, 7, 7};
+    size_t size = 9;
+    CHECK(ucstore_log_mark_bytes(300, room, 4, &size) == UCSTORE_ROOM && size == 5 && all(room, sizeof room, 7));
+    CHECK(ucstore_log_mark_bytes((uint64_t)1 << 63, room, sizeof room, &size) == UCSTORE_BAD_PLACE && size == 5);
+    CHECK(all(room, sizeof room, 7) && ucstore_log_mark_bytes(300, room, sizeof room, &size) == UCSTORE_OK && size == 5);
+    CHECK(room[0] == 3 && room[1] == 3 && room[2] == 's' && room[3] == 172 && room[4] == 2 && room[5] == 7);
+}
+
 /* Returns true if the next batch of the log has this status, and reports an end or none. */
 static bool replay(struct ucstore_log_place *place, bool may_skip, int32_t status, bool is_told) {
     struct ucstore_ended ended = {7, 7, 7};
@@ -892,6 +931,9 @@ int main(void) {
     no_view();
     log_is_walked();
     no_walk();
+    damage_is_told();
+    marks_are_read();
+    marks_are_laid_out();
     log_is_replayed();
     checkpoint_is_laid_out();
     no_checkpoint();

@@ -17,5 +17,6 @@ pub mod LogWrites
 pub mod LogWalk
 pub mod LogSteps
 pub mod Replaying
+pub mod LogEnds
 pub mod Checkpoints
 pub mod Folders

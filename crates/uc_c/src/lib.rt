@@ -16,13 +16,14 @@
 //!
 //! The functions of `logs.rt` need no handle: C keeps a log in its own file, appends the bytes that they encode, and walks over it.
 //! `replaying.rt` writes the batches of such a walk to a store. If a walk stops, it stores the reason through a pointer.
+//! `log_ends.rt` writes and reads marks, and finds the batch after a fault that tells damage.
 //! `folders.rt` finds the files of a database's directory that opening reads, and determines the next file operation; C holds its
 //! state machine in a struct of numbers.
 //!
 //! Read `status.rt` and `specs/Replies.antt` first, for the results of the functions, then `opening.rt`, `batches.rt`,
 //! `writing.rt`, `snapshots.rt`, `readable.rt`, `reading.rt`, `many.rt`, `scanning.rt`, `views.rt`, `view_reading.rt`,
 //! `sources.rt`, `checkpoints.rt`, `compacting.rt`, `jobs.rt`, `job_laws.rt`, `c_report.rt`, with `specs/LogWalk.antt`, `logs.rt`
-//! and `replaying.rt`, and `folders.rt`.
+//! and `replaying.rt`, `log_ends.rt`, and `folders.rt`.
 //!
 //! Tests: `bindings/c/worked.c`, `bindings/c/test.c`.
 #![tactic(auto)]
@@ -38,6 +39,7 @@ mod fault_codes;
 mod folders;
 mod job_laws;
 mod jobs;
+mod log_ends;
 mod log_step;
 mod logs;
 mod many;

@@ -51,7 +51,7 @@ pub extern "C" fn ucstore_log_next(
 }
 
 /// Copies bytes into the buffer, if they fit, and stores their number.
-fn lay(bytes: &[u8], room: &mut [u8], size: &mut usize) -> i32
+pub(crate) fn lay(bytes: &[u8], room: &mut [u8], size: &mut usize) -> i32
     ensures size { size.new ≡ length bytes.now }
     ensures fits { length bytes.now ≤ length room.old →
         (result ≡ OK) × (room.new ≡ filled bytes.now room.old) }

@@ -504,6 +504,26 @@ extern "C" {
         may_skip: bool,
         ended: *mut ucstore_ended,
     ) -> i32;
+    pub fn ucstore_log_first_told(
+        log: *const u8,
+        log_length: usize,
+        end: u64,
+        last: u64,
+        told: *mut bool,
+        place: *mut u64,
+    ) -> i32;
+    pub fn ucstore_log_mark(
+        batch: *const u8,
+        batch_length: usize,
+        marked: *mut bool,
+        unsynced: *mut u64,
+    ) -> i32;
+    pub fn ucstore_log_mark_bytes(
+        unsynced: u64,
+        room: *mut u8,
+        room_length: usize,
+        size: *mut usize,
+    ) -> i32;
     pub fn ucstore_folder_find(
         bases: *const ucstore_folder_base,
         bases_length: usize,

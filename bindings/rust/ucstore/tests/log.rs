@@ -1,7 +1,8 @@
 //! Stores that are opened from a log, and logs that go on.
 
 use ucstore::{
-    log_writes, Batch, BatchFault, Ended, LogFault, Operation, Operator, Options, Store,
+    first_told, log_writes, mark_bytes, mark_of, Batch, BatchFault, Ended, LogFault, LogPlace,
+    Operation, Operator, Options, Store,
 };
 
 /// A store, and a log of all that was written to it.
@@ -199,4 +200,51 @@ fn writes_are_lent_with_where_their_batches_end() {
         .eq(found
             .into_iter()
             .map(|(_, sequence, text)| (sequence, text))));
+}
+
+/// A batch with a mark.
+fn marked(unsynced: u64) -> Vec<u8> {
+    let mut batch = put("k", 5).bytes();
+    batch.splice(12..12, mark_bytes(unsynced).unwrap());
+    batch
+}
+
+#[test]
+fn a_mark_is_read_as_it_was_written() {
+    for unsynced in [0, 127, 128, 40_000, u64::MAX / 2] {
+        assert_eq!(mark_of(&marked(unsynced)), Some(unsynced));
+    }
+    assert_eq!(mark_of(&put("k", 5).bytes()), None);
+    assert_eq!(mark_of(&[]), None);
+}
+
+/// The first of two batches is damaged. The second one tells it, if its mark says that it was durable.
+#[test]
+fn damage_is_told_by_a_later_mark() {
+    for (unsynced, is_told) in [(0, true), (1, true), (31, true), (32, false), (99, false)] {
+        let store = Store::create(Operator::Append, &Options::default()).unwrap();
+        let mut log = store.prepare_bytes(0, &marked(0)).unwrap();
+        store.commit();
+        let second = log.len() as u64;
+        assert_eq!(second, 32);
+        log.extend(store.prepare_bytes(second, &marked(unsynced)).unwrap());
+        log[30] ^= 1;
+        let place = is_told.then_some(second);
+        assert_eq!(first_told(&log, LogPlace::default()).unwrap(), place);
+        // One that isn't later tells nothing.
+        let later = LogPlace { offset: 0, last: 2 };
+        assert_eq!(first_told(&log, later).unwrap(), None);
+    }
+}
+
+#[test]
+#[should_panic(expected = "the place isn't in the log")]
+fn damage_is_looked_for_in_the_log_alone() {
+    let _ = first_told(
+        &[0; 9],
+        LogPlace {
+            offset: 10,
+            last: 0,
+        },
+    );
 }
