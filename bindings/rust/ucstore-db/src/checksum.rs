@@ -7,10 +7,6 @@ const MASK: u32 = 0xa282_ead8;
 /// The change that a byte makes.
 const TABLE: [u32; 256] = table();
 
-/// A CRC-32C that goes on byte by byte.
-#[derive(Clone, Copy)]
-pub(crate) struct Crc(u32);
-
 const fn table() -> [u32; 256] {
     let mut table = [0; 256];
     let mut byte = 0;
@@ -26,27 +22,27 @@ const fn table() -> [u32; 256] {
     table
 }
 
-impl Crc {
-    /// The checksum of a record's type.
-    pub(crate) fn of(code: u8) -> Crc {
-        Crc(u32::MAX).with(code)
-    }
-
-    /// The checksum with another byte.
-    pub(crate) fn with(self, byte: u8) -> Crc {
-        Crc((self.0 >> 8) ^ TABLE[usize::from(self.0 as u8 ^ byte)])
-    }
-
-    /// The checksum of what was given so far.
-    pub(crate) fn checksum(self) -> u32 {
-        (!self.0).rotate_right(15).wrapping_add(MASK)
-    }
+/// The register of a CRC with another byte.
+fn with(crc: u32, byte: u8) -> u32 {
+    (crc >> 8) ^ TABLE[usize::from(crc as u8 ^ byte)]
 }
 
-/// The checksum of a record.
-pub(crate) fn checksum_of(code: u8, data: &[u8]) -> u32 {
-    let crc = data.iter().fold(Crc::of(code), |crc, byte| crc.with(*byte));
-    crc.checksum()
+/// The checksum of the bytes that a register has seen.
+fn checksum(crc: u32) -> u32 {
+    (!crc).rotate_right(15).wrapping_add(MASK)
+}
+
+/// The least number of the first bytes of some data that are those of a record, by its checksum and its type.
+pub(crate) fn length_by(wanted: u32, code: u8, data: &[u8]) -> Option<usize> {
+    let mut crc = with(u32::MAX, code);
+    if checksum(crc) == wanted {
+        return Some(0);
+    }
+    let is_last = |byte: &u8| {
+        crc = with(crc, *byte);
+        checksum(crc) == wanted
+    };
+    data.iter().position(is_last).map(|before| before + 1)
 }
 
 #[cfg(test)]
@@ -55,17 +51,18 @@ mod tests {
 
     #[test]
     fn the_check_value_of_crc_32c() {
-        let mut crc = Crc(u32::MAX);
-        for byte in b"123456789" {
-            crc = crc.with(*byte);
-        }
-        assert_eq!(!crc.0, 0xe306_9283);
+        let crc = b"123456789"
+            .iter()
+            .fold(u32::MAX, |crc, byte| with(crc, *byte));
+        assert_eq!(!crc, 0xe306_9283);
     }
 
     #[test]
     fn a_record_of_leveldb() {
         // CRC-32C of 32 zeros is 8a9136aa (RFC 3720); the type is the first of them here.
-        let unmasked = checksum_of(0, &[0; 31]).wrapping_sub(MASK).rotate_left(15);
-        assert_eq!(unmasked, 0x8a91_36aa);
+        let masked = 0x8a91_36aa_u32.rotate_right(15).wrapping_add(MASK);
+        assert_eq!(length_by(masked, 0, &[0; 40]), Some(31));
+        assert_eq!(length_by(masked, 0, &[0; 30]), None);
+        assert_eq!(length_by(checksum(with(u32::MAX, 2)), 2, &[7]), Some(0));
     }
 }

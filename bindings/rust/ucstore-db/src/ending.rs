@@ -3,15 +3,21 @@
 //! A record tells up to where its log was on the device when it was written. So a batch that isn't whole, but for which a later record
 //! says that it was on the device, is damaged. Any other one was still under way when the machine stopped: the log ends before it. Where
 //! nothing was written yet, there may be zeros or bytes of older files, whole batches among them.
+//!
+//! [`first_told`] finds such a record, and no crash leaves one. It passes over two kinds of damage, which are found here:
+//!
+//! - A length is wrong, so that nothing is found after it in its block. It is corrected by the checksum, and the log searched again.
+//! - The log is of a version without marks. There any later batch counts, though a crash may leave one.
 
-use crate::checksum::Crc;
+use crate::checksum::length_by;
 use crate::error::Error;
 use crate::header::{numbers_of, HEADER_SIZE as BATCH_HEADER};
-use crate::mark;
-use crate::record::{block_of, head_of, header_place, Part, BLOCK_SIZE, HEADER_SIZE};
+use crate::mark::MOST_SIZE as MOST_MARK;
+use crate::name::Name;
+use crate::record::{block_of, head_of, header_place, Header, BLOCK_SIZE, FULL, HEADER_SIZE};
 use crate::replay::{closing_sequence, Replay, Stop};
 use crate::windows::Windows;
-use ucstore::{log_writes_at, BatchFault, Ended, LogPlace};
+use ucstore::{first_told, log_writes_at, mark_of, BatchFault, Ended, LogPlace};
 
 /// As many bytes as hold a batch's header and its mark, also across the end of a block.
 const HEAD_SIZE: usize = 128;
@@ -36,19 +42,9 @@ pub(crate) enum Ending {
     Damaged(u64, String),
 }
 
-/// Whether a batch that isn't whole was on the device, by what a later one says: up to where that was so when it was written. Older
-/// versions say nothing; then it counts as well.
-fn was_synced(fault: u64, synced: Option<u64>) -> bool {
-    synced.is_none_or(|synced| synced > fault)
-}
-
-/// Whether a sequence may be one of a batch after the last one of a log, with this many bytes left. Each one takes bytes.
-fn may_follow(sequence: u64, last: u64, left: u64) -> bool {
-    sequence > last && sequence - last <= left
-}
-
-/// The end of a log that was read up to here, after its last sequence.
+/// The end of a log or a base that was read up to here, after its last sequence.
 pub(crate) fn ending_of(
+    name: Name,
     windows: &mut Windows,
     replay: &Replay,
     last: u64,
@@ -72,7 +68,9 @@ pub(crate) fn ending_of(
         Stop::Ended(ended @ Ended::LogFault { offset, .. }) => (offset, Some(ended.to_string())),
         Stop::Ended(Ended::Clean | Ended::Torn { .. }) => (end, None),
     };
-    Ok(match has_later(windows, end, last)? {
+    // A base is damaged wherever it ends within a batch, so nothing is looked for there.
+    let is_base = matches!(name, Name::Base(..));
+    Ok(match !is_base && has_later(windows, replay, last)? {
         true => Ending::Damaged(place, fault.unwrap_or_else(|| BEHIND.into())),
         false => Ending::Left(place, fault.unwrap_or_else(|| WITHIN.into())),
     })
@@ -81,54 +79,94 @@ pub(crate) fn ending_of(
 /// Whether a payload at an offset that is no batch may be of older bytes, which a device shows where it has written none: an older
 /// batch, or records of which some are older. In one record a checksum is right for all of it: then it was written so.
 fn may_be_stale(windows: &mut Windows, offset: u64, fault: BatchFault) -> Result<bool, Error> {
-    let place = header_place(offset);
-    let header = windows.header_at(place)?;
-    let part = header.and_then(|header| header.part_at(place));
-    Ok(fault == BatchFault::SequenceBack || part != Some(Part::Full))
+    let header = Header::of(windows.at(header_place(offset), HEADER_SIZE)?);
+    let is_full = header.is_some_and(|header| header.code == FULL);
+    Ok(fault == BatchFault::SequenceBack || !is_full)
 }
 
-/// Whether a later batch says that the one at an offset, which isn't whole, was on the device. It is looked for where a record may begin
-/// alone: after the records that aren't whole, if their lengths are, and at the starts of blocks. So no bytes of a value count.
-fn has_later(windows: &mut Windows, fault: u64, last: u64) -> Result<bool, Error> {
-    if let Some(place) = behind_wrong_length(windows, fault, last)? {
-        if is_told_behind(windows, place, fault, last)? {
-            return Ok(true);
-        }
+/// Whether a later batch tells that the one after the last whole one was on the device. All of the log from there on is read.
+fn has_later(windows: &mut Windows, replay: &Replay, last: u64) -> Result<bool, Error> {
+    let is_older = !is_marked(windows, replay.last_begin)?;
+    let (begin, mut log) = windows.take_rest(replay.end)?;
+    let end = LogPlace {
+        offset: replay.end - begin,
+        last,
+    };
+    if first_told(&log, end)?.is_some() || is_older && has_unmarked(&log, end.offset, end)? {
+        return Ok(true);
     }
-    is_told_behind(windows, fault, fault, last)
+    let Some(behind) = mend_length(&mut log, end)? else {
+        return Ok(false);
+    };
+    Ok(first_told(&log, end)?.is_some() || is_older && has_unmarked(&log, behind, end)?)
 }
 
-/// Looks for such a batch from a place on, where a record may begin.
-fn is_told_behind(windows: &mut Windows, from: u64, fault: u64, last: u64) -> Result<bool, Error> {
+/// Whether the batch at a place has a mark. Then those that were written after it have.
+fn is_marked(windows: &mut Windows, place: u64) -> Result<bool, Error> {
+    let head = head_of(
+        windows.at(place, HEAD_SIZE)?,
+        place,
+        BATCH_HEADER + MOST_MARK,
+    );
+    Ok(mark_of(&head).is_some())
+}
+
+/// Whether a whole batch without a mark is at a place or after it. It is looked for where a record may begin alone: after records whose
+/// lengths are right, and at the starts of blocks. So no bytes of a value count.
+fn has_unmarked(log: &[u8], from: u64, end: LogPlace) -> Result<bool, Error> {
     let mut place = header_place(from);
-    while let Some(header) = windows.header_at(place)? {
-        let begins = header.part_at(place).is_some_and(Part::begins);
-        if begins && place >= fault && is_teller(windows, place, fault, last)? {
+    while let Some(rest) = log.get(place as usize..) {
+        let Some(header) = Header::of(rest) else {
+            break;
+        };
+        if may_be_unmarked(rest, place, end, log.len() as u64) && is_batch_at(log, place, 0)? {
             return Ok(true);
         }
-        // Zeros aren't records. A type may be wrong where a length is right.
-        let is_record = header.code() != 0 || header.length > 0;
-        place = match is_record && header.fits(place) {
-            true => header_place(place + (HEADER_SIZE + header.length) as u64),
-            false => block_of(place) + BLOCK_SIZE,
+        place = match header.end_at(place) {
+            Some(end) => header_place(end),
+            None => block_of(place) + BLOCK_SIZE,
         };
     }
     Ok(false)
 }
 
-/// Whether a whole batch begins at a place that says so. Its sequence and its mark are looked at first, which costs little.
-fn is_teller(windows: &mut Windows, place: u64, fault: u64, last: u64) -> Result<bool, Error> {
-    let left = windows.length() - fault;
-    let head = windows.at(place, HEAD_SIZE)?;
-    let numbers = numbers_of(&head_of(head, place, BATCH_HEADER));
-    let is_later = numbers.is_some_and(|(sequence, _)| may_follow(sequence, last, left));
-    if !is_later || !was_synced(fault, mark::synced_before(head, place)) {
-        return Ok(false);
-    }
-    is_batch(windows, place)
+/// Whether the first bytes at a place are those of a batch without a mark, with a sequence that may follow: each write takes bytes. That
+/// costs less than a checksum.
+fn may_be_unmarked(rest: &[u8], place: u64, end: LogPlace, length: u64) -> bool {
+    let head = head_of(rest, place, BATCH_HEADER + MOST_MARK);
+    let left = length - end.offset;
+    let is_next = |sequence| sequence > end.last && sequence - end.last <= left;
+    numbers_of(&head).is_some_and(|(sequence, _)| is_next(sequence)) && mark_of(&head).is_none()
 }
 
-/// Whether a whole batch begins at a place.
+/// Whether a whole batch begins at a place of a log, after a last sequence.
+fn is_batch_at(log: &[u8], offset: u64, last: u64) -> Result<bool, Error> {
+    let mut writes = log_writes_at(log, LogPlace { offset, last });
+    writes.next_write()?;
+    Ok(writes.offset() > offset)
+}
+
+/// Corrects the length of a record of the batch at a place, if nothing else is wrong of that batch. Returns where the record ends.
+fn mend_length(log: &mut [u8], end: LogPlace) -> Result<Option<u64>, Error> {
+    let mut place = header_place(end.offset);
+    while let Some(header) = log.get(place as usize..).and_then(Header::of) {
+        let begin = place as usize + HEADER_SIZE;
+        let most = log.len().min((block_of(place) + BLOCK_SIZE) as usize);
+        let Some(length) = length_by(header.checksum, header.code, &log[begin..most]) else {
+            return Ok(None);
+        };
+        let behind = header_place((begin + length) as u64);
+        if length == usize::from(header.length) {
+            place = behind;
+            continue;
+        }
+        log[begin - 3..begin - 1].copy_from_slice(&(length as u16).to_le_bytes());
+        return Ok(is_batch_at(log, end.offset, end.last)?.then_some(behind));
+    }
+    Ok(None)
+}
+
+/// Whether a whole batch begins at a place of a file.
 pub(crate) fn is_batch(windows: &mut Windows, place: u64) -> Result<bool, Error> {
     windows.seek(place)?;
     loop {
@@ -147,57 +185,4 @@ pub(crate) fn is_batch(windows: &mut Windows, place: u64) -> Result<bool, Error>
             return Ok(false);
         }
     }
-}
-
-/// Where the batch at an offset ends if the length of one of its records is wrong, and nothing else.
-fn behind_wrong_length(windows: &mut Windows, fault: u64, last: u64) -> Result<Option<u64>, Error> {
-    let mut place = header_place(fault);
-    while let Some(header) = windows.header_at(place)? {
-        let block = windows.at(place, (block_of(place) + BLOCK_SIZE - place) as usize)?;
-        let data = &block[HEADER_SIZE..];
-        if data
-            .get(..header.length)
-            .is_some_and(|data| header.has_data(data))
-        {
-            place = header_place(place + (HEADER_SIZE + header.length) as u64);
-            continue;
-        }
-        let mut crc = Crc::of(header.code());
-        let fits = |byte: &u8| {
-            crc = crc.with(*byte);
-            crc.checksum() == header.checksum()
-        };
-        let Some(before) = data.iter().position(fits) else {
-            return Ok(None);
-        };
-        let length = before + 1;
-        let end = place + (HEADER_SIZE + length) as u64;
-        let is_whole = is_batch_with(windows, fault, last, place, length as u16)?;
-        return Ok(is_whole.then_some(end));
-    }
-    Ok(None)
-}
-
-/// Whether the batch at an offset is whole with another length of its record at a place.
-fn is_batch_with(
-    windows: &mut Windows,
-    fault: u64,
-    last: u64,
-    place: u64,
-    length: u16,
-) -> Result<bool, Error> {
-    let begin = block_of(fault);
-    let end = place + HEADER_SIZE as u64 + u64::from(length);
-    let mut copy = vec![];
-    while begin + (copy.len() as u64) < end {
-        let from = begin + copy.len() as u64;
-        let most = (end - from).min(BLOCK_SIZE) as usize;
-        copy.extend_from_slice(windows.at(from, most)?);
-    }
-    let at = (place - begin) as usize + 4;
-    copy[at..at + 2].copy_from_slice(&length.to_le_bytes());
-    let offset = fault - begin;
-    let mut writes = log_writes_at(&copy, LogPlace { offset, last });
-    writes.next_write()?;
-    Ok(writes.offset() > offset)
 }

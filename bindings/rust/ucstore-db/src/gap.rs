@@ -3,6 +3,7 @@
 use crate::header::{numbers_of, HEADER_SIZE};
 use crate::mark::{self, LOG_DATA};
 use crate::record::head_of;
+use ucstore::{mark_bytes, mark_of};
 
 /// The bytes of what a gap is told by.
 const TOLD_SIZE: usize = 10;
@@ -15,10 +16,17 @@ pub(crate) fn tell(batch: &[u8], last: u64) -> Vec<u8> {
 
 /// Whether the batch at an offset of a log tells that this is the last sequence before its own. The log's bytes are given from there
 /// on. A mark may stand before it.
-pub(crate) fn is_told(rest: &[u8], offset: u64, last: u64) -> bool {
+pub(crate) fn is_told(rest: &[u8], offset: u64, last: u64) -> Result<bool, ucstore::Error> {
     let head = head_of(rest, offset, HEADER_SIZE + mark::MOST_SIZE + TOLD_SIZE);
     let body = head.get(HEADER_SIZE..).unwrap_or(&[]);
-    mark::split(body).1.starts_with(&told(last))
+    let before = match mark_of(&head) {
+        Some(unsynced) => mark_bytes(unsynced)?,
+        None => vec![],
+    };
+    let told = told(last);
+    Ok(body
+        .strip_prefix(&before[..])
+        .is_some_and(|rest| rest.starts_with(&told)))
 }
 
 /// The last sequence of the batch that stands at an offset of a log, of which these are the bytes from there on.

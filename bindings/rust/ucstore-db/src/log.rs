@@ -142,7 +142,7 @@ impl Log {
     }
 
     /// A batch with the mark that its record has, if that is the next one.
-    pub(crate) fn marked(&self, batch: &[u8]) -> Vec<u8> {
+    pub(crate) fn marked(&self, batch: &[u8]) -> Result<Vec<u8>, ucstore::Error> {
         mark::with_mark(batch, self.length - self.synced)
     }
 

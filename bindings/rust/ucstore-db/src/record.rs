@@ -1,53 +1,27 @@
 //! Records of a log, in which batches stand (LevelDB, `log_format.md`).
 
-use crate::checksum::checksum_of;
-
 /// The bytes of a block, across which no record goes.
 pub(crate) const BLOCK_SIZE: u64 = 32_768;
 
 /// The bytes of a record's header.
 pub(crate) const HEADER_SIZE: usize = 7;
 
+/// The types of the records with which a batch ends: one that has all of it, and the last of several.
+pub(crate) const FULL: u8 = 1;
+const LAST: u8 = 4;
+
+/// The types that a record may have.
+const CODES: std::ops::RangeInclusive<u8> = FULL..=LAST;
+
 /// The most records that hold the first bytes of a batch.
 const MOST_PARTS: usize = 3;
-
-/// The part of a batch that a record is.
-#[derive(Clone, Copy, Debug, PartialEq, Eq)]
-pub(crate) enum Part {
-    Full,
-    First,
-    Middle,
-    Last,
-}
 
 /// The header of a record.
 #[derive(Clone, Copy, Debug, PartialEq, Eq)]
 pub(crate) struct Header {
-    checksum: u32,
-    pub(crate) length: usize,
-    code: u8,
-}
-
-impl Part {
-    fn of(code: u8) -> Option<Part> {
-        match code {
-            1 => Some(Part::Full),
-            2 => Some(Part::First),
-            3 => Some(Part::Middle),
-            4 => Some(Part::Last),
-            _ => None,
-        }
-    }
-
-    /// Whether a batch begins with it.
-    pub(crate) fn begins(self) -> bool {
-        matches!(self, Part::Full | Part::First)
-    }
-
-    /// Whether a batch ends with it.
-    pub(crate) fn ends(self) -> bool {
-        matches!(self, Part::Full | Part::Last)
-    }
+    pub(crate) checksum: u32,
+    pub(crate) length: u16,
+    pub(crate) code: u8,
 }
 
 impl Header {
@@ -56,34 +30,16 @@ impl Header {
         let [c0, c1, c2, c3, l0, l1, code] = *bytes.first_chunk::<HEADER_SIZE>()?;
         Some(Header {
             checksum: u32::from_le_bytes([c0, c1, c2, c3]),
-            length: u16::from_le_bytes([l0, l1]).into(),
+            length: u16::from_le_bytes([l0, l1]),
             code,
         })
     }
 
-    /// The part of a batch that the record is, if it may stand at a place.
-    pub(crate) fn part_at(&self, place: u64) -> Option<Part> {
-        Part::of(self.code).filter(|_| self.fits(place))
-    }
-
-    /// Whether the block of a place has as many bytes left.
-    pub(crate) fn fits(&self, place: u64) -> bool {
-        (HEADER_SIZE + self.length) as u64 <= block_left(place)
-    }
-
-    /// Whether this is the record's data.
-    pub(crate) fn has_data(&self, data: &[u8]) -> bool {
-        checksum_of(self.code, data) == self.checksum
-    }
-
-    /// Its type.
-    pub(crate) fn code(&self) -> u8 {
-        self.code
-    }
-
-    /// Its checksum, as it stands there.
-    pub(crate) fn checksum(&self) -> u32 {
-        self.checksum
+    /// Where the record at a place ends, if its block has as many bytes. Zeros are no record.
+    pub(crate) fn end_at(&self, place: u64) -> Option<u64> {
+        let end = place + HEADER_SIZE as u64 + u64::from(self.length);
+        let is_record = self.code != 0 || self.length > 0;
+        (is_record && end <= block_of(place) + BLOCK_SIZE).then_some(end)
     }
 }
 
@@ -92,14 +48,9 @@ pub(crate) fn block_of(place: u64) -> u64 {
     place - place % BLOCK_SIZE
 }
 
-/// The number of bytes that the block of a place has from there on.
-fn block_left(place: u64) -> u64 {
-    BLOCK_SIZE - place % BLOCK_SIZE
-}
-
 /// Where a record may begin at a place or after it: the last bytes of a block hold no header.
 pub(crate) fn header_place(place: u64) -> u64 {
-    match block_left(place) {
+    match BLOCK_SIZE - place % BLOCK_SIZE {
         left if left < HEADER_SIZE as u64 => place + left,
         _ => place,
     }
@@ -114,11 +65,12 @@ pub(crate) fn head_of(rest: &[u8], offset: u64, size: usize) -> Vec<u8> {
             break;
         };
         place += HEADER_SIZE;
-        let end = (place + header.length).min(rest.len());
+        let end = (place + usize::from(header.length)).min(rest.len());
         let data = &rest[place..end];
         head.extend_from_slice(&data[..data.len().min(size - head.len())]);
         place = end;
-        if head.len() == size || Part::of(header.code).is_none_or(Part::ends) {
+        let is_last = matches!(header.code, FULL | LAST) || !CODES.contains(&header.code);
+        if head.len() == size || is_last {
             break;
         }
     }
@@ -130,9 +82,8 @@ mod tests {
     use super::*;
 
     fn record(code: u8, data: &[u8]) -> Vec<u8> {
-        let length = (data.len() as u16).to_le_bytes();
-        let mut record = checksum_of(code, data).to_le_bytes().to_vec();
-        record.extend(length);
+        let mut record = vec![0; 4];
+        record.extend((data.len() as u16).to_le_bytes());
         record.push(code);
         record.extend(data);
         record
@@ -159,5 +110,13 @@ mod tests {
     fn records_without_data_are_passed_over_a_few_times_alone() {
         let empty = record(2, b"").repeat(4000);
         assert_eq!(head_of(&empty, 0, 12), b"");
+    }
+
+    #[test]
+    fn a_record_ends_in_its_block() {
+        let header = Header::of(&record(1, &[7; 20])).unwrap();
+        assert_eq!(header.end_at(BLOCK_SIZE - 27), Some(BLOCK_SIZE));
+        assert_eq!(header.end_at(BLOCK_SIZE - 26), None);
+        assert_eq!(Header::of(&[0; 7]).unwrap().end_at(0), None);
     }
 }

@@ -314,7 +314,7 @@ impl Recovery {
         reading.end(name, windows.length());
         (self.batches, self.length) = (replay.batches, replay.end);
         self.is_enough = replay.is_enough();
-        self.ending = ending_of(windows, &replay, self.store.last())?;
+        self.ending = ending_of(name, windows, &replay, self.store.last())?;
         match self.ending.clone() {
             Ending::Damaged(offset, fault) => Err(damaged(name, offset, fault)),
             _ => Ok(()),

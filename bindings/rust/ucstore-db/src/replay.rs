@@ -8,7 +8,7 @@ use crate::record::head_of;
 use crate::recovery_target::RecoveryTarget;
 use crate::windows::Windows;
 use std::ops::ControlFlow;
-use ucstore::{log_writes_at, BatchFault, Ended, LogPlace, Replayed, Store};
+use ucstore::{log_writes_at, mark_of, BatchFault, Ended, LogPlace, Replayed, Store};
 
 /// The most bytes of the record that a close writes, which may stand in two blocks.
 const MOST_CLOSING: u64 = 64;
@@ -30,6 +30,8 @@ pub(crate) struct Replay {
     pub(crate) end: u64,
     /// The number of batches up to there.
     pub(crate) batches: u64,
+    /// Where the last batch begins that was written; 0 if none was.
+    pub(crate) last_begin: u64,
     pub(crate) stop: Stop,
 }
 
@@ -55,6 +57,8 @@ struct Walk<'a, 'b> {
     offset: u64,
     /// The number of batches that were written.
     batches: u64,
+    /// Where the last one of them begins; 0 if there is none.
+    last_begin: u64,
     may_skip_first: bool,
 }
 
@@ -81,6 +85,7 @@ impl Replay {
             return Ok(Replay {
                 end: 0,
                 batches: 0,
+                last_begin: 0,
                 stop: Stop::Gap,
             });
         };
@@ -91,6 +96,7 @@ impl Replay {
             target,
             offset,
             batches: 0,
+            last_begin: 0,
             may_skip_first: begin == Begin::Anywhere,
         };
         loop {
@@ -98,6 +104,7 @@ impl Replay {
                 return Ok(Replay {
                     end: walk.offset,
                     batches: passed + walk.batches,
+                    last_begin: walk.last_begin,
                     stop,
                 });
             }
@@ -128,11 +135,11 @@ impl Walk<'_, '_> {
             }
             let may_skip = self.may_skip_first && end == 0;
             let mut replayed = replay.write_next(may_skip)?;
-            if replayed == Replayed::Gap && gap::is_told(self.windows.rest(end), end, last) {
+            if replayed == Replayed::Gap && gap::is_told(self.windows.rest(end), end, last)? {
                 replayed = replay.write_next(true)?;
             }
             match replayed {
-                Replayed::Batch => self.batches += 1,
+                Replayed::Batch => (self.batches, self.last_begin) = (self.batches + 1, end),
                 Replayed::Gap => return Ok(Some(Stop::Gap)),
                 Replayed::Ended(ended) => break ended,
             }
@@ -155,8 +162,8 @@ pub(crate) fn closing_sequence(windows: &Windows, offset: u64) -> Result<Option<
     if left == 0 || left > MOST_CLOSING || rest.len() as u64 != left {
         return Ok(None);
     }
-    let head = head_of(rest, offset, HEADER_SIZE);
-    let is_mark = mark::synced_before(rest, offset) == Some(offset);
+    let head = head_of(rest, offset, HEADER_SIZE + mark::MOST_SIZE);
+    let is_mark = mark_of(&head) == Some(0);
     let Some((sequence, 0)) = numbers_of(&head).filter(|_| is_mark) else {
         return Ok(None);
     };

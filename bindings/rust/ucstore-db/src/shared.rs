@@ -206,7 +206,7 @@ impl Shared {
 
     /// Logs a group, and takes it. Views and jobs are taken while it is logged. Returns whether the store has flushed by itself.
     fn take_logged(&self, log: &mut Log, group: &Group) -> Result<bool, Error> {
-        let batch = log.marked(&group.batch);
+        let batch = log.marked(&group.batch)?;
         let record = self.call(|store| store.prepare_bytes(log.length, &batch))?;
         if let Err(refusal) = log.append(&record, group.is_synced) {
             lock(&self.store).give_up();

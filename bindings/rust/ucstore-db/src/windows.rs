@@ -3,8 +3,9 @@
 use crate::error::Error;
 use crate::folder::Folder;
 use crate::name::Name;
-use crate::record::{block_of, header_place, Header, BLOCK_SIZE, HEADER_SIZE};
+use crate::record::{block_of, header_place, BLOCK_SIZE};
 use std::io;
+use std::mem;
 use std::ops::ControlFlow;
 use ucstore::{Ended, LogFault};
 
@@ -68,11 +69,6 @@ impl<'a> Windows<'a> {
         Ok(&self.rest(offset)[..most as usize])
     }
 
-    /// The header of a record that may begin at an offset.
-    pub(crate) fn header_at(&mut self, offset: u64) -> Result<Option<Header>, Error> {
-        Ok(Header::of(self.at(offset, HEADER_SIZE)?))
-    }
-
     /// Goes on to the window that begins with the block of an offset.
     pub(crate) fn seek(&mut self, offset: u64) -> Result<(), Error> {
         let begin = block_of(offset);
@@ -87,6 +83,16 @@ impl<'a> Windows<'a> {
     /// Makes the window twice as long.
     pub(crate) fn grow(&mut self) -> Result<(), Error> {
         self.read(2 * self.bytes.len().max(WINDOW_SIZE))
+    }
+
+    /// Takes the file's bytes from the block of an offset to its end, and returns where they begin. What is asked for later is read again.
+    pub(crate) fn take_rest(&mut self, offset: u64) -> Result<(u64, Vec<u8>), Error> {
+        self.seek(offset)?;
+        let lacks = (self.length - self.end()) as usize;
+        let reserved = self.bytes.try_reserve_exact(lacks);
+        reserved.map_err(ucstore::Error::from)?;
+        self.read(usize::MAX)?;
+        Ok((self.begin, mem::take(&mut self.bytes)))
     }
 
     /// Goes on with a walk that ended in the window after the batches before an offset. Returns where the next batch may begin, which

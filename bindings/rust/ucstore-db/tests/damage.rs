@@ -230,6 +230,24 @@ fn a_damaged_length_of_a_long_batch_is_named() {
     }
 }
 
+/// A later batch tells it whatever its sequence is.
+#[test]
+fn damage_before_a_great_gap_is_named() {
+    let device = Device::default();
+    let db = open(&device).unwrap();
+    let mut batch = Batch::new();
+    db.write_with(batch.put("a", "1").unwrap(), true).unwrap();
+    let mut bytes = batch.bytes();
+    bytes[..8].copy_from_slice(&(1u64 << 40).to_le_bytes());
+    db.write_bytes(&bytes, true).unwrap();
+    let mut files = device.files();
+    drop(db);
+    assert_eq!(map_of(&open(&Device::of(&files)).unwrap()).len(), 1);
+    files.get_mut("000001.log").unwrap()[20] ^= 1;
+    let refused = open(&Device::of(&files)).unwrap_err();
+    assert!(matches!(refused, Error::Damaged { .. }), "{refused}");
+}
+
 #[test]
 fn a_damaged_byte_of_an_older_log_is_named() {
     let mut story = Story::new();

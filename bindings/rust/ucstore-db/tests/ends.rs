@@ -299,6 +299,21 @@ fn a_torn_end_of_any_bytes_is_passed_over_quickly() {
     }
 }
 
+/// A log of this version is judged by its marks alone: other batches after its end are of older files.
+#[test]
+fn a_log_without_marks_after_the_end_is_no_damage() {
+    let killed = Killed::new(&vec![vec![7; 100]; 3], |_| true);
+    for stale in [log_from(4), log_from(5), log_from(6).repeat(9)] {
+        let (map, lost) = opened(&killed.with(|log| {
+            let end = killed.ends[3];
+            log[end - 1] ^= 1;
+            log.extend(&stale);
+        }))
+        .unwrap();
+        assert!(map.len() == 2 && lost.len() == 1);
+    }
+}
+
 /// Logs of older versions have no marks: a fault in the last one ends it, unless a whole batch is after that.
 #[test]
 fn a_log_without_marks_is_read_as_well_as_it_can_be() {

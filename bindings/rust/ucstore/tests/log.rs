@@ -1,5 +1,6 @@
 //! Stores that are opened from a log, and logs that go on.
 
+use std::time::{Duration, Instant};
 use ucstore::{
     first_told, log_writes, mark_bytes, mark_of, Batch, BatchFault, Ended, LogFault, LogPlace,
     Operation, Operator, Options, Store,
@@ -247,4 +248,13 @@ fn damage_is_looked_for_in_the_log_alone() {
             last: 0,
         },
     );
+}
+
+/// A look at all zeros from each block on would take a minute.
+#[test]
+fn zeros_are_passed_over_quickly() {
+    let zeros = vec![0; 64 << 20];
+    let begun = Instant::now();
+    assert_eq!(first_told(&zeros, LogPlace::default()).unwrap(), None);
+    assert!(begun.elapsed() < Duration::from_secs(15));
 }
