@@ -3,7 +3,7 @@
 from typing import Dict, Hashable, List, Optional, Sequence, Tuple
 
 from model import MERGE, OPERATORS, PUT, Fragment, Run, Write, effect_at
-from play import DESK, Raw, Reply, Story, number, spelled, text, wants
+from play import DESK, SHEET, Raw, Reply, Story, number, spelled, text, wants
 
 (OPERATE, MERGED, THEN, FOLDED, APPLY, FOLD_ALL, SUM, READ, TOUCH, ROWS, SPELL, COMPARE, ASK) = range(13)
 (RENEW, INSERT, LOOK, FLUSH, BUILD, KEEP_MADE) = range(20, 26)
@@ -59,10 +59,12 @@ def sums_of(run: Run) -> Tuple[int, ...]:
 
 
 class Desk(Story):
-    """A story of memtables and runs, which are kept under names: the program knows them by number, from 0 on in turn."""
+    """A story of memtables and runs, which are kept under names: the program knows them by number, from 0 on in turn. Under most
+    operators the program has effects and plain writes alone."""
 
     def __init__(self, operator: str = "append", refuse: bool = False) -> None:
-        super().__init__(DESK, operator, refuse, (LOOK_AT_ALL,))
+        scene = DESK if operator in ("append", "counter") else SHEET
+        super().__init__(scene, operator, refuse, (LOOK_AT_ALL,) if scene == DESK else None)
         self.names: Dict[Hashable, int] = {}
 
     def number_of(self, name: Hashable) -> int:

@@ -31,7 +31,9 @@ PROGRAM = os.environ.get("CALLS") or str(TOP / "crates" / "calls" / "out" / "cal
 # Which answer is wrong on purpose, if one is.
 PLANTED = os.environ.get("PLANTED", "")
 
-DESK, SHOP, SLOTS, HALL = 0, 1, 2, 3
+DESK, SHOP, SLOTS, HALL, SHEET = 0, 1, 2, 3, 4
+
+# Append and counter have a desk and a sheet, the first three and tail4 a shop, and the others a sheet alone.
 OPERATORS = {"append": 0, "counter": 1, "maximum": 2, "tail0": 3, "tail1": 4, "tail4": 5, "tail1000": 6}
 
 MADE, MEMORY, REFUSED = 0, 1, 2

@@ -1,27 +1,29 @@
 //! Queries and their answers, as calls spell them.
 use crate::input::Input;
 use crate::out::Out;
-use crate::said;
+use crate::said::{self, Spelled};
 use std::alloc::{AllocError, Global};
 use uc_bytes::Bytes;
 use uc_query_read::{Answer, Query, Rows};
 
-/// A query: 0, a key and a sequence, or 1, the ends of a scan, its sequence and the most rows.
-pub(crate) fn query(alloc: Global, call: &mut Input<'_>) -> Result<Query, AllocError> {
-    if call.number() == 0 {
-        let key = Bytes::from_slice(alloc, call.bytes())?;
-        return Ok(Query::Get {
-            key,
+impl Spelled for Query {
+    /// A query: 0, a key and a sequence, or 1, the ends of a scan, its sequence and the most rows.
+    fn read(alloc: Global, call: &mut Input<'_>) -> Result<Query, AllocError> {
+        if call.number() == 0 {
+            let key = Bytes::from_slice(alloc, call.bytes())?;
+            return Ok(Query::Get {
+                key,
+                at: call.number(),
+            });
+        }
+        let low = Bytes::from_slice(alloc, call.bytes())?;
+        Ok(Query::Scan {
+            low,
+            high: said::value(alloc, call)?,
             at: call.number(),
-        });
+            limit: call.number(),
+        })
     }
-    let low = Bytes::from_slice(alloc, call.bytes())?;
-    Ok(Query::Scan {
-        low,
-        high: said::value(alloc, call)?,
-        at: call.number(),
-        limit: call.number(),
-    })
 }
 
 /// Writes rows: how many they are, and of each its key and value.
@@ -49,5 +51,21 @@ pub(crate) fn write_answer(out: &mut Out, answer: &Answer) {
             out.number(3);
             out.number(*at);
         }
+    }
+}
+
+/// Writes an answer that was made.
+pub(crate) fn made_answer(out: &mut Out, made: Result<Answer, AllocError>) {
+    match made {
+        Ok(answer) => write_answer(out, &answer),
+        Err(_) => out.want(),
+    }
+}
+
+/// Writes answers.
+pub(crate) fn write_answers(out: &mut Out, answers: &[Answer]) {
+    out.place(answers.len());
+    for answer in answers {
+        write_answer(out, answer);
     }
 }

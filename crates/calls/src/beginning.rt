@@ -48,6 +48,6 @@ pub(crate) fn given<'a>(alloc: Global, call: &mut Input<'a>) -> Result<Beginning
         options: versions::options(call),
         keeps: call.numbers(alloc)?,
         log: call.bytes(),
-        writes: said::writes(alloc, call)?,
+        writes: said::list::<Write>(alloc, call)?,
     })
 }

@@ -1,8 +1,7 @@
 //! Calls that make one run of several, or compare two.
 use crate::input::Input;
-use crate::out::Out;
+use crate::out::{Halt, Out};
 use crate::runs::Shelf;
-use crate::talk::Halt;
 use std::alloc::{AllocError, Global};
 use std::marker::Sync;
 use std::sync::Arc;
@@ -47,42 +46,42 @@ fn tell<O: Operator>(made: &Compacted<O>, out: &mut Out) {
     out.flag(made.oldest());
 }
 
-/// The numbers of runs, keeps, whether the oldest run is among them, and a way: the run that they become.
-fn merge<O: Operator + Sync>(
+/// The numbers of runs, keeps, whether the oldest run is among them, and a way: what they become.
+fn made<O: Operator + Sync>(
     rt: &(impl Threads + Sync),
     alloc: Global,
     runs: &[Arc<Run>],
     call: &mut Input<'_>,
-    out: &mut Out,
-) -> Result<Arc<Run>, Halt> {
-    let runs = runs_at(alloc, runs, &call.numbers(alloc)?)?;
+) -> Result<Compacted<O>, Halt> {
+    let numbers = call.numbers(alloc)?;
+    let inputs = runs_at(alloc, runs, &numbers)?;
     let keeps = call.numbers(alloc)?;
-    let (oldest, way) = (call.flag(), call.place());
-    let made = compacted::<O>(rt, alloc, &runs, &keeps, (oldest, way))?;
-    tell(&made, out);
-    Ok(made.into_output())
+    let terms = (call.flag(), call.place());
+    compacted::<O>(rt, alloc, &inputs, &keeps, terms)
 }
 
-/// A number to keep it at, and what `merge` takes.
+/// A number to keep it at, and what `made` takes: the run that those become.
 pub(crate) fn keep_merged<O: Operator + Sync>(
     rt: &(impl Threads + Sync),
     alloc: Global,
     shelf: &mut Shelf,
     call: &mut Input<'_>,
     out: &mut Out,
-) -> Result<(), Halt> {
+) {
     let number = call.place();
-    let run = merge::<O>(rt, alloc, shelf.runs(), call, out)?;
-    Ok(shelf.keep(number, run)?)
+    match made::<O>(rt, alloc, shelf.runs(), call) {
+        Ok(made) => {
+            tell(&made, out);
+            out.done(shelf.keep(number, made.into_output()));
+        }
+        Err(halt) => out.stop(halt),
+    }
 }
 
 /// The numbers of two runs: whether they are the same.
-pub(crate) fn same(runs: &[Arc<Run>], call: &mut Input<'_>, out: &mut Out) -> Result<(), Halt> {
+pub(crate) fn same(runs: &[Arc<Run>], call: &mut Input<'_>, out: &mut Out) {
     match (runs.get(call.place()), runs.get(call.place())) {
-        (Some(run), Some(other)) => {
-            out.flag(run.same(other));
-            Ok(())
-        }
-        _ => Err(Halt::Refused),
+        (Some(run), Some(other)) => out.flag(run.same(other)),
+        _ => out.refuse(),
     }
 }

@@ -2,17 +2,15 @@
 use crate::input::Input;
 use crate::out::Out;
 use crate::runs::{self, Shelf};
-use crate::talk::{Halt, Talk};
+use crate::talk::Talk;
 use crate::{compactions, formats, gathered, plain, reads};
 use std::alloc::Global;
 use std::io;
 use std::marker::Sync;
-use std::sync::Arc;
 use std::thread::Threads;
 use std::time::Clock;
 use uc_memtable::FlushableMemtables;
 use uc_oper::Operator;
-use uc_run::Run;
 
 /// A shelf, and memtables that are looked into while they take writes.
 struct Desk {
@@ -29,14 +27,6 @@ impl Drop for Desk {
     }
 }
 
-/// The run that is kept at a number.
-fn run_at(runs: &[Arc<Run>], number: usize) -> Result<&Run, Halt> {
-    match runs.get(number) {
-        Some(run) => Ok(&**run),
-        None => Err(Halt::Refused),
-    }
-}
-
 /// What each run and each memtable says of itself as a whole.
 fn look(shelf: &Shelf, memtables: &[FlushableMemtables], out: &mut Out) {
     shelf.look(out);
@@ -48,12 +38,33 @@ fn look(shelf: &Shelf, memtables: &[FlushableMemtables], out: &mut Out) {
     }
 }
 
-/// The number of memtables: makes the run of what they show.
-fn flush(alloc: Global, desk: &mut Desk, call: &mut Input<'_>) -> Result<(), Halt> {
-    let memtables = gathered::of(&mut desk.memtables, call.place())?;
-    let run = gathered::run(alloc, memtables)?;
-    desk.shelf.make(run);
-    Ok(())
+/// The number of a run: makes a call of it.
+fn play_run<O: Operator>(
+    alloc: Global,
+    shelf: &Shelf,
+    kind: u64,
+    call: &mut Input<'_>,
+    out: &mut Out,
+) {
+    match shelf.runs().get(call.place()) {
+        Some(run) => reads::play::<O>(alloc, run, kind, call, out),
+        None => out.refuse(),
+    }
+}
+
+/// The number of memtables: makes the run of what they show (44), or another call of them.
+fn play_memtables<O: Operator>(
+    alloc: Global,
+    desk: &mut Desk,
+    kind: u64,
+    call: &mut Input<'_>,
+    out: &mut Out,
+) {
+    match desk.memtables.get_mut(call.place()) {
+        Some(memtables) if kind == 44 => desk.shelf.make(gathered::run(alloc, memtables), out),
+        Some(memtables) => gathered::play::<O>(alloc, memtables, kind, call, out),
+        None => out.refuse(),
+    }
 }
 
 /// Makes a call.
@@ -63,29 +74,19 @@ fn play<O: Operator + Sync>(
     desk: &mut Desk,
     call: &mut Input<'_>,
     out: &mut Out,
-) -> Result<(), Halt> {
+) {
     let kind = call.number();
     match kind {
         0..20 => plain::play::<O>(rt, alloc, kind, call, out),
         20..30 => runs::play(alloc, &mut desk.shelf, kind, call, out),
-        30..40 => {
-            let run = run_at(desk.shelf.runs(), call.place())?;
-            reads::play::<O>(alloc, run, kind, call, out)
-        }
+        30..40 => play_run::<O>(alloc, &desk.shelf, kind, call, out),
         40 => compactions::keep_merged::<O>(rt, alloc, &mut desk.shelf, call, out),
         41 => compactions::same(desk.shelf.runs(), call, out),
-        42 => Ok(gathered::add(&mut desk.memtables, FlushableMemtables::new(alloc))?),
-        43 => gathered::share(alloc, &mut desk.memtables, call),
-        44 => flush(alloc, desk, call),
-        45 => {
-            look(&desk.shelf, &desk.memtables, out);
-            Ok(())
-        }
+        42 => out.done(gathered::add(&mut desk.memtables, FlushableMemtables::new(alloc))),
+        43 => out.end(gathered::share(alloc, &mut desk.memtables, call)),
+        45 => look(&desk.shelf, &desk.memtables, out),
         60..80 => formats::play(rt, alloc, kind, call, out),
-        _ => {
-            let memtables = gathered::of(&mut desk.memtables, call.place())?;
-            gathered::play::<O>(alloc, memtables, kind, call, out)
-        }
+        _ => play_memtables::<O>(alloc, desk, kind, call, out),
     }
 }
 
@@ -100,8 +101,8 @@ fn play_at<O: Operator + Sync>(
         let Some(mut call) = talk.next(rt, alloc) else {
             break;
         };
-        let made = play::<O>(rt, alloc, desk, &mut call, talk.answer());
-        talk.end(rt, alloc, call, made)?;
+        play::<O>(rt, alloc, desk, &mut call, talk.answer());
+        talk.end(rt, alloc, call)?;
     }
     Ok(())
 }

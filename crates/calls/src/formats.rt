@@ -1,10 +1,8 @@
 //! Calls of logs, their records and checksums, and batches of writes.
 use crate::input::Input;
 use crate::out::Out;
-use crate::talk::Halt;
 use crate::{readers, said};
 use std::alloc::{AllocError, Global};
-use std::fmt::Debug;
 use std::time::Clock;
 use uc_batch::{
     BatchError, Mode, ReadError, Writes, fits_batch, read_batch, read_writes, write_batch,
@@ -20,49 +18,34 @@ fn sum_up(call: &mut Input<'_>, out: &mut Out) {
     out.number(u64::from(unmask(mask(checksum))));
 }
 
-/// Writes the library's own name of something.
-pub(crate) fn write_name(
-    alloc: Global,
-    out: &mut Out,
-    name: &impl Debug,
-) -> Result<(), AllocError> {
-    out.bytes(format!(in alloc; "{name:?}")?.as_bytes());
-    Ok(())
-}
-
-/// Writes payloads.
-fn write_payloads(out: &mut Out, read: &LogRead) {
+/// Writes payloads, and how their log ends.
+fn write_payloads(alloc: Global, out: &mut Out, read: &LogRead) {
     let payloads = read.payloads.as_slice();
     out.place(payloads.len());
     for payload in payloads {
         out.bytes(payload.as_slice());
     }
+    out.name(alloc, &read.ending);
 }
 
 /// A log: its payloads, and how it ends.
-fn read(alloc: Global, call: &mut Input<'_>, out: &mut Out) -> Result<(), Halt> {
-    let read = read_log(alloc, call.bytes())?;
-    write_payloads(out, &read);
-    Ok(write_name(alloc, out, &read.ending)?)
+fn read(alloc: Global, call: &mut Input<'_>, out: &mut Out) {
+    match read_log(alloc, call.bytes()) {
+        Ok(read) => write_payloads(alloc, out, &read),
+        Err(_) => out.want(),
+    }
 }
 
-/// Adds a number of payloads to a log.
-fn add_all(log: &mut LogWriter, call: &mut Input<'_>) -> Result<(), AllocError> {
+/// A number of payloads, and these: their log.
+fn log_of(alloc: Global, call: &mut Input<'_>) -> Result<Vec<u8>, AllocError> {
+    let mut log = LogWriter::new(alloc);
     for _ in 0..call.number() {
         if call.is_short() {
             break;
         }
         log.add(call.bytes())?;
     }
-    Ok(())
-}
-
-/// A number of payloads, and these: their log.
-fn write(alloc: Global, call: &mut Input<'_>, out: &mut Out) -> Result<(), Halt> {
-    let mut log = LogWriter::new(alloc);
-    add_all(&mut log, call)?;
-    out.bytes(&log.finish());
-    Ok(())
+    Ok(log.finish())
 }
 
 /// Writes a write: its sequence, kind and texts.
@@ -84,67 +67,60 @@ fn write_writes(out: &mut Out, writes: &[Write]) {
 }
 
 /// The last sequence before it, and a batch: its writes, or why it is refused.
-fn read_one(alloc: Global, call: &mut Input<'_>, out: &mut Out) -> Result<(), Halt> {
+fn read_one(alloc: Global, call: &mut Input<'_>, out: &mut Out) {
     let (last, batch) = (call.number(), call.bytes());
     match read_batch(alloc, batch, last) {
-        Ok(writes) => {
-            write_writes(out, writes.as_slice());
-            Ok(())
-        }
-        Err(BatchError::Memory) => Err(Halt::Memory),
+        Ok(writes) => write_writes(out, writes.as_slice()),
+        Err(BatchError::Memory) => out.want(),
         Err(error) => {
             out.flag(false);
-            Ok(write_name(alloc, out, &error)?)
+            out.name(alloc, &error);
         }
     }
 }
 
-/// A number of changes, and these.
-pub(crate) fn ops(alloc: Global, call: &mut Input<'_>) -> Result<Vec<Op>, AllocError> {
-    let mut ops = Vec::new(alloc);
-    for _ in 0..call.number() {
-        if call.is_short() {
-            break;
-        }
-        ops.push(said::op(call).to_op(alloc)?)?;
+/// Writes the batch of changes, the first of which has this sequence.
+fn write_ops(alloc: Global, out: &mut Out, first: u64, ops: &[Op]) {
+    if fits_batch(first, ops) {
+        out.made(write_batch(alloc, first, ops));
+    } else {
+        out.refuse();
     }
-    Ok(ops)
 }
 
 /// The sequence of the first, and changes: their batch.
-fn write_one(alloc: Global, call: &mut Input<'_>, out: &mut Out) -> Result<(), Halt> {
+fn write_one(alloc: Global, call: &mut Input<'_>, out: &mut Out) {
     let first = call.number();
-    let ops = ops(alloc, call)?;
-    if !fits_batch(first, &ops) {
-        return Err(Halt::Refused);
+    match said::list::<Op>(alloc, call) {
+        Ok(ops) => write_ops(alloc, out, first, &ops),
+        Err(_) => out.want(),
     }
-    out.bytes(&write_batch(alloc, first, &ops)?);
-    Ok(())
 }
 
 /// Writes what was read of a log, or why it isn't read.
-fn write_read(alloc: Global, out: &mut Out, read: Result<Writes, ReadError>) -> Result<(), Halt> {
+fn write_read(alloc: Global, out: &mut Out, read: &Result<Writes, ReadError>) {
     match read {
-        Ok(writes) => {
-            write_writes(out, writes.list());
-            Ok(())
-        }
-        Err(ReadError::Memory) => Err(Halt::Memory),
+        Ok(writes) => write_writes(out, writes.list()),
+        Err(ReadError::Memory) => out.want(),
         Err(error) => {
             out.flag(false);
-            Ok(write_name(alloc, out, &error)?)
+            out.name(alloc, error);
         }
+    }
+}
+
+/// Writes how many writes were read of a log that isn't at fault.
+fn write_count(out: &mut Out, read: &Result<Writes, ReadError>) {
+    match read {
+        Ok(writes) => out.place(writes.list().len()),
+        Err(ReadError::Memory) => out.want(),
+        Err(_) => out.refuse(),
     }
 }
 
 /// Whether what is before a fault is read, and a log: the writes of its batches, or why they aren't read. The reading alone is
 /// clocked.
-fn read_all(
-    clock: &impl Clock,
-    alloc: Global,
-    call: &mut Input<'_>,
-    out: &mut Out,
-) -> Result<(), Halt> {
+fn read_all(clock: &impl Clock, alloc: Global, call: &mut Input<'_>, out: &mut Out) {
     let mode = if call.flag() {
         Mode::PointInTime
     } else {
@@ -152,25 +128,14 @@ fn read_all(
     };
     let read = read_writes(alloc, call.bytes(), mode);
     out.watch.stop(clock);
-    write_read(alloc, out, read)
+    write_read(alloc, out, &read);
 }
 
 /// A log that isn't at fault: how many writes its batches have.
-fn count_all(
-    clock: &impl Clock,
-    alloc: Global,
-    call: &mut Input<'_>,
-    out: &mut Out,
-) -> Result<(), Halt> {
-    match read_writes(alloc, call.bytes(), Mode::TornTail) {
-        Ok(writes) => {
-            out.watch.stop(clock);
-            out.place(writes.list().len());
-            Ok(())
-        }
-        Err(ReadError::Memory) => Err(Halt::Memory),
-        Err(_) => Err(Halt::Refused),
-    }
+fn count_all(clock: &impl Clock, alloc: Global, call: &mut Input<'_>, out: &mut Out) {
+    let read = read_writes(alloc, call.bytes(), Mode::TornTail);
+    out.watch.stop(clock);
+    write_count(out, &read);
 }
 
 /// Makes a call, whose kind was read.
@@ -180,14 +145,11 @@ pub(crate) fn play(
     kind: u64,
     call: &mut Input<'_>,
     out: &mut Out,
-) -> Result<(), Halt> {
+) {
     match kind {
-        60 => {
-            sum_up(call, out);
-            Ok(())
-        }
+        60 => sum_up(call, out),
         61 => read(alloc, call, out),
-        62 => write(alloc, call, out),
+        62 => out.made(log_of(alloc, call)),
         63 => read_one(alloc, call, out),
         64 => write_one(alloc, call, out),
         65 => read_all(clock, alloc, call, out),

@@ -1,8 +1,7 @@
 //! Calls of memtables that are looked into while they take writes.
 use crate::input::Input;
-use crate::out::Out;
+use crate::out::{Halt, Out};
 use crate::said;
-use crate::talk::Halt;
 use std::alloc::{AllocError, Global};
 use uc_bytes::MAX_SEQUENCE;
 use uc_memtable::{ActiveMemtable, FlushableMemtables};
@@ -10,12 +9,12 @@ use uc_oper::Operator;
 use uc_run::Run;
 
 /// A write: it waits in the memtables.
-fn prepare(memtables: &mut FlushableMemtables, call: &mut Input<'_>) -> Result<(), Halt> {
+fn prepare(memtables: &mut FlushableMemtables, call: &mut Input<'_>, out: &mut Out) {
     let write = said::write(call);
     if write.seq() <= memtables.last_prepared() || MAX_SEQUENCE < write.seq() {
-        return Err(Halt::Refused);
+        return out.refuse();
     }
-    Ok(memtables.prepare(&write)?)
+    out.done(memtables.prepare(&write));
 }
 
 /// The shown writes' number, bytes, last sequence and number of range deletions; of all writes the last sequence and the bytes;
@@ -43,10 +42,9 @@ fn look_up<O: Operator>(
     memtables: &FlushableMemtables,
     call: &mut Input<'_>,
     out: &mut Out,
-) -> Result<(), Halt> {
+) {
     let (key, at) = (call.bytes(), call.number());
-    out.effect(&memtables.effect::<O>(alloc, key, at)?);
-    Ok(())
+    out.made_effect(memtables.effect::<O>(alloc, key, at));
 }
 
 /// Writes the sequences of the shown writes in a memtable, and whether others wait there.
@@ -61,9 +59,11 @@ fn write_seqs(memtable: &ActiveMemtable, out: &mut Out) {
 }
 
 /// One memtable of all that is shown: its sequences.
-fn join(alloc: Global, memtables: &FlushableMemtables, out: &mut Out) -> Result<(), Halt> {
-    write_seqs(&memtables.to_memtable(alloc)?, out);
-    Ok(())
+fn join(alloc: Global, memtables: &FlushableMemtables, out: &mut Out) {
+    match memtables.to_memtable(alloc) {
+        Ok(memtable) => write_seqs(&memtable, out),
+        Err(_) => out.want(),
+    }
 }
 
 /// The run of what is shown.
@@ -72,17 +72,6 @@ pub(crate) fn run(alloc: Global, memtables: &FlushableMemtables) -> Result<Run, 
         return Err(Halt::Refused);
     }
     Ok(memtables.to_run(alloc)?)
-}
-
-/// Memtables that are kept at a number.
-pub(crate) fn of(
-    all: &mut Vec<FlushableMemtables>,
-    number: usize,
-) -> Result<&mut FlushableMemtables, Halt> {
-    match all.get_mut(number) {
-        Some(memtables) => Ok(memtables),
-        None => Err(Halt::Refused),
-    }
 }
 
 /// Other memtables that have what these show: a share, or those that are set apart.
@@ -114,7 +103,9 @@ pub(crate) fn share(
     call: &mut Input<'_>,
 ) -> Result<(), Halt> {
     all.reserve(1)?;
-    let memtables = of(all, call.place())?;
+    let Some(memtables) = all.get_mut(call.place()) else {
+        return Err(Halt::Refused);
+    };
     let share = shared(alloc, memtables, call.flag())?;
     Ok(add(all, share)?)
 }
@@ -126,16 +117,15 @@ pub(crate) fn play<O: Operator>(
     kind: u64,
     call: &mut Input<'_>,
     out: &mut Out,
-) -> Result<(), Halt> {
+) {
     match kind {
-        50 => prepare(memtables, call)?,
+        50 => prepare(memtables, call, out),
         51 => memtables.commit(),
         52 => memtables.give_up(),
         53 => memtables.drop_apart(alloc),
         54 => look_closely(memtables, out),
-        55 => look_up::<O>(alloc, memtables, call, out)?,
-        56 => join(alloc, memtables, out)?,
-        _ => return Err(Halt::Refused),
+        55 => look_up::<O>(alloc, memtables, call, out),
+        56 => join(alloc, memtables, out),
+        _ => out.refuse(),
     }
-    Ok(())
 }

@@ -1,8 +1,11 @@
 //! [`Hall`]: a store that threads share, and who works there, one after the other.
 ghost use Rattle.std.specs.Prelude.{◌≡◌, false};
 
+use crate::hall_changes::{abandon, drop_claim, feed, install, keep, release, turn};
+use crate::hall_pins::{busy, claim, compact_claim, pick, pin};
+use crate::input::Input;
+use crate::out::{Halt, Out};
 use crate::places::{Commas, Place};
-use crate::talk::Halt;
 use std::alloc::{AllocError, Global};
 use std::marker::{Send, Sync};
 use std::sync::Wait;
@@ -49,10 +52,10 @@ fn place_of<T>(list: &[(u64, T)], number: u64) -> Option<usize> {
 }
 
 /// The last value with a number.
-pub(crate) fn numbered<T>(list: &[(u64, T)], number: u64) -> Result<&T, Halt> {
+pub(crate) fn numbered<T>(list: &[(u64, T)], number: u64) -> Option<&T> {
     match place_of(list, number) {
-        Some(place) if place < list.len() => Ok(&list[place].1),
-        _ => Err(Halt::Refused),
+        Some(place) if place < list.len() => Some(&list[place].1),
+        _ => None,
     }
 }
 
@@ -72,11 +75,6 @@ pub(crate) fn put_numbered<T: Drop>(
 ) -> Result<(), AllocError> {
     list.push((number, value))?;
     Ok(())
-}
-
-/// Makes room for one more value.
-pub(crate) fn make_room<T>(list: &mut Vec<(u64, T)>) -> Result<(), AllocError> {
-    list.reserve(1)
 }
 
 impl<'a, N, W, R> Hall<'a, N, W, R>
@@ -107,19 +105,48 @@ where
         }
     }
 
-    /// The reader with a number.
-    pub(crate) fn reader(&mut self, number: usize) -> Result<&mut Reader<Commas, N>, Halt> {
-        match self.readers.get_mut(number) {
-            Some(reader) => Ok(reader),
-            None => Err(Halt::Refused),
+    /// Makes a call of a reader, whose number comes first.
+    pub(crate) fn play_reader(&mut self, kind: u64, call: &mut Input<'_>, out: &mut Out) {
+        let (rt, alloc, store) = (self.rt, self.alloc, self.store);
+        match self.readers.get_mut(call.place()) {
+            Some(reader) => match kind {
+                1 => pin(reader, &mut self.pins, call, out),
+                12 => feed(rt, alloc, store, reader, call, out),
+                13 => keep(rt, alloc, store, reader, out),
+                _ => release(rt, alloc, store, reader, call, out),
+            },
+            None => out.refuse(),
         }
     }
 
-    /// The place with a number.
-    pub(crate) fn place(&mut self, number: usize) -> Result<&mut Place<N>, Halt> {
-        match self.places.get_mut(number) {
-            Some(place) => Ok(place),
-            None => Err(Halt::Refused),
-        }
+    /// Makes a call of a place, whose number comes first.
+    pub(crate) fn play_place(&mut self, kind: u64, call: &mut Input<'_>, out: &mut Out) {
+        let (rt, alloc, store) = (self.rt, self.alloc, self.store);
+        let Some(place) = self.places.get_mut(call.place()) else {
+            return out.refuse();
+        };
+        let ended = match kind {
+            3 => return pick(store, place, &self.pins, call, out),
+            4 => busy(store, place, out),
+            6 => return compact_claim(rt, alloc, place, &mut self.made, call, out),
+            9 => abandon(store, place, &mut self.pins, call),
+            _ => drop_claim(place),
+        };
+        out.end(ended);
+    }
+
+    /// Makes a call of a reader and a place of one number, which comes first.
+    pub(crate) fn play_both(&mut self, kind: u64, call: &mut Input<'_>, out: &mut Out) {
+        let (rt, alloc, store, who) = (self.rt, self.alloc, self.store, call.place());
+        let (Some(reader), Some(place)) = (self.readers.get_mut(who), self.places.get_mut(who))
+        else {
+            return out.refuse();
+        };
+        let ended = match kind {
+            5 => claim(alloc, store, reader, place, &mut self.pins, call, out),
+            8 => install(rt, alloc, store, reader, place, &mut self.made, call, out),
+            _ => turn(rt, alloc, store, reader, place, out),
+        };
+        out.end(ended);
     }
 }

@@ -3,13 +3,14 @@ ghost use Rattle.std.specs.Prelude.{◌≡◌, false};
 ghost use Rattle.uc_share.specs.Stores.{IsNamed};
 
 use crate::hall::Hall;
-use crate::hall_pins::write_pin;
+use crate::hall_changes::{ask, ask_pin};
+use crate::hall_pins::{self, make, write_shown};
 use crate::input::Input;
-use crate::lists::rising;
 use crate::out::Out;
 use crate::places::{Commas, places_of};
-use crate::talk::{Halt, Talk};
-use crate::versions::{options, write_error, write_version};
+use crate::said;
+use crate::talk::Talk;
+use crate::versions::{options, write_version};
 use std::alloc::Global;
 use std::io;
 use std::marker::{Brand, Send, Sync};
@@ -18,40 +19,51 @@ use std::thread::Threads;
 use std::time::Clock;
 use uc_share::{Name, OpenError, Opening};
 
-/// Numbers of readers and seats, options, snapshots and writes: a store that has no name yet. Writes whether it is opened, and what it
-/// shows, or why it isn't.
-fn open(
+/// Numbers of readers and seats, options, snapshots and writes: a store that has no name yet, or why it isn't opened.
+fn opened(
     alloc: Global,
     call: &mut Input<'_>,
     out: &mut Out,
-) -> Result<Option<Opening<Commas>>, Halt> {
+) -> Result<Opening<Commas>, OpenError> {
     let (readers, seats, options) = (call.place(), call.place(), options(call));
     let keeps = call.numbers(alloc)?;
-    let writes = rising(alloc, call)?;
-    match Opening::open(alloc, &writes, &keeps, options, readers, seats) {
+    match said::rising(alloc, call, out) {
+        Some(writes) => Opening::open(alloc, &writes, &keeps, options, readers, seats),
+        None => Err(OpenError::Memory),
+    }
+}
+
+/// What `opened` takes: a store that has no name yet. Writes whether it is opened, and what it shows, or why it isn't.
+fn open(alloc: Global, call: &mut Input<'_>, out: &mut Out) -> Option<Opening<Commas>> {
+    match opened(alloc, call, out) {
         Ok(opening) => {
             out.flag(true);
             write_version(out, opening.version());
-            Ok(Some(opening))
+            Some(opening)
         }
-        Err(OpenError::Memory) => Err(Halt::Memory),
+        Err(OpenError::Memory) => {
+            out.want();
+            None
+        }
         Err(error) => {
             out.flag(false);
-            out.bytes(format!(in alloc; "{error:?}")?.as_bytes());
-            write_error(alloc, out, &error)?;
-            Ok(None)
+            out.name(alloc, &error);
+            out.text(alloc, &error);
+            None
         }
     }
 }
 
 /// All that can be told of a store: what it shows, how many readers, pins and compactions there are, and which seats are free.
-fn look<N, W, R>(hall: &mut Hall<'_, N, W, R>, out: &mut Out) -> Result<(), Halt>
+fn look<N, W, R>(hall: &mut Hall<'_, N, W, R>, out: &mut Out)
 where
-    N: Name + Send,
+    N: Name,
     W: Wait + Drop,
-    R: Threads + Wait + Sync,
 {
-    write_pin(out, &hall.reader(0)?.pin()?);
+    match hall.readers.get_mut(0) {
+        Some(reader) => write_shown(out, reader),
+        None => out.refuse(),
+    }
     out.place(hall.readers.len());
     out.place(hall.pins.len());
     out.place(hall.made.len());
@@ -60,41 +72,27 @@ where
         out.flag(is_free);
         out.flag(is_claimed);
     }
-    Ok(())
 }
 
 /// Makes a call.
-fn play<N, W, R>(
-    hall: &mut Hall<'_, N, W, R>,
-    call: &mut Input<'_>,
-    out: &mut Out,
-) -> Result<(), Halt>
+fn play<N, W, R>(hall: &mut Hall<'_, N, W, R>, call: &mut Input<'_>, out: &mut Out)
 where
     N: Name + Send,
     W: Wait + Drop,
     R: Threads + Wait + Sync,
 {
-    match call.number() {
-        0 => look(hall, out)?,
-        1 => hall.pin(call, out)?,
-        2 => hall.look(call, out)?,
-        3 => hall.pick(call, out)?,
-        4 => hall.busy(call, out)?,
-        5 => hall.claim(call, out)?,
-        6 => hall.compact(call, out)?,
-        7 => hall.make(call, out)?,
-        8 => hall.install(call, out)?,
-        9 => hall.abandon(call)?,
-        10 => hall.drop_claim(call)?,
-        11 => hall.turn(call, out)?,
-        12 => hall.feed(call, out)?,
-        13 => hall.keep(call, out)?,
-        14 => hall.release(call, out)?,
-        15 => hall.ask_pin(call, out)?,
-        16 => hall.ask(call, out)?,
-        _ => return Err(Halt::Refused),
+    let kind = call.number();
+    match kind {
+        0 => look(hall, out),
+        1 | 12 | 13 | 14 => hall.play_reader(kind, call, out),
+        2 => hall_pins::look(&hall.pins, call, out),
+        3 | 4 | 6 | 9 | 10 => hall.play_place(kind, call, out),
+        5 | 8 | 11 => hall.play_both(kind, call, out),
+        7 => make(hall.rt, hall.alloc, &hall.pins, &mut hall.made, call, out),
+        15 => ask_pin(hall.alloc, &hall.pins, call, out),
+        16 => ask(hall.rt, hall.alloc, &mut hall.readers, call, out),
+        _ => out.refuse(),
     }
-    Ok(())
 }
 
 /// Makes all calls in a store.
@@ -109,8 +107,8 @@ where
         let Some(mut call) = talk.next(rt, alloc) else {
             break;
         };
-        let made = play(hall, &mut call, talk.answer());
-        talk.end(rt, alloc, call, made)?;
+        play(hall, &mut call, talk.answer());
+        talk.end(rt, alloc, call)?;
     }
     Ok(())
 }
@@ -134,11 +132,12 @@ where
     let (store, readers, seats) = match opening.named::<N, &R>(alloc, rt) {
         Ok(named) => named,
         Err((opening, _)) => {
-            let _ended = talk.end(rt, alloc, call, Err(Halt::Memory));
+            talk.answer().want();
+            let _ended = talk.end(rt, alloc, call);
             return Err(opening);
         }
     };
-    let _ended = talk.end(rt, alloc, call, Ok(()));
+    let _ended = talk.end(rt, alloc, call);
     let places = match places_of(alloc, seats) {
         Ok(places) => places,
         Err(error) => return Ok(Err(io::Error::from(error))),
@@ -176,13 +175,10 @@ where
         let Some(mut call) = talk.next(rt, alloc) else {
             break;
         };
-        match open(alloc, &mut call, talk.answer()) {
-            Ok(None) => talk.end(rt, alloc, call, Ok(()))?,
-            Ok(Some(opening)) => {
-                talk.end(rt, alloc, call, Ok(()))?;
-                return play_opened(rt, alloc, opening, talk);
-            }
-            Err(halt) => talk.end(rt, alloc, call, Err(halt))?,
+        let opening = open(alloc, &mut call, talk.answer());
+        talk.end(rt, alloc, call)?;
+        if let Some(opening) = opening {
+            return play_opened(rt, alloc, opening, talk);
         }
     }
     Ok(())

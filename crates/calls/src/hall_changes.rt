@@ -1,20 +1,22 @@
 //! What changes a store that threads share, and what asks it.
-use crate::asked::write_answer;
-use crate::hall::{Hall, make_room, numbered, put_numbered, take_numbered};
+ghost use Rattle.std.specs.Prelude.{◌≡◌, false};
+
+use crate::asked::write_answers;
+use crate::hall::{numbered, put_numbered, take_numbered};
 use crate::hall_pins::write_why;
 use crate::input::Input;
-use crate::lists::{queries, rising};
-use crate::out::Out;
-use crate::places::Commas;
-use crate::talk::Halt;
+use crate::out::{Halt, Out};
+use crate::places::{Commas, Place};
+use crate::said;
 use std::alloc::{AllocError, Global};
 use std::marker::{Send, Sync};
 use std::mem;
 use std::sync::Wait;
 use std::thread::Threads;
+use uc_compact::Compacted;
 use uc_query_read::{Answer, Query, answer_one};
 use uc_query_shared::{AskError, Free, answer_all, batch_refusal};
-use uc_share::{FeedError, InstallError, Name, ReleaseError, Turn, Version};
+use uc_share::{FeedError, InstallError, Name, Pin, Reader, ReleaseError, Store, Turn, Version};
 
 /// Writes that something is done, and a number.
 fn write_done(out: &mut Out, number: u64) {
@@ -24,18 +26,42 @@ fn write_done(out: &mut Out, number: u64) {
 
 /// Writes what came of a turn: 0 if nothing was picked, 1 if that is installed, 2 and the library's own name of why another was faster;
 /// or why there is none.
-fn write_turn(alloc: Global, out: &mut Out, came: Result<Turn, InstallError>) -> Result<(), Halt> {
+fn write_turn(alloc: Global, out: &mut Out, came: &Result<Turn, InstallError>) {
     match came {
         Ok(Turn::Idle) => write_done(out, 0),
         Ok(Turn::Installed) => write_done(out, 1),
         Ok(Turn::Late(error)) => {
             write_done(out, 2);
-            out.bytes(format!(in alloc; "{error:?}")?.as_bytes());
+            out.name(alloc, error);
         }
-        Err(InstallError::Memory) => return Err(Halt::Memory),
-        Err(error) => write_why(alloc, out, &error)?,
+        Err(error) => write_uninstalled(alloc, out, error),
     }
-    Ok(())
+}
+
+/// Writes why an install is refused, unless its memory ran out.
+fn write_uninstalled(alloc: Global, out: &mut Out, error: &InstallError) {
+    match error {
+        InstallError::Memory => out.want(),
+        other => write_why(alloc, out, other),
+    }
+}
+
+/// Writes what was fed, or why nothing was.
+fn write_fed(alloc: Global, out: &mut Out, fed: &Result<u64, FeedError>) {
+    match fed {
+        Ok(runs) => write_done(out, *runs),
+        Err(FeedError::Memory) => out.want(),
+        Err(error) => write_why(alloc, out, error),
+    }
+}
+
+/// Writes that a snapshot is released, or why it isn't.
+fn write_released(alloc: Global, out: &mut Out, seq: u64, released: &Result<(), ReleaseError>) {
+    match released {
+        Ok(()) => write_done(out, seq),
+        Err(ReleaseError::Memory) => out.want(),
+        Err(error) => write_why(alloc, out, error),
+    }
 }
 
 /// The answers from a version.
@@ -51,143 +77,198 @@ fn answers_of(
     Ok(answers)
 }
 
-/// Writes answers.
-fn write_answers(out: &mut Out, answers: &[Answer]) {
-    out.flag(true);
-    out.place(answers.len());
-    for answer in answers {
-        write_answer(out, answer);
+/// Writes answers, or why there are none.
+fn write_answered(alloc: Global, out: &mut Out, answered: &Result<Vec<Answer>, AskError>) {
+    match answered {
+        Ok(answers) => {
+            out.flag(true);
+            write_answers(out, answers);
+        }
+        Err(AskError::Memory) => out.want(),
+        Err(error) => write_why(alloc, out, error),
     }
 }
 
-impl<'a, N, W, R> Hall<'a, N, W, R>
-where
-    N: Name + Send,
-    W: Wait + Drop,
-    R: Threads + Wait + Sync,
+/// The number of what was made: installs that for what is claimed.
+pub(crate) fn install<N: Name, W: Wait + Drop>(
+    rt: &impl Wait,
+    alloc: Global,
+    store: &Store<Commas, N, W>,
+    reader: &mut Reader<Commas, N>,
+    place: &mut Place<N>,
+    all: &mut Vec<(u64, Compacted<Commas>)>,
+    call: &mut Input<'_>,
+    out: &mut Out,
+) -> Result<(), Halt>
+    requires { store.now.table ≡ N.table }
 {
-    /// A reader and place, and the number of what was made: installs that for what is claimed there.
-    pub(crate) fn install(&mut self, call: &mut Input<'_>, out: &mut Out) -> Result<(), Halt> {
-        let (rt, alloc, store) = (self.rt, self.alloc, self.store);
-        let (who, number) = (call.place(), call.number());
-        self.reader(who)?;
-        let made = take_numbered(&mut self.made, number)?;
-        let held = self.place(who)?.take_claim()?;
-        match store.install(rt, alloc, held, made, self.reader(who)?) {
-            Ok(seat) => {
-                self.place(who)?.put_seat(seat);
-                out.flag(true);
-                Ok(())
-            }
-            Err((held, made, error)) => {
-                self.place(who)?.put_claim(held);
-                put_numbered(&mut self.made, number, made)?;
-                match error {
-                    InstallError::Memory => Err(Halt::Memory),
-                    other => Ok(write_why(alloc, out, &other)?),
-                }
-            }
+    let number = call.number();
+    let made = take_numbered(all, number)?;
+    let held = place.take_claim()?;
+    match store.install(rt, alloc, held, made, reader) {
+        Ok(seat) => {
+            place.put_seat(seat);
+            out.flag(true);
+        }
+        Err((held, made, error)) => {
+            place.put_claim(held);
+            out.done(put_numbered(all, number, made));
+            write_uninstalled(alloc, out, &error);
         }
     }
+    Ok(())
+}
 
-    /// A place and a number: gives the claim back, and keeps its pin at the number.
-    pub(crate) fn abandon(&mut self, call: &mut Input<'_>) -> Result<(), Halt> {
-        let who = call.place();
-        make_room(&mut self.pins)?;
-        let held = self.place(who)?.take_claim()?;
-        let (seat, pin) = self.store.abandon(held);
-        self.place(who)?.put_seat(seat);
-        Ok(put_numbered(&mut self.pins, call.number(), pin)?)
+/// A number: gives the claim back, and keeps its pin at the number.
+pub(crate) fn abandon<N: Name, W: Wait + Drop>(
+    store: &Store<Commas, N, W>,
+    place: &mut Place<N>,
+    pins: &mut Vec<(u64, Pin<Commas, N>)>,
+    call: &mut Input<'_>,
+) -> Result<(), Halt>
+    requires { store.now.table ≡ N.table }
+{
+    pins.reserve(1)?;
+    let held = place.take_claim()?;
+    let (seat, pin) = store.abandon(held);
+    place.put_seat(seat);
+    Ok(put_numbered(pins, call.number(), pin)?)
+}
+
+/// Drops the claim, and its seat with it.
+pub(crate) fn drop_claim<N: Name>(place: &mut Place<N>) -> Result<(), Halt> {
+    drop(place.take_claim()?);
+    Ok(())
+}
+
+/// Takes a compactor's turn.
+pub(crate) fn turn<N: Name, W: Wait + Drop>(
+    rt: &(impl Threads + Wait + Sync),
+    alloc: Global,
+    store: &Store<Commas, N, W>,
+    reader: &mut Reader<Commas, N>,
+    place: &mut Place<N>,
+    out: &mut Out,
+) -> Result<(), Halt>
+    requires { store.now.table ≡ N.table }
+{
+    let seat = place.take_seat()?;
+    let (seat, came) = store.compact_once(rt, alloc, seat, reader);
+    place.put_seat(seat);
+    write_turn(alloc, out, &came);
+    Ok(())
+}
+
+/// Writes: feeds them.
+pub(crate) fn feed<N: Name, W: Wait + Drop>(
+    rt: &impl Wait,
+    alloc: Global,
+    store: &Store<Commas, N, W>,
+    reader: &mut Reader<Commas, N>,
+    call: &mut Input<'_>,
+    out: &mut Out,
+) {
+    if let Some(writes) = said::rising(alloc, call, out) {
+        write_fed(alloc, out, &store.feed(rt, alloc, &writes, reader));
     }
+}
 
-    /// A place: drops the claim, and its seat with it.
-    pub(crate) fn drop_claim(&mut self, call: &mut Input<'_>) -> Result<(), Halt> {
-        drop(self.place(call.place())?.take_claim()?);
-        Ok(())
+/// Keeps the last sequence.
+pub(crate) fn keep<N: Name, W: Wait + Drop>(
+    rt: &impl Wait,
+    alloc: Global,
+    store: &Store<Commas, N, W>,
+    reader: &mut Reader<Commas, N>,
+    out: &mut Out,
+)
+    requires { N.keeps_stay ≡ false }
+{
+    match store.keep(rt, alloc, reader) {
+        Ok(seq) => write_done(out, seq),
+        Err(_) => out.want(),
     }
+}
 
-    /// A reader and seat: takes a compactor's turn.
-    pub(crate) fn turn(&mut self, call: &mut Input<'_>, out: &mut Out) -> Result<(), Halt> {
-        let (rt, alloc, store, who) = (self.rt, self.alloc, self.store, call.place());
-        self.reader(who)?;
-        let seat = self.place(who)?.take_seat()?;
-        let (seat, came) = store.compact_once(rt, alloc, seat, self.reader(who)?);
-        self.place(who)?.put_seat(seat);
-        write_turn(alloc, out, came)
-    }
+/// A sequence: releases it.
+pub(crate) fn release<N: Name, W: Wait + Drop>(
+    rt: &impl Wait,
+    alloc: Global,
+    store: &Store<Commas, N, W>,
+    reader: &mut Reader<Commas, N>,
+    call: &mut Input<'_>,
+    out: &mut Out,
+)
+    requires { N.keeps_stay ≡ false }
+{
+    let seq = call.number();
+    write_released(alloc, out, seq, &store.release(rt, alloc, seq, reader));
+}
 
-    /// A reader and writes: feeds them.
-    pub(crate) fn feed(&mut self, call: &mut Input<'_>, out: &mut Out) -> Result<(), Halt> {
-        let (rt, alloc, store, who) = (self.rt, self.alloc, self.store, call.place());
-        let writes = rising(alloc, call)?;
-        match store.feed(rt, alloc, &writes, self.reader(who)?) {
-            Ok(runs) => {
-                write_done(out, runs);
-                Ok(())
-            }
-            Err(FeedError::Memory) => Err(Halt::Memory),
-            Err(error) => Ok(write_why(alloc, out, &error)?),
+/// Queries: their answers from a version.
+fn answers_to(
+    alloc: Global,
+    version: &Version,
+    call: &mut Input<'_>,
+) -> Result<Vec<Answer>, AllocError> {
+    let queries = said::list::<Query>(alloc, call)?;
+    answers_of(alloc, version, &queries)
+}
+
+/// Writes answers that were made.
+fn write_made(out: &mut Out, answers: Result<Vec<Answer>, AllocError>) {
+    match answers {
+        Ok(answers) => {
+            out.flag(true);
+            write_answers(out, &answers);
         }
+        Err(_) => out.want(),
     }
+}
 
-    /// A reader: keeps the last sequence.
-    pub(crate) fn keep(&mut self, call: &mut Input<'_>, out: &mut Out) -> Result<(), Halt> {
-        let (rt, alloc, store, who) = (self.rt, self.alloc, self.store, call.place());
-        write_done(out, store.keep(rt, alloc, self.reader(who)?)?);
-        Ok(())
+/// The number of a pin, and queries: their answers.
+pub(crate) fn ask_pin<N: Name>(
+    alloc: Global,
+    pins: &[(u64, Pin<Commas, N>)],
+    call: &mut Input<'_>,
+    out: &mut Out,
+) {
+    match numbered(pins, call.number()) {
+        Some(pin) => write_made(out, answers_to(alloc, pin.version(), call)),
+        None => out.refuse(),
     }
+}
 
-    /// A reader and a sequence: releases it.
-    pub(crate) fn release(&mut self, call: &mut Input<'_>, out: &mut Out) -> Result<(), Halt> {
-        let (rt, alloc, store, who) = (self.rt, self.alloc, self.store, call.place());
-        let seq = call.number();
-        match store.release(rt, alloc, seq, self.reader(who)?) {
-            Ok(()) => {
-                write_done(out, seq);
-                Ok(())
-            }
-            Err(ReleaseError::Memory) => Err(Halt::Memory),
-            Err(error) => Ok(write_why(alloc, out, &error)?),
+/// The answers by so many workers. All readers come back.
+fn answered<N: Name + Send>(
+    rt: &(impl Threads + Sync),
+    alloc: Global,
+    readers: &mut Vec<Reader<Commas, N>>,
+    queries: &[Query],
+    (workers, piece): (usize, usize),
+) -> Result<Vec<Answer>, AskError> {
+    let lent = mem::replace(readers, Vec::new(alloc));
+    let (back, answers) = answer_all(rt, alloc, lent, queries, workers, piece, &Free);
+    *readers = back;
+    answers
+}
+
+/// The number of workers, of queries in a piece, and queries: whether a refusal is foretold, how many readers there are then, and
+/// the answers.
+pub(crate) fn ask<N: Name + Send>(
+    rt: &(impl Threads + Sync),
+    alloc: Global,
+    readers: &mut Vec<Reader<Commas, N>>,
+    call: &mut Input<'_>,
+    out: &mut Out,
+) {
+    let (workers, piece) = (call.place(), call.place());
+    match said::list::<Query>(alloc, call) {
+        Ok(queries) => {
+            out.flag(batch_refusal(readers.len(), workers, piece).is_some());
+            let answers = answered(rt, alloc, readers, &queries, (workers, piece));
+            out.place(readers.len());
+            write_answered(alloc, out, &answers);
         }
-    }
-
-    /// The number of a pin, and queries: their answers.
-    pub(crate) fn ask_pin(&mut self, call: &mut Input<'_>, out: &mut Out) -> Result<(), Halt> {
-        let alloc = self.alloc;
-        let version = numbered(&self.pins, call.number())?.version();
-        write_answers(out, &answers_of(alloc, version, &queries(alloc, call)?)?);
-        Ok(())
-    }
-
-    /// The answers by so many workers. All readers come back.
-    fn answered(
-        &mut self,
-        queries: &[Query],
-        workers: usize,
-        piece: usize,
-    ) -> Result<Vec<Answer>, AskError> {
-        let (rt, alloc) = (self.rt, self.alloc);
-        let readers = mem::replace(&mut self.readers, Vec::new(alloc));
-        let (readers, answers) = answer_all(rt, alloc, readers, queries, workers, piece, &Free);
-        self.readers = readers;
-        answers
-    }
-
-    /// The number of workers, of queries in a piece, and queries: whether a refusal is foretold, how many readers there are then, and
-    /// the answers.
-    pub(crate) fn ask(&mut self, call: &mut Input<'_>, out: &mut Out) -> Result<(), Halt> {
-        let (alloc, workers, piece) = (self.alloc, call.place(), call.place());
-        let queries = queries(alloc, call)?;
-        out.flag(batch_refusal(self.readers.len(), workers, piece).is_some());
-        let answers = self.answered(&queries, workers, piece);
-        out.place(self.readers.len());
-        match answers {
-            Ok(answers) => {
-                write_answers(out, &answers);
-                Ok(())
-            }
-            Err(AskError::Memory) => Err(Halt::Memory),
-            Err(error) => Ok(write_why(alloc, out, &error)?),
-        }
+        Err(_) => out.want(),
     }
 }

@@ -1,37 +1,32 @@
 //! What is pinned, picked, claimed and compacted in a store that threads share.
 ghost use Rattle.std.specs.Prelude.{◌≡◌};
 
-use crate::hall::{Hall, make_room, numbered, put_numbered, take_numbered};
+use crate::hall::{numbered, put_numbered, take_numbered};
 use crate::input::Input;
-use crate::out::Out;
-use crate::places::Commas;
-use crate::talk::Halt;
+use crate::merges::shares;
+use crate::out::{Halt, Out};
+use crate::places::{Commas, Place};
 use crate::versions::{stretch, write_stretch, write_version};
-use std::alloc::{AllocError, Global};
+use std::alloc::Global;
 use std::fmt::Debug;
-use std::marker::{Send, Sync};
+use std::marker::Sync;
 use std::sync::{Arc, Wait};
 use std::thread::Threads;
 use uc_claims::MOST_SLOTS;
 use uc_compact::{Compacted, compact, inputs_stand};
 use uc_run::Run;
-use uc_share::{ClaimError, Name, Pin, Seat, Store, Stretch, Version};
+use uc_share::{ClaimError, Name, Pin, Reader, Seat, Store};
 
 /// Writes what is pinned: a version, and how many events led to it.
-pub(crate) fn write_pin<N: Name>(out: &mut Out, pin: &Pin<Commas, N>) {
+fn write_pin<N: Name>(out: &mut Out, pin: &Pin<Commas, N>) {
     write_version(out, pin.version());
     out.number(pin.front().len());
 }
 
 /// Writes why something is refused: the library's own name of it.
-pub(crate) fn write_why(
-    alloc: Global,
-    out: &mut Out,
-    error: &impl Debug,
-) -> Result<(), AllocError> {
+pub(crate) fn write_why<E: Debug>(alloc: Global, out: &mut Out, error: &E) {
     out.flag(false);
-    out.bytes(format!(in alloc; "{error:?}")?.as_bytes());
-    Ok(())
+    out.name(alloc, error);
 }
 
 /// Writes what a compaction was asked: how many runs it had, whether the oldest run is among them, and its keeps.
@@ -51,22 +46,162 @@ fn write_busy<N: Name, W: Wait + Drop>(out: &mut Out, store: &Store<Commas, N, W
     }
 }
 
-/// The runs of a stretch of a version.
-fn runs_of(
-    alloc: Global,
-    version: &Version,
-    stretch: Stretch,
-) -> Result<Vec<Arc<Run>>, AllocError> {
-    let mut runs = Vec::new(alloc);
-    for placed in version
-        .runs()
-        .iter()
-        .skip(stretch.first)
-        .take(stretch.count)
-    {
-        runs.push(placed.run().clone()?)?;
+/// Writes why a claim is refused, unless its memory ran out.
+fn write_unclaimed(alloc: Global, out: &mut Out, error: &ClaimError) {
+    match error {
+        ClaimError::Memory => out.want(),
+        other => write_why(alloc, out, other),
     }
-    Ok(runs)
+}
+
+/// Writes what is shown now.
+pub(crate) fn write_shown<N: Name>(out: &mut Out, reader: &mut Reader<Commas, N>) {
+    match reader.pin() {
+        Ok(pin) => write_pin(out, &pin),
+        Err(_) => out.want(),
+    }
+}
+
+/// A number if what is pinned is kept there: pins what is shown.
+pub(crate) fn pin<N: Name>(
+    reader: &mut Reader<Commas, N>,
+    pins: &mut Vec<(u64, Pin<Commas, N>)>,
+    call: &mut Input<'_>,
+    out: &mut Out,
+) {
+    let (is_kept, number) = (call.flag(), call.number());
+    match reader.pin() {
+        Ok(pin) => {
+            write_pin(out, &pin);
+            if is_kept {
+                out.done(put_numbered(pins, number, pin));
+            }
+        }
+        Err(_) => out.want(),
+    }
+}
+
+/// The number of a pin: what is pinned.
+pub(crate) fn look<N: Name>(pins: &[(u64, Pin<Commas, N>)], call: &mut Input<'_>, out: &mut Out) {
+    match numbered(pins, call.number()) {
+        Some(pin) => write_pin(out, pin),
+        None => out.refuse(),
+    }
+}
+
+/// Which stretch of a pin is compacted next.
+fn picked<N: Name, W: Wait + Drop>(
+    store: &Store<Commas, N, W>,
+    place: &mut Place<N>,
+    pin: &Pin<Commas, N>,
+    out: &mut Out,
+) -> Result<(), Halt>
+    requires { store.now.table ≡ N.table }
+{
+    let mut seat = place.take_seat()?;
+    let picked = store.pick(pin, &mut seat);
+    place.put_seat(seat);
+    write_stretch(out, picked);
+    Ok(())
+}
+
+/// A pin: which stretch is compacted next.
+pub(crate) fn pick<N: Name, W: Wait + Drop>(
+    store: &Store<Commas, N, W>,
+    place: &mut Place<N>,
+    pins: &[(u64, Pin<Commas, N>)],
+    call: &mut Input<'_>,
+    out: &mut Out,
+)
+    requires { store.now.table ≡ N.table }
+{
+    match numbered(pins, call.number()) {
+        Some(pin) => {
+            let ended = picked(store, place, pin, out);
+            out.end(ended);
+        }
+        None => out.refuse(),
+    }
+}
+
+/// Which slots a seat finds taken.
+pub(crate) fn busy<N: Name, W: Wait + Drop>(
+    store: &Store<Commas, N, W>,
+    place: &mut Place<N>,
+    out: &mut Out,
+) -> Result<(), Halt>
+    requires { store.now.table ≡ N.table }
+{
+    let mut seat = place.take_seat()?;
+    write_busy(out, store, &mut seat);
+    place.put_seat(seat);
+    Ok(())
+}
+
+/// A pin and a stretch: claims it.
+pub(crate) fn claim<N: Name, W: Wait + Drop>(
+    alloc: Global,
+    store: &Store<Commas, N, W>,
+    reader: &mut Reader<Commas, N>,
+    place: &mut Place<N>,
+    pins: &mut Vec<(u64, Pin<Commas, N>)>,
+    call: &mut Input<'_>,
+    out: &mut Out,
+) -> Result<(), Halt>
+    requires { store.now.table ≡ N.table }
+{
+    let (number, stretch) = (call.number(), stretch(call));
+    let seat = place.take_seat()?;
+    let pin = take_numbered(pins, number)?;
+    match store.claim(seat, pin, reader, stretch) {
+        Ok(held) => {
+            place.put_claim(held);
+            out.flag(true);
+        }
+        Err((seat, pin, error)) => {
+            place.put_seat(seat);
+            out.done(put_numbered(pins, number, pin));
+            write_unclaimed(alloc, out, &error);
+        }
+    }
+    Ok(())
+}
+
+/// Keeps a compaction at a number, if it was made.
+fn keep(
+    all: &mut Vec<(u64, Compacted<Commas>)>,
+    number: u64,
+    made: Result<Compacted<Commas>, Halt>,
+    out: &mut Out,
+) {
+    match made {
+        Ok(made) => {
+            write_made(out, &made);
+            out.done(put_numbered(all, number, made));
+        }
+        Err(halt) => out.stop(halt),
+    }
+}
+
+/// What the runs of a claim become.
+fn compacted<N: Name>(
+    rt: &(impl Threads + Sync),
+    alloc: Global,
+    place: &Place<N>,
+) -> Result<Compacted<Commas>, Halt> {
+    Ok(place.claim()?.compact(rt, alloc)?)
+}
+
+/// A number: compacts what is claimed, and keeps that at the number.
+pub(crate) fn compact_claim<N: Name>(
+    rt: &(impl Threads + Sync),
+    alloc: Global,
+    place: &Place<N>,
+    all: &mut Vec<(u64, Compacted<Commas>)>,
+    call: &mut Input<'_>,
+    out: &mut Out,
+) {
+    keep(all, call.number(), compacted(rt, alloc, place), out);
 }
 
 /// What runs that nobody claims become.
@@ -83,92 +218,30 @@ fn merged(
     Ok(compact::<Commas>(rt, alloc, runs, keeps, oldest)?)
 }
 
-impl<'a, N, W, R> Hall<'a, N, W, R>
-where
-    N: Name + Send,
-    W: Wait + Drop,
-    R: Threads + Wait + Sync,
-{
-    /// A reader, and a number if what it pins is kept there: pins what is shown.
-    pub(crate) fn pin(&mut self, call: &mut Input<'_>, out: &mut Out) -> Result<(), Halt> {
-        let (who, is_kept, number) = (call.place(), call.flag(), call.number());
-        make_room(&mut self.pins)?;
-        let pin = self.reader(who)?.pin()?;
-        write_pin(out, &pin);
-        if is_kept {
-            put_numbered(&mut self.pins, number, pin)?;
-        }
-        Ok(())
-    }
+/// A stretch, keeps, and whether it has the oldest run: what its runs become.
+fn made<N: Name>(
+    rt: &(impl Threads + Sync),
+    alloc: Global,
+    pin: &Pin<Commas, N>,
+    call: &mut Input<'_>,
+) -> Result<Compacted<Commas>, Halt> {
+    let inputs = shares(alloc, pin.version().runs(), stretch(call))?;
+    let keeps = call.numbers(alloc)?;
+    merged(rt, alloc, &inputs, &keeps, call.flag())
+}
 
-    /// The number of a pin: what is pinned.
-    pub(crate) fn look(&self, call: &mut Input<'_>, out: &mut Out) -> Result<(), Halt> {
-        write_pin(out, numbered(&self.pins, call.number())?);
-        Ok(())
-    }
-
-    /// A seat and a pin: which stretch is compacted next.
-    pub(crate) fn pick(&mut self, call: &mut Input<'_>, out: &mut Out) -> Result<(), Halt> {
-        let who = call.place();
-        let mut seat = self.place(who)?.take_seat()?;
-        let pin = numbered(&self.pins, call.number())?;
-        let picked = self.store.pick(pin, &mut seat);
-        self.place(who)?.put_seat(seat);
-        write_stretch(out, picked);
-        Ok(())
-    }
-
-    /// A seat: which slots it finds taken.
-    pub(crate) fn busy(&mut self, call: &mut Input<'_>, out: &mut Out) -> Result<(), Halt> {
-        let (who, store) = (call.place(), self.store);
-        let mut seat = self.place(who)?.take_seat()?;
-        write_busy(out, store, &mut seat);
-        self.place(who)?.put_seat(seat);
-        Ok(())
-    }
-
-    /// A reader and seat, a pin and a stretch: claims it.
-    pub(crate) fn claim(&mut self, call: &mut Input<'_>, out: &mut Out) -> Result<(), Halt> {
-        let (alloc, store, who) = (self.alloc, self.store, call.place());
-        let (number, stretch) = (call.number(), stretch(call));
-        self.reader(who)?;
-        let seat = self.place(who)?.take_seat()?;
-        let pin = take_numbered(&mut self.pins, number)?;
-        match store.claim(seat, pin, self.reader(who)?, stretch) {
-            Ok(held) => {
-                self.place(who)?.put_claim(held);
-                out.flag(true);
-                Ok(())
-            }
-            Err((seat, pin, error)) => {
-                self.place(who)?.put_seat(seat);
-                put_numbered(&mut self.pins, number, pin)?;
-                match error {
-                    ClaimError::Memory => Err(Halt::Memory),
-                    other => Ok(write_why(alloc, out, &other)?),
-                }
-            }
-        }
-    }
-
-    /// A place and a number: compacts what is claimed there, and keeps that at the number.
-    pub(crate) fn compact(&mut self, call: &mut Input<'_>, out: &mut Out) -> Result<(), Halt> {
-        let (rt, alloc, who) = (self.rt, self.alloc, call.place());
-        make_room(&mut self.made)?;
-        let made = self.place(who)?.claim()?.compact(rt, alloc)?;
-        write_made(out, &made);
-        Ok(put_numbered(&mut self.made, call.number(), made)?)
-    }
-
-    /// A number, a pin, a stretch, keeps, and whether it has the oldest run: what its runs become, which is kept at the number.
-    pub(crate) fn make(&mut self, call: &mut Input<'_>, out: &mut Out) -> Result<(), Halt> {
-        let (rt, alloc, number) = (self.rt, self.alloc, call.number());
-        make_room(&mut self.made)?;
-        let version = numbered(&self.pins, call.number())?.version();
-        let inputs = runs_of(alloc, version, stretch(call))?;
-        let keeps = call.numbers(alloc)?;
-        let made = merged(rt, alloc, &inputs, &keeps, call.flag())?;
-        write_made(out, &made);
-        Ok(put_numbered(&mut self.made, number, made)?)
+/// A number, a pin, and what `made` takes: what its runs become, which is kept at the number.
+pub(crate) fn make<N: Name>(
+    rt: &(impl Threads + Sync),
+    alloc: Global,
+    pins: &[(u64, Pin<Commas, N>)],
+    all: &mut Vec<(u64, Compacted<Commas>)>,
+    call: &mut Input<'_>,
+    out: &mut Out,
+) {
+    let number = call.number();
+    match numbered(pins, call.number()) {
+        Some(pin) => keep(all, number, made(rt, alloc, pin, call), out),
+        None => out.refuse(),
     }
 }

@@ -43,6 +43,12 @@ impl<'a> Input<'a> {
         self.is_short
     }
 
+    /// Leaves nothing to read, as if more had been asked for: it is no call.
+    pub(crate) fn spoil(&mut self) {
+        self.rest = &[];
+        self.is_short = true;
+    }
+
     /// The next number; 0 if there is none.
     pub(crate) fn number(&mut self) -> u64 {
         match number_in(self.rest) {
@@ -51,8 +57,7 @@ impl<'a> Input<'a> {
                 number
             }
             None => {
-                self.rest = &[];
-                self.is_short = true;
+                self.spoil();
                 0
             }
         }
@@ -77,8 +82,7 @@ impl<'a> Input<'a> {
                 bytes
             }
             None => {
-                self.rest = &[];
-                self.is_short = true;
+                self.spoil();
                 &[]
             }
         }

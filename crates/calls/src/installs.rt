@@ -1,7 +1,7 @@
 //! What the runs of claims become, and how it is put in their place.
 use crate::merges::made_by_parts;
+use crate::out::Halt;
 use crate::owner::{Held, find, held_under, hold, taken};
-use crate::talk::Halt;
 use std::alloc::Global;
 use std::marker::Sync;
 use std::thread::Threads;
@@ -65,8 +65,8 @@ fn made_of<O: Operator + Sync>(
     })
 }
 
-/// Compacts what is held.
-fn make_for<O: Operator + Sync>(
+/// Compacts what is held, for the store's keeps.
+pub(crate) fn make<O: Operator + Sync>(
     rt: &(impl Threads + Sync),
     alloc: Global,
     store: &Owned<O>,
@@ -74,22 +74,11 @@ fn make_for<O: Operator + Sync>(
     workers: Workers,
 ) -> Result<(), Halt> {
     let made = made_of(rt, alloc, store, held, workers)?;
-    held.made = Some(made);
+    held.put_made(made);
     Ok(())
 }
 
-/// Compacts what is held under a name, for the store's keeps.
-pub(crate) fn make<O: Operator + Sync>(
-    rt: &(impl Threads + Sync),
-    alloc: Global,
-    store: &Owned<O>,
-    claims: &mut Vec<Held<O>>,
-    (name, workers): (u8, Workers),
-) -> Result<(), Halt> {
-    make_for(rt, alloc, store, held_under(claims, name)?, workers)
-}
-
-/// Compacts what is held under a name, for other keeps, and as the oldest runs or not.
+/// Compacts what is held, for other keeps, and as the oldest runs or not.
 pub(crate) fn make_under<O: Operator + Sync>(
     rt: &(impl Threads + Sync),
     alloc: Global,
@@ -100,7 +89,7 @@ pub(crate) fn make_under<O: Operator + Sync>(
     let runs = store.version().runs();
     let stretch = stretch_of(runs, held.newest, held.count)?;
     let made = made_by_parts(rt, alloc, runs, stretch, terms)?;
-    held.made = Some(made);
+    held.put_made(made);
     Ok(())
 }
 
@@ -147,7 +136,7 @@ pub(crate) fn install<O: Operator + Sync>(
     }
     let held = held_under(claims, name)?;
     if held.made.is_none() {
-        make_for(rt, alloc, store, held, workers)?;
+        make(rt, alloc, store, held, workers)?;
     }
     match taken(claims, name) {
         Some(held) => put(store, claims, held),

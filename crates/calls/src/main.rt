@@ -9,7 +9,7 @@
 //! long it takes, for the scripts in `bench/`.
 //!
 //! A scene is what calls work with: `desk.rt` has memtables and runs, `shop.rt` a store of one owner,
-//! `hall_calls.rt` a store that threads share, and `slots.rt` a table of slots.
+//! `hall_calls.rt` a store that threads share, `slots.rt` a table of slots, and `sheet.rt` effects and plain writes alone.
 #![tactic(auto)]
 
 mod asked;
@@ -39,6 +39,7 @@ mod replies;
 mod rows;
 mod runs;
 mod said;
+mod sheet;
 mod shop;
 mod slot_lists;
 mod slots;
@@ -56,38 +57,65 @@ use std::marker::Sync;
 use std::sync::Wait;
 use std::thread::Threads;
 use std::time::Clock;
-use uc_oper::{Append, Counter, Maximum, Operator, Tail};
+use uc_oper::{Append, Counter, Maximum, Tail};
 
-/// Makes all calls of a scene.
-fn play<O: Operator + Sync>(
-    rt: &(impl Threads + Wait + Clock + Sync + Print),
+/// Makes all calls of memtables and runs under an operator.
+fn desk_by(
+    rt: &(impl Threads + Clock + Sync + Print),
     alloc: Global,
-    scene: u64,
+    operator: u64,
     talk: &mut Talk<'_>,
 ) -> io::Result<()> {
-    match scene {
-        0 => desk::play_all::<O>(rt, alloc, talk),
-        1 => shop::play_all::<O>(rt, alloc, talk),
-        3 => hall_calls::play_all(rt, alloc, talk),
-        _ => slots::play_all(rt, alloc, talk),
+    match operator {
+        0 => desk::play_all::<Append<44>>(rt, alloc, talk),
+        _ => desk::play_all::<Counter>(rt, alloc, talk),
     }
 }
 
-/// Makes all calls of a scene under an operator.
-fn play_by(
+/// Makes all calls of a store of one owner under an operator.
+fn shop_by(
+    rt: &(impl Threads + Clock + Sync + Print),
+    alloc: Global,
+    operator: u64,
+    talk: &mut Talk<'_>,
+) -> io::Result<()> {
+    match operator {
+        0 => shop::play_all::<Append<44>>(rt, alloc, talk),
+        1 => shop::play_all::<Counter>(rt, alloc, talk),
+        2 => shop::play_all::<Maximum>(rt, alloc, talk),
+        _ => shop::play_all::<Tail<4>>(rt, alloc, talk),
+    }
+}
+
+/// Makes all calls of effects and plain writes under an operator.
+fn sheet_by(
+    rt: &(impl Threads + Clock + Sync + Print),
+    alloc: Global,
+    operator: u64,
+    talk: &mut Talk<'_>,
+) -> io::Result<()> {
+    match operator {
+        2 => sheet::play_all::<Maximum>(rt, alloc, talk),
+        3 => sheet::play_all::<Tail<0>>(rt, alloc, talk),
+        4 => sheet::play_all::<Tail<1>>(rt, alloc, talk),
+        5 => sheet::play_all::<Tail<4>>(rt, alloc, talk),
+        _ => sheet::play_all::<Tail<1000>>(rt, alloc, talk),
+    }
+}
+
+/// Makes all calls of a scene. Each scene has the operators alone that its tests take, since a program is compiled once for each.
+fn play(
     rt: &(impl Threads + Wait + Clock + Sync + Print),
     alloc: Global,
     (scene, operator): (u64, u64),
     talk: &mut Talk<'_>,
 ) -> io::Result<()> {
-    match operator {
-        0 => play::<Append<44>>(rt, alloc, scene, talk),
-        1 => play::<Counter>(rt, alloc, scene, talk),
-        2 => play::<Maximum>(rt, alloc, scene, talk),
-        3 => play::<Tail<0>>(rt, alloc, scene, talk),
-        4 => play::<Tail<1>>(rt, alloc, scene, talk),
-        5 => play::<Tail<4>>(rt, alloc, scene, talk),
-        _ => play::<Tail<1000>>(rt, alloc, scene, talk),
+    match scene {
+        0 => desk_by(rt, alloc, operator, talk),
+        1 => shop_by(rt, alloc, operator, talk),
+        2 => slots::play_all(rt, alloc, talk),
+        3 => hall_calls::play_all(rt, alloc, talk),
+        _ => sheet_by(rt, alloc, operator, talk),
     }
 }
 
@@ -97,5 +125,5 @@ fn main(rt: HostRuntime) -> io::Result<()> {
     rt.stdin().read_to_end(&mut bytes)?;
     let mut calls = Input::new(&bytes);
     let (scene, operator) = (calls.number(), calls.number());
-    play_by(&rt, alloc, (scene, operator), &mut Talk::new(alloc, calls)?)
+    play(&rt, alloc, (scene, operator), &mut Talk::new(alloc, calls)?)
 }

@@ -1,5 +1,5 @@
 //! Compactions of a version's runs that nobody claims.
-use crate::talk::Halt;
+use crate::out::Halt;
 use std::alloc::{AllocError, Global};
 use std::marker::Sync;
 use std::sync::Arc;
@@ -7,14 +7,17 @@ use std::thread::Threads;
 use uc_compact::{Compacted, compact_by_parts, inputs_stand};
 use uc_oper::Operator;
 use uc_run::Run;
-use uc_version::Stretch;
-use uc_version_state::Placed;
+use uc_version_state::{Placed, Stretch};
 
 /// In how many parts.
 const PARTS: usize = 3;
 
 /// Shares of the runs of a stretch.
-fn shares(alloc: Global, runs: &[Placed], stretch: Stretch) -> Result<Vec<Arc<Run>>, AllocError> {
+pub(crate) fn shares(
+    alloc: Global,
+    runs: &[Placed],
+    stretch: Stretch,
+) -> Result<Vec<Arc<Run>>, AllocError> {
     let mut shares = Vec::new(alloc);
     for placed in runs.iter().skip(stretch.first).take(stretch.count) {
         shares.push(placed.run().clone()?)?;

@@ -1,8 +1,7 @@
 //! Ways to open a store of one owner.
-use crate::beginning::Beginning;
+use crate::beginning::{Beginning, given};
+use crate::input::Input;
 use crate::out::Out;
-use crate::talk::Halt;
-use crate::{said, versions};
 use std::alloc::{AllocError, Global};
 use std::marker::Sync;
 use std::thread::Threads;
@@ -42,20 +41,21 @@ fn recovered(
 }
 
 /// Takes a write that follows.
-fn insert(alloc: Global, opener: &mut Opener, write: &Write) -> Result<(), Halt> {
+fn insert(alloc: Global, opener: &mut Opener, write: &Write, out: &mut Out) {
     if write.seq <= opener.last() || MAX_SEQUENCE < write.seq {
-        return Err(Halt::Refused);
+        return out.refuse();
     }
-    opener.insert(&Alone, alloc, &WriteRef::of(write))?;
-    Ok(())
+    out.done(opener.insert(&Alone, alloc, &WriteRef::of(write)));
 }
 
-/// Takes the writes behind the log.
-fn insert_all(alloc: Global, opener: &mut Opener, writes: &[Write]) -> Result<(), Halt> {
+/// Takes the writes behind the log, up to one that is refused.
+fn insert_all(alloc: Global, opener: &mut Opener, writes: &[Write], out: &mut Out) {
     for write in writes {
-        insert(alloc, opener, write)?;
+        if out.halt().is_some() {
+            break;
+        }
+        insert(alloc, opener, write, out);
     }
-    Ok(())
 }
 
 /// Writes how far a log was read: 0 if all is read, 1 and a place if it is torn, and 2 if it is at fault.
@@ -76,7 +76,7 @@ fn begun(
     alloc: Global,
     given: &Beginning<'_>,
     out: &mut Out,
-) -> Result<Opener, Halt> {
+) -> Result<Opener, AllocError> {
     let Recovered { mut opener, ended } = recovered(
         rt,
         alloc,
@@ -85,7 +85,7 @@ fn begun(
         given.way,
     )?;
     write_ended(out, ended);
-    insert_all(alloc, &mut opener, &given.writes)?;
+    insert_all(alloc, &mut opener, &given.writes, out);
     Ok(opener)
 }
 
@@ -123,13 +123,14 @@ fn opened_of_log<O: Operator>(
     alloc: Global,
     given: &Beginning<'_>,
     out: &mut Out,
-) -> Result<Result<Owned<O>, OpenError>, Halt> {
+) -> Result<Owned<O>, OpenError> {
     let opener = begun(rt, alloc, given, out)?;
-    let is_alone = given.way == 2 || given.way == 5;
-    match finished(rt, alloc, opener, &given.keeps, is_alone) {
-        Ok(version) => Ok(owned::<O>(alloc, version, given.options)),
-        Err(error) => Ok(Err(error)),
+    if out.halt().is_some() {
+        return Err(OpenError::Memory);
     }
+    let is_alone = given.way == 2 || given.way == 5;
+    let version = finished(rt, alloc, opener, &given.keeps, is_alone)?;
+    owned::<O>(alloc, version, given.options)
 }
 
 /// The store of plain writes, or why it isn't opened.
@@ -138,24 +139,27 @@ fn opened_of_writes<O: Operator>(
     alloc: Global,
     given: Beginning<'_>,
     out: &mut Out,
-) -> Result<Result<Owned<O>, OpenError>, Halt> {
+) -> Result<Owned<O>, OpenError> {
     let (options, keeps, writes) = given.into_parts();
     let Some(writes) = Writes::of(writes) else {
-        return Err(Halt::Refused);
+        out.refuse();
+        return Err(OpenError::Memory);
     };
     out.watch.restart(clock);
     let opened = open_plain::<O>(alloc, &writes, &keeps, options);
     out.watch.stop(clock);
-    Ok(opened)
+    opened
 }
 
-/// The store that is given, or why it isn't opened. Writes how far its log was read, if it has one. The opening alone is clocked.
-pub(crate) fn opened<O: Operator>(
+/// What a store is opened from: the store, or why it isn't opened. Writes how far its log was read, if it has one. The opening alone is
+/// clocked. If the answer says already that there is none, the error doesn't count.
+pub(crate) fn open<O: Operator>(
     rt: &(impl Threads + Clock + Sync),
     alloc: Global,
-    given: Beginning<'_>,
+    call: &mut Input<'_>,
     out: &mut Out,
-) -> Result<Result<Owned<O>, OpenError>, Halt> {
+) -> Result<Owned<O>, OpenError> {
+    let given = given(alloc, call)?;
     out.watch.restart(rt);
     if given.way == 0 {
         opened_of_writes::<O>(rt, alloc, given, out)

@@ -2,16 +2,32 @@
 use crate::watch::Watch;
 use itoa::Buffer;
 use std::alloc::{AllocError, Global};
+use std::fmt::{Debug, Display};
 use uc_oper::Effect;
 
 /// How many bytes are reserved, so that most answers ask for no memory.
 const RESERVED: usize = 1 << 16;
 
-/// An answer, spelled as an `Input` is. Once memory ran out it is short, and takes nothing more.
+/// Why a call has no answer.
+#[derive(Clone, Copy)]
+pub(crate) enum Halt {
+    /// Memory ran out.
+    Memory,
+    /// It isn't a call, or it may not be made now.
+    Refused,
+}
+
+impl From<AllocError> for Halt {
+    fn from(_: AllocError) -> Halt {
+        Halt::Memory
+    }
+}
+
+/// An answer, spelled as an `Input` is. It remembers why there is none, so that a call needs no way out for each step.
 #[derive(Drop)]
 pub(crate) struct Out {
     bytes: Vec<u8>,
-    is_short: bool,
+    halt: Option<Halt>,
     /// The time of the call, if it is clocked.
     pub(crate) watch: Watch,
 }
@@ -21,7 +37,7 @@ impl Out {
     pub(crate) fn new(alloc: Global) -> Result<Out, AllocError> {
         Ok(Out {
             bytes: Vec::with_capacity(alloc, RESERVED)?,
-            is_short: false,
+            halt: None,
             watch: Watch::new(),
         })
     }
@@ -29,7 +45,7 @@ impl Out {
     /// Empties it.
     pub(crate) fn clear(&mut self) {
         self.bytes.clear();
-        self.is_short = false;
+        self.halt = None;
     }
 
     /// What was written.
@@ -37,15 +53,39 @@ impl Out {
         self.bytes.as_slice()
     }
 
-    /// Whether memory ran out.
-    pub(crate) fn is_short(&self) -> bool {
-        self.is_short
+    /// Why there is no answer, if there is none.
+    pub(crate) fn halt(&self) -> Option<Halt> {
+        self.halt
+    }
+
+    /// Records why there is no answer, unless a reason is known already.
+    pub(crate) fn stop(&mut self, halt: Halt) {
+        if self.halt.is_none() {
+            self.halt = Some(halt);
+        }
+    }
+
+    /// Records that memory ran out.
+    pub(crate) fn want(&mut self) {
+        self.stop(Halt::Memory);
+    }
+
+    /// Records that it isn't a call, or may not be made now.
+    pub(crate) fn refuse(&mut self) {
+        self.stop(Halt::Refused);
+    }
+
+    /// Records why a step failed, if it did.
+    pub(crate) fn end(&mut self, came: Result<(), Halt>) {
+        if let Err(halt) = came {
+            self.stop(halt);
+        }
     }
 
     /// Writes bytes as they are.
     fn push(&mut self, bytes: &[u8]) {
-        if !self.is_short && self.bytes.extend_from_slice(bytes).is_err() {
-            self.is_short = true;
+        if self.halt.is_none() && self.bytes.extend_from_slice(bytes).is_err() {
+            self.want();
         }
     }
 
@@ -73,6 +113,37 @@ impl Out {
         self.push(b" ");
     }
 
+    /// Records that memory ran out in a step, if it did.
+    pub(crate) fn done(&mut self, done: Result<(), AllocError>) {
+        if done.is_err() {
+            self.want();
+        }
+    }
+
+    /// Writes bytes that were made, or records that memory ran out.
+    pub(crate) fn made(&mut self, made: Result<Vec<u8>, AllocError>) {
+        match made {
+            Ok(bytes) => self.bytes(&bytes),
+            Err(_) => self.want(),
+        }
+    }
+
+    /// Writes the library's own text of an error.
+    pub(crate) fn text<E: Display>(&mut self, alloc: Global, error: &E) {
+        match format!(in alloc; "{error}") {
+            Ok(text) => self.bytes(text.as_bytes()),
+            Err(_) => self.want(),
+        }
+    }
+
+    /// Writes the library's own name of something.
+    pub(crate) fn name<E: Debug>(&mut self, alloc: Global, error: &E) {
+        match format!(in alloc; "{error:?}") {
+            Ok(name) => self.bytes(name.as_bytes()),
+            Err(_) => self.want(),
+        }
+    }
+
     /// Writes a flag, and bytes if there are any.
     pub(crate) fn some_bytes(&mut self, bytes: Option<&[u8]>) {
         self.flag(bytes.is_some());
@@ -86,6 +157,22 @@ impl Out {
         self.place(numbers.len());
         for number in numbers {
             self.number(*number);
+        }
+    }
+
+    /// Writes numbers that were made, or records that memory ran out.
+    pub(crate) fn made_numbers(&mut self, made: Result<Vec<u64>, AllocError>) {
+        match made {
+            Ok(numbers) => self.numbers(&numbers),
+            Err(_) => self.want(),
+        }
+    }
+
+    /// Writes an effect that was made, or records that memory ran out.
+    pub(crate) fn made_effect(&mut self, made: Result<Effect, AllocError>) {
+        match made {
+            Ok(effect) => self.effect(&effect),
+            Err(_) => self.want(),
         }
     }
 

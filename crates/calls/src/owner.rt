@@ -1,5 +1,5 @@
 //! [`Held`]: a claim of a store's runs, under a name.
-use crate::talk::Halt;
+use crate::out::Halt;
 use std::alloc::AllocError;
 use uc_compact::Compacted;
 use uc_oper::Operator;
@@ -29,6 +29,11 @@ impl<O: Operator> Drop for Held<O> {
 }
 
 impl<O: Operator> Held<O> {
+    /// This is what its runs were compacted to.
+    pub(crate) fn put_made(&mut self, made: Compacted<O>) {
+        self.made = Some(made);
+    }
+
     /// Its name, newest run, number of runs, claim, and what they were compacted to.
     pub(crate) fn into_parts(self) -> (u8, u64, usize, OwnedClaim, Option<Compacted<O>>) {
         let Held {

@@ -2,7 +2,7 @@
 ghost use Rattle.std.specs.Prelude.{◌≡◌, All, IfOk, IfSome};
 ghost use Rattle.std.proofs.Props.{props};
 
-use crate::talk::Halt;
+use crate::out::Halt;
 use std::alloc::{AllocError, Global};
 use uc_oper::Append;
 use uc_share::{Held, Name, Seat};

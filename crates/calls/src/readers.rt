@@ -1,8 +1,8 @@
 //! Calls of logs that are read step by step: from offsets, by readers, and in pieces; and of batches and logs that grow.
-use crate::formats::{ops, write_name, write_write};
+use crate::formats::write_write;
 use crate::input::Input;
 use crate::out::Out;
-use crate::talk::Halt;
+use crate::said;
 use std::alloc::{AllocError, Global};
 use uc_batch::{Advance, BatchReader, BatchWrites, PieceReader, Pieces, PushError, WriteBatch};
 use uc_bytes::{Op, OpRef};
@@ -12,85 +12,107 @@ use uc_logrec::{LogReader, Next, crc32c, extend, next_payload, payload_bytes};
 const BEFORE: &[u8] = b"of an earlier log";
 
 /// Writes what comes next in a log: a payload, one that was joined, or how the log ends. Returns whether it ends.
-fn write_next(
-    alloc: Global,
-    out: &mut Out,
-    next: Next<'_>,
-    joined: &[u8],
-) -> Result<bool, AllocError> {
+fn write_next(alloc: Global, out: &mut Out, next: Next<'_>, joined: &[u8]) -> bool {
     match next {
         Next::Whole(payload) => {
             out.number(0);
             out.bytes(payload);
-            Ok(false)
+            false
         }
         Next::Joined => {
             out.number(1);
             out.bytes(joined);
-            Ok(false)
+            false
         }
         Next::Ended(ending) => {
             out.number(2);
-            write_name(alloc, out, &ending)?;
-            Ok(true)
+            out.name(alloc, &ending);
+            true
         }
     }
 }
 
-/// Writes what comes at an offset, and the offset behind it, and so on from there, up to the end.
-fn write_walk(
+/// Writes what comes at an offset, and the offset behind it. Returns that, if the log goes on there.
+fn write_at(
     alloc: Global,
     out: &mut Out,
-    (log, joined): (&[u8], &mut Vec<u8>),
-    first: u64,
-) -> Result<(), Halt> {
+    log: &[u8],
+    joined: &mut Vec<u8>,
+    offset: u64,
+) -> Option<u64> {
+    match next_payload(log, offset, joined) {
+        Ok((next, behind)) => {
+            let is_ended = write_next(alloc, out, next, joined);
+            out.number(behind);
+            if is_ended { None } else { Some(behind) }
+        }
+        Err(_) => {
+            out.want();
+            None
+        }
+    }
+}
+
+/// An offset, and a log: what comes at the offset, and the offset behind it, and so on from there, up to the end.
+fn walk(alloc: Global, joined: &mut Vec<u8>, call: &mut Input<'_>, out: &mut Out) {
+    let (first, log) = (call.number(), call.bytes());
     let mut offset = first;
     for _ in 0..=log.len() {
-        let (next, behind) = next_payload(log, offset, joined)?;
-        let is_ended = write_next(alloc, out, next, joined)?;
-        out.number(behind);
-        if is_ended {
-            return Ok(());
+        match write_at(alloc, out, log, joined, offset) {
+            Some(behind) => offset = behind,
+            None => return,
         }
-        offset = behind;
     }
-    Err(Halt::Refused)
+    out.refuse();
 }
 
-/// An offset, and a log: a walk from there.
-fn walk(alloc: Global, call: &mut Input<'_>, out: &mut Out) -> Result<(), Halt> {
-    let (offset, log) = (call.number(), call.bytes());
-    let mut joined = Vec::from_slice(alloc, BEFORE)?;
-    write_walk(alloc, out, (log, &mut joined), offset)
-}
-
-/// Writes each payload and how many were read then, and the ending, which the reader gives twice.
-fn read_payloads(
+/// Writes what a reader reads, and how many payloads it has read then. Returns whether the log ends.
+fn write_payload(
     alloc: Global,
     out: &mut Out,
-    (reader, joined): (&mut LogReader<'_>, &mut Vec<u8>),
-    most: usize,
-) -> Result<(), Halt> {
-    for _ in 0..=most {
-        let next = reader.next(joined)?;
-        let is_ended = write_next(alloc, out, next, joined)?;
-        out.number(reader.payloads_read());
-        if is_ended {
-            let again = reader.next(joined)?;
-            write_next(alloc, out, again, joined)?;
+    reader: &mut LogReader<'_>,
+    joined: &mut Vec<u8>,
+) -> bool {
+    match reader.next(joined) {
+        Ok(next) => {
+            let is_ended = write_next(alloc, out, next, joined);
             out.number(reader.payloads_read());
-            return Ok(());
+            is_ended
+        }
+        Err(_) => {
+            out.want();
+            true
         }
     }
-    Err(Halt::Refused)
 }
 
-/// A log: its payloads by a reader.
-fn read_on(alloc: Global, call: &mut Input<'_>, out: &mut Out) -> Result<(), Halt> {
+/// A log: each payload by a reader and how many were read then, and the ending, which the reader gives twice.
+fn read_on(alloc: Global, joined: &mut Vec<u8>, call: &mut Input<'_>, out: &mut Out) {
     let log = call.bytes();
-    let mut joined = Vec::from_slice(alloc, BEFORE)?;
     let mut reader = LogReader::new(log);
-    read_payloads(alloc, out, (&mut reader, &mut joined), log.len())
+    for _ in 0..=log.len() {
+        if write_payload(alloc, out, &mut reader, joined) {
+            write_payload(alloc, out, &mut reader, joined);
+            return;
+        }
+    }
+    out.refuse();
+}
+
+/// Reads a log step by step, with a buffer that isn't empty: from an offset on, or by a reader.
+fn read_with(
+    alloc: Global,
+    is_walk: bool,
+    call: &mut Input<'_>,
+    out: &mut Out,
+) -> Result<(), AllocError> {
+    let mut joined = Vec::from_slice(alloc, BEFORE)?;
+    if is_walk {
+        walk(alloc, &mut joined, call, out);
+    } else {
+        read_on(alloc, &mut joined, call, out);
+    }
+    Ok(())
 }
 
 /// A reader of batches.
@@ -143,42 +165,44 @@ fn write_current<B: Batches>(out: &mut Out, batches: &B) {
     out.number(batches.last_used());
 }
 
-/// Goes to the next batch, and writes that or how the log ends. Returns whether it ends.
-fn write_step<B: Batches>(
-    alloc: Global,
-    out: &mut Out,
-    batches: &mut B,
-) -> Result<bool, AllocError> {
-    match batches.go_on()? {
+/// Writes the current batch, and how the log ends if it does. Returns whether it ends.
+fn write_advance<B: Batches>(alloc: Global, out: &mut Out, batches: &B, advance: &Advance) -> bool {
+    match advance {
         Advance::Batch => {
             out.flag(true);
             write_current(out, batches);
-            Ok(false)
+            false
         }
         Advance::Ended(ended) => {
             out.flag(false);
             write_current(out, batches);
-            write_name(alloc, out, &ended)?;
-            Ok(true)
+            out.name(alloc, ended);
+            true
+        }
+    }
+}
+
+/// Goes to the next batch, and writes that or how the log ends. Returns whether it ends.
+fn write_step<B: Batches>(alloc: Global, out: &mut Out, batches: &mut B) -> bool {
+    match batches.go_on() {
+        Ok(advance) => write_advance(alloc, out, batches, &advance),
+        Err(_) => {
+            out.want();
+            true
         }
     }
 }
 
 /// Writes all batches, and how the log ends, which the reader says twice.
-fn write_batches<B: Batches>(
-    alloc: Global,
-    out: &mut Out,
-    batches: &mut B,
-    most: usize,
-) -> Result<(), Halt> {
+fn write_batches<B: Batches>(alloc: Global, out: &mut Out, batches: &mut B, most: usize) {
     write_current(out, batches);
     for _ in 0..=most {
-        if write_step(alloc, out, batches)? {
-            write_step(alloc, out, batches)?;
-            return Ok(());
+        if write_step(alloc, out, batches) {
+            write_step(alloc, out, batches);
+            return;
         }
     }
-    Err(Halt::Refused)
+    out.refuse();
 }
 
 /// A log in pieces of a size; the first has what is left.
@@ -190,74 +214,79 @@ fn in_pieces(alloc: Global, log: &[u8], size: usize) -> Result<Pieces, AllocErro
     Ok(pieces)
 }
 
+/// A log: its batches.
+fn read_whole(alloc: Global, log: &[u8], out: &mut Out) {
+    let mut reader = BatchReader::new(alloc, log);
+    write_batches(alloc, out, &mut reader, log.len());
+}
+
+/// A log in pieces: its batches, at most so many.
+fn read_pieces(alloc: Global, pieces: Pieces, most: usize, out: &mut Out) {
+    let mut reader = PieceReader::new(alloc, pieces);
+    write_batches(alloc, out, &mut reader, most);
+}
+
 /// The size of pieces, or 0 for one piece, and a log: its batches.
-fn read_in(alloc: Global, call: &mut Input<'_>, out: &mut Out) -> Result<(), Halt> {
+fn read_in(alloc: Global, call: &mut Input<'_>, out: &mut Out) {
     let (size, log) = (call.place(), call.bytes());
     if size == 0 {
-        let mut reader = BatchReader::new(alloc, log);
-        return write_batches(alloc, out, &mut reader, log.len());
+        return read_whole(alloc, log, out);
     }
-    let mut reader = PieceReader::new(alloc, in_pieces(alloc, log, size)?);
-    write_batches(alloc, out, &mut reader, log.len())
+    match in_pieces(alloc, log, size) {
+        Ok(pieces) => read_pieces(alloc, pieces, log.len(), out),
+        Err(_) => out.want(),
+    }
 }
 
 /// Takes the first bytes of pieces.
-fn split(alloc: Global, pieces: &mut Pieces, size: usize, out: &mut Out) -> Result<(), Halt> {
+fn split(alloc: Global, pieces: &mut Pieces, size: usize, out: &mut Out) {
     if pieces.len() < size {
-        return Err(Halt::Refused);
+        out.refuse();
+    } else {
+        out.made(pieces.split_front(alloc, size));
     }
-    out.bytes(&pieces.split_front(alloc, size)?);
-    Ok(())
+}
+
+/// Adds bytes at the front of pieces.
+fn push_front(alloc: Global, pieces: &mut Pieces, bytes: &[u8]) -> Result<(), AllocError> {
+    pieces.push_front(Vec::from_slice(alloc, bytes)?)
 }
 
 /// A step with pieces: 0 adds bytes at the front, 1 at the back, 2 takes a number out.
-fn change(
-    alloc: Global,
-    pieces: &mut Pieces,
-    call: &mut Input<'_>,
-    out: &mut Out,
-) -> Result<(), Halt> {
+fn change(alloc: Global, pieces: &mut Pieces, call: &mut Input<'_>, out: &mut Out) {
     match call.number() {
-        0 => Ok(pieces.push_front(Vec::from_slice(alloc, call.bytes())?)?),
-        1 => Ok(pieces.push_bytes(alloc, call.bytes())?),
+        0 => out.done(push_front(alloc, pieces, call.bytes())),
+        1 => out.done(pieces.push_bytes(alloc, call.bytes())),
         _ => split(alloc, pieces, call.place(), out),
     }
 }
 
 /// A number of steps with pieces, and these.
-fn change_all(
-    alloc: Global,
-    pieces: &mut Pieces,
-    call: &mut Input<'_>,
-    out: &mut Out,
-) -> Result<(), Halt> {
+fn change_all(alloc: Global, pieces: &mut Pieces, call: &mut Input<'_>, out: &mut Out) {
     for _ in 0..call.number() {
         if call.is_short() {
             break;
         }
-        change(alloc, pieces, call, out)?;
+        change(alloc, pieces, call, out);
     }
-    Ok(())
 }
 
 /// Steps with pieces: what they take out, and then all the others.
-fn pieces(alloc: Global, call: &mut Input<'_>, out: &mut Out) -> Result<(), Halt> {
+fn pieces(alloc: Global, call: &mut Input<'_>, out: &mut Out) {
     let mut pieces = Pieces::new(alloc);
-    change_all(alloc, &mut pieces, call, out)?;
-    out.bytes(&pieces.into_vec(alloc)?);
-    Ok(())
+    change_all(alloc, &mut pieces, call, out);
+    out.made(pieces.into_vec(alloc));
 }
 
 /// Adds operations to a batch.
-fn push_all(batch: &mut WriteBatch, ops: &[Op]) -> Result<(), Halt> {
+fn push_all(batch: &mut WriteBatch, ops: &[Op], out: &mut Out) {
     for op in ops {
         match batch.push(&OpRef::of(op)) {
             Ok(()) => {}
-            Err(PushError::Memory) => return Err(Halt::Memory),
-            Err(_) => return Err(Halt::Refused),
+            Err(PushError::Memory) => return out.want(),
+            Err(_) => return out.refuse(),
         }
     }
-    Ok(())
 }
 
 /// Writes the bytes of a batch, how many operations it has, and whether it has none.
@@ -267,41 +296,44 @@ fn write_gathered(out: &mut Out, batch: &WriteBatch) {
     out.flag(batch.is_empty());
 }
 
-/// Operations: a batch that gathers them, after it had them once and was cleared.
-fn gather(alloc: Global, call: &mut Input<'_>, out: &mut Out) -> Result<(), Halt> {
-    let ops = ops(alloc, call)?;
-    let mut batch = WriteBatch::new(alloc)?;
-    push_all(&mut batch, &ops)?;
+/// Writes a batch that gathers operations, after it had them once and was cleared.
+fn gather_twice(batch: &mut WriteBatch, ops: &[Op], out: &mut Out) {
+    push_all(batch, ops, out);
     batch.clear();
-    write_gathered(out, &batch);
-    push_all(&mut batch, &ops)?;
-    write_gathered(out, &batch);
+    write_gathered(out, batch);
+    push_all(batch, ops, out);
+    write_gathered(out, batch);
+}
+
+/// Operations: a batch that gathers them.
+fn gather(alloc: Global, call: &mut Input<'_>, out: &mut Out) -> Result<(), AllocError> {
+    let ops = said::list::<Op>(alloc, call)?;
+    let mut batch = WriteBatch::new(alloc)?;
+    gather_twice(&mut batch, &ops, out);
     Ok(())
 }
 
+/// The beginning of a checksum's bytes, and the others: the checksum.
+fn sum_up(call: &mut Input<'_>, out: &mut Out) {
+    let (front, back) = (call.bytes(), call.bytes());
+    out.number(u64::from(extend(crc32c(front), back)));
+}
+
 /// Makes a call, whose kind was read.
-pub(crate) fn play(
-    alloc: Global,
-    kind: u64,
-    call: &mut Input<'_>,
-    out: &mut Out,
-) -> Result<(), Halt> {
+pub(crate) fn play(alloc: Global, kind: u64, call: &mut Input<'_>, out: &mut Out) {
     match kind {
-        66 => walk(alloc, call, out),
-        67 => read_on(alloc, call, out),
+        66 | 67 => {
+            let done = read_with(alloc, kind == 66, call, out);
+            out.done(done);
+        }
         68 => read_in(alloc, call, out),
-        69 => {
-            let (front, back) = (call.bytes(), call.bytes());
-            out.number(u64::from(extend(crc32c(front), back)));
-            Ok(())
-        }
-        70 => {
-            let (length, payload) = (call.number(), call.bytes());
-            out.bytes(&payload_bytes(alloc, length, payload)?);
-            Ok(())
-        }
+        69 => sum_up(call, out),
+        70 => out.made(payload_bytes(alloc, call.number(), call.bytes())),
         71 => pieces(alloc, call, out),
-        72 => gather(alloc, call, out),
-        _ => Err(Halt::Refused),
+        72 => {
+            let done = gather(alloc, call, out);
+            out.done(done);
+        }
+        _ => out.refuse(),
     }
 }

@@ -1,8 +1,7 @@
 //! Calls that read a run: its parts, lookups, searches, and a cursor.
 use crate::input::Input;
 use crate::out::Out;
-use crate::talk::Halt;
-use std::alloc::{AllocError, Global};
+use std::alloc::Global;
 use uc_oper::Operator;
 use uc_run::{Cursor, Run};
 use uc_run_entry::{Fragment, WhatRef};
@@ -40,11 +39,10 @@ fn write_points(out: &mut Out, points: &Points) {
 }
 
 /// Writes a fragment: its sequences and ends.
-fn write_fragment(alloc: Global, out: &mut Out, fragment: &Fragment) -> Result<(), AllocError> {
-    out.numbers(&fragment.seqs().to_vec(alloc)?);
+fn write_fragment(alloc: Global, out: &mut Out, fragment: &Fragment) {
+    out.made_numbers(fragment.seqs().to_vec(alloc));
     out.bytes(fragment.begin());
     out.bytes(fragment.end());
-    Ok(())
 }
 
 /// The run as a whole: the range of its sequences, its numbers of points, blocks and fragments, and its size.
@@ -58,25 +56,18 @@ pub(crate) fn sum_up(run: &Run, out: &mut Out) {
 }
 
 /// The run as a whole, its points and its fragments.
-pub(crate) fn show(alloc: Global, run: &Run, out: &mut Out) -> Result<(), Halt> {
+pub(crate) fn show(alloc: Global, run: &Run, out: &mut Out) {
     sum_up(run, out);
     write_points(out, run.entries());
     for fragment in run.fragments() {
-        write_fragment(alloc, out, fragment)?;
+        write_fragment(alloc, out, fragment);
     }
-    Ok(())
 }
 
 /// A key and a sequence: what the run's writes do to it.
-fn look_up<O: Operator>(
-    alloc: Global,
-    run: &Run,
-    call: &mut Input<'_>,
-    out: &mut Out,
-) -> Result<(), Halt> {
+fn look_up<O: Operator>(alloc: Global, run: &Run, call: &mut Input<'_>, out: &mut Out) {
     let (key, at) = (call.bytes(), call.number());
-    out.effect(&run.effect::<O>(alloc, key, at)?);
-    Ok(())
+    out.made_effect(run.effect::<O>(alloc, key, at));
 }
 
 /// A key: the places at or above it, and above it, and the keys there.
@@ -106,14 +97,13 @@ fn look_there<O: Operator>(
     cursor: &Cursor<'_>,
     call: &mut Input<'_>,
     out: &mut Out,
-) -> Result<(), Halt> {
+) {
     let (key, at) = (call.bytes(), call.number());
     if !cursor.is_before(key) {
-        return Err(Halt::Refused);
+        return out.refuse();
     }
-    out.effect(&cursor.effect::<O>(alloc, key, at)?);
+    out.made_effect(cursor.effect::<O>(alloc, key, at));
     out.some_bytes(cursor.hidden_to(key, at));
-    Ok(())
 }
 
 /// A step of a cursor: 0, 1 or 2 and a key, from which on it begins anew, which it seeks or passes; or 3, a key and a sequence, up to
@@ -124,7 +114,7 @@ fn step<'a, O: Operator>(
     cursor: &mut Cursor<'a>,
     call: &mut Input<'_>,
     out: &mut Out,
-) -> Result<(), Halt> {
+) {
     match call.number() {
         0 => *cursor = run.cursor(call.bytes()),
         1 => cursor.seek(call.bytes()),
@@ -133,27 +123,20 @@ fn step<'a, O: Operator>(
             let (key, at) = (call.bytes(), call.number());
             out.some_bytes(cursor.hidden_to(key, at));
         }
-        _ => look_there::<O>(alloc, cursor, call, out)?,
+        _ => look_there::<O>(alloc, cursor, call, out),
     }
     out.some_bytes(cursor.key());
-    Ok(())
 }
 
 /// A number of steps, and these.
-fn walk<O: Operator>(
-    alloc: Global,
-    run: &Run,
-    call: &mut Input<'_>,
-    out: &mut Out,
-) -> Result<(), Halt> {
+fn walk<O: Operator>(alloc: Global, run: &Run, call: &mut Input<'_>, out: &mut Out) {
     let mut cursor = run.cursor(b"");
     for _ in 0..call.number() {
         if call.is_short() {
             break;
         }
-        step::<O>(alloc, run, &mut cursor, call, out)?;
+        step::<O>(alloc, run, &mut cursor, call, out);
     }
-    Ok(())
 }
 
 /// Makes a call, whose kind and run were read.
@@ -163,16 +146,15 @@ pub(crate) fn play<O: Operator>(
     kind: u64,
     call: &mut Input<'_>,
     out: &mut Out,
-) -> Result<(), Halt> {
+) {
     match kind {
         30 => sum_up(run, out),
-        31 => show(alloc, run, out)?,
-        32 => look_up::<O>(alloc, run, call, out)?,
+        31 => show(alloc, run, out),
+        32 => look_up::<O>(alloc, run, call, out),
         33 => seek(run, call, out),
         34 => out.some_bytes(run.fence(call.number())),
         35 => point(run, call, out),
-        36 => walk::<O>(alloc, run, call, out)?,
-        _ => return Err(Halt::Refused),
+        36 => walk::<O>(alloc, run, call, out),
+        _ => out.refuse(),
     }
-    Ok(())
 }

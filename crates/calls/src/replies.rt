@@ -1,11 +1,10 @@
 //! Replies of a store of one owner, as answers have them.
-use crate::asked::write_answer;
+use crate::asked::write_answers;
 use crate::out::Out;
-use crate::versions::{write_error, write_stretch};
-use std::alloc::{AllocError, Global};
+use crate::versions::write_stretch;
+use std::alloc::Global;
 use std::fmt::Display;
 use uc_query::{Field, Figure, Reply, Report, RunLine, total_fields};
-use uc_query_read::Answer;
 use uc_version::ReleaseError;
 
 /// Writes fields: of each its name, how many numbers it has, and these.
@@ -38,14 +37,6 @@ fn write_report(out: &mut Out, report: &Report) {
     out.number(report.last);
 }
 
-/// Writes answers.
-fn write_answers(out: &mut Out, answers: &[Answer]) {
-    out.place(answers.len());
-    for answer in answers {
-        write_answer(out, answer);
-    }
-}
-
 /// Writes a kind, and a number.
 fn write_numbered(out: &mut Out, kind: u64, number: u64) {
     out.number(kind);
@@ -53,24 +44,19 @@ fn write_numbered(out: &mut Out, kind: u64, number: u64) {
 }
 
 /// Writes a kind, and the library's own text of an error.
-pub(crate) fn write_refused<E: Display>(
-    alloc: Global,
-    out: &mut Out,
-    kind: u64,
-    error: &E,
-) -> Result<(), AllocError> {
+pub(crate) fn write_refused<E: Display>(alloc: Global, out: &mut Out, kind: u64, error: &E) {
     out.number(kind);
-    write_error(alloc, out, error)
+    out.text(alloc, error);
 }
 
 /// Writes a reply that tells of queries, feeds or snapshots.
-fn write_other(alloc: Global, out: &mut Out, reply: &Reply) -> Result<(), AllocError> {
+fn write_other(alloc: Global, out: &mut Out, reply: &Reply) {
     match reply {
         Reply::Fed(count) => write_numbered(out, 11, *count),
-        Reply::NotFed(error) => write_refused(alloc, out, 12, error)?,
+        Reply::NotFed(error) => write_refused(alloc, out, 12, error),
         Reply::Kept(seq) => write_numbered(out, 13, *seq),
         Reply::Released(seq) => write_numbered(out, 14, *seq),
-        Reply::NotReleased(seq) => write_refused(alloc, out, 15, &ReleaseError::NotKept(*seq))?,
+        Reply::NotReleased(seq) => write_refused(alloc, out, 15, &ReleaseError::NotKept(*seq)),
         Reply::Reported(report) => {
             out.number(9);
             write_report(out, report);
@@ -81,16 +67,15 @@ fn write_other(alloc: Global, out: &mut Out, reply: &Reply) -> Result<(), AllocE
         }
         _ => out.number(99),
     }
-    Ok(())
 }
 
 /// Writes a reply: its kind, and what it tells.
-pub(crate) fn write_reply(alloc: Global, out: &mut Out, reply: &Reply) -> Result<(), AllocError> {
+pub(crate) fn write_reply(alloc: Global, out: &mut Out, reply: &Reply) {
     match reply {
         Reply::Claimed(name) => write_numbered(out, 0, u64::from(*name)),
-        Reply::Refused(error) => write_refused(alloc, out, 1, error)?,
+        Reply::Refused(error) => write_refused(alloc, out, 1, error),
         Reply::Installed(id) => write_numbered(out, 2, *id),
-        Reply::NotInstalled(error) => write_refused(alloc, out, 3, error)?,
+        Reply::NotInstalled(error) => write_refused(alloc, out, 3, error),
         Reply::Abandoned(name) => write_numbered(out, 4, u64::from(*name)),
         Reply::NoClaim(name) => write_numbered(out, 5, u64::from(*name)),
         Reply::NameHeld(name) => write_numbered(out, 6, u64::from(*name)),
@@ -99,7 +84,14 @@ pub(crate) fn write_reply(alloc: Global, out: &mut Out, reply: &Reply) -> Result
             out.number(8);
             write_stretch(out, *picked);
         }
-        other => write_other(alloc, out, other)?,
+        other => write_other(alloc, out, other),
     }
-    Ok(())
+}
+
+/// Writes replies.
+pub(crate) fn write_replies(alloc: Global, out: &mut Out, replies: &[Reply]) {
+    out.place(replies.len());
+    for reply in replies {
+        write_reply(alloc, out, reply);
+    }
 }

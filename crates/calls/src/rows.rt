@@ -1,7 +1,6 @@
 //! Calls of rows in one buffer.
 use crate::input::Input;
 use crate::out::Out;
-use crate::talk::Halt;
 use std::alloc::{AllocError, Global};
 use uc_rows::{RowBuffer, RowIter, Rows, push_text};
 
@@ -48,9 +47,18 @@ fn walk(rows: &Rows, call: &mut Input<'_>, out: &mut Out) {
 }
 
 /// Rows, and what `walk` takes: their number, whether their keys rise, and what `walk` says then.
-pub(crate) fn gather(alloc: Global, call: &mut Input<'_>, out: &mut Out) -> Result<(), Halt> {
-    let buffer = rows(alloc, call)?;
-    out.place(buffer.len());
+pub(crate) fn gather(alloc: Global, call: &mut Input<'_>, out: &mut Out) {
+    match rows(alloc, call) {
+        Ok(buffer) => {
+            out.place(buffer.len());
+            look(buffer, call, out);
+        }
+        Err(_) => out.want(),
+    }
+}
+
+/// Writes whether keys rise, and what `walk` says then.
+fn look(buffer: RowBuffer, call: &mut Input<'_>, out: &mut Out) {
     match Rows::of(buffer) {
         Some(rows) => {
             out.flag(true);
@@ -58,13 +66,16 @@ pub(crate) fn gather(alloc: Global, call: &mut Input<'_>, out: &mut Out) -> Resu
         }
         None => out.flag(false),
     }
-    Ok(())
 }
 
 /// A text: its bytes with its length before it.
-pub(crate) fn spell(alloc: Global, call: &mut Input<'_>, out: &mut Out) -> Result<(), Halt> {
+fn spelled(alloc: Global, text: &[u8]) -> Result<Vec<u8>, AllocError> {
     let mut bytes = Vec::new(alloc);
-    push_text(&mut bytes, call.bytes())?;
-    out.bytes(&bytes);
-    Ok(())
+    push_text(&mut bytes, text)?;
+    Ok(bytes)
+}
+
+/// A text: its bytes with its length before it.
+pub(crate) fn spell(alloc: Global, call: &mut Input<'_>, out: &mut Out) {
+    out.made(spelled(alloc, call.bytes()));
 }

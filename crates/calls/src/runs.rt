@@ -1,15 +1,12 @@
 //! Calls of a memtable and of runs: where writes are inserted, and the tables that they become.
-ghost use Rattle.std.specs.Prelude.{◌≢◌, []};
-
 use crate::built::built;
 use crate::input::Input;
-use crate::out::Out;
-use crate::said;
-use crate::talk::Halt;
+use crate::out::{Halt, Out};
+use crate::said::{self, Spelled};
 use std::alloc::{AllocError, Global};
 use std::mem;
 use std::sync::Arc;
-use uc_bytes::{MAX_SEQUENCE, WriteRef};
+use uc_bytes::{MAX_SEQUENCE, Write, WriteRef};
 use uc_run::{Memtable, Run};
 
 /// A memtable, the run that was made last, and runs that are kept at numbers.
@@ -59,100 +56,85 @@ impl Shelf {
         Ok(())
     }
 
-    /// Makes this the run that was made last.
-    pub(crate) fn make(&mut self, run: Run) {
-        self.made = Some(run);
-    }
-
     /// Empties the memtable.
     fn renew(&mut self, alloc: Global) {
         self.memtable = Memtable::new(alloc);
     }
 
     /// Makes a run of the memtable, which is empty then.
-    fn flush(&mut self, alloc: Global) -> Result<(), Halt> {
+    fn flush(&mut self, alloc: Global, out: &mut Out) {
         if self.memtable.is_empty() {
-            return Err(Halt::Refused);
+            return out.refuse();
         }
         let memtable = mem::replace(&mut self.memtable, Memtable::new(alloc));
-        match flushed(alloc, memtable) {
+        match memtable.flush(alloc) {
             Ok(run) => self.made = Some(run),
-            Err(memtable) => {
+            Err((memtable, _)) => {
                 self.memtable = memtable;
-                return Err(Halt::Memory);
+                out.want();
             }
         }
-        Ok(())
     }
 
     /// The number of a run: keeps the one that was made last there.
-    fn keep_made(&mut self, alloc: Global, call: &mut Input<'_>) -> Result<(), Halt> {
+    fn keep_made(&mut self, alloc: Global, call: &mut Input<'_>, out: &mut Out) {
         match mem::replace(&mut self.made, None) {
-            Some(run) => Ok(self.keep(call.place(), shared(alloc, run)?)?),
-            None => Err(Halt::Refused),
+            Some(run) => out.done(self.keep_shared(alloc, call.place(), run)),
+            None => out.refuse(),
         }
     }
 
-    /// Points and fragments: makes their run.
-    fn build(&mut self, alloc: Global, call: &mut Input<'_>) -> Result<(), Halt> {
-        self.made = Some(built(alloc, call)?);
-        Ok(())
+    /// Keeps a run at a number.
+    fn keep_shared(&mut self, alloc: Global, number: usize, run: Run) -> Result<(), AllocError> {
+        self.keep(number, Arc::new(alloc, run)?)
     }
-}
 
-/// A run that may be shared.
-fn shared(alloc: Global, run: Run) -> Result<Arc<Run>, AllocError> {
-    Ok(Arc::new(alloc, run)?)
-}
-
-/// The run of a memtable that isn't empty, or the memtable again if memory ran out.
-fn flushed(alloc: Global, memtable: Memtable) -> Result<Run, Memtable>
-    requires { memtable ≢ [] }
-{
-    match memtable.flush(alloc) {
-        Ok(run) => Ok(run),
-        Err((memtable, _)) => Err(memtable),
+    /// Makes this the run that was made last, if it was made.
+    pub(crate) fn make(&mut self, made: Result<Run, Halt>, out: &mut Out) {
+        match made {
+            Ok(run) => self.made = Some(run),
+            Err(halt) => out.stop(halt),
+        }
     }
-}
-
-/// How a write is inserted: 1 if it owns its texts. Then the write: the memtable's size and last sequence, and whether it is empty.
-fn insert(
-    alloc: Global,
-    memtable: &mut Memtable,
-    call: &mut Input<'_>,
-    out: &mut Out,
-) -> Result<(), Halt> {
-    let owns = call.flag();
-    let write = said::write(call);
-    if write.seq() <= memtable.last() || MAX_SEQUENCE < write.seq() {
-        return Err(Halt::Refused);
-    }
-    if owns {
-        memtable.insert(&write.to_write(alloc)?)?;
-    } else {
-        memtable.insert_ref(&write)?;
-    }
-    look(memtable, out);
-    Ok(())
 }
 
 /// Inserts a write after all others.
-fn insert_next(memtable: &mut Memtable, write: &WriteRef<'_>) -> Result<(), Halt> {
+fn insert_next(memtable: &mut Memtable, write: &WriteRef<'_>, out: &mut Out) {
     if write.seq() <= memtable.last() || MAX_SEQUENCE < write.seq() {
-        return Err(Halt::Refused);
+        return out.refuse();
     }
-    Ok(memtable.insert_ref(write)?)
+    out.done(memtable.insert_ref(write));
 }
 
-/// A number of writes, and these: inserts them all.
-fn insert_all(memtable: &mut Memtable, call: &mut Input<'_>) -> Result<(), Halt> {
+/// Inserts a write of texts that it owns after all others.
+fn insert_owned(memtable: &mut Memtable, write: &Write, out: &mut Out) {
+    if write.seq <= memtable.last() || MAX_SEQUENCE < write.seq {
+        return out.refuse();
+    }
+    out.done(memtable.insert(write));
+}
+
+/// How a write is inserted: 1 if it owns its texts. Then the write: the memtable's size and last sequence, and whether it is empty.
+fn insert(alloc: Global, memtable: &mut Memtable, call: &mut Input<'_>, out: &mut Out) {
+    if call.flag() {
+        match Write::read(alloc, call) {
+            Ok(write) => insert_owned(memtable, &write, out),
+            Err(_) => out.want(),
+        }
+    } else {
+        insert_next(memtable, &said::write(call), out);
+    }
+    look(memtable, out);
+}
+
+/// A number of writes, and these: inserts them all, up to one that is refused.
+fn insert_all(memtable: &mut Memtable, call: &mut Input<'_>, out: &mut Out) {
     for _ in 0..call.number() {
-        if call.is_short() {
+        if call.is_short() || out.halt().is_some() {
             break;
         }
-        insert_next(memtable, &said::write(call))?;
+        insert_next(memtable, &said::write(call), out);
     }
-    Ok(())
 }
 
 /// The memtable's size and last sequence, and whether it is empty.
@@ -169,21 +151,15 @@ pub(crate) fn play(
     kind: u64,
     call: &mut Input<'_>,
     out: &mut Out,
-) -> Result<(), Halt> {
+) {
     match kind {
-        20 => {
-            shelf.renew(alloc);
-            Ok(())
-        }
+        20 => shelf.renew(alloc),
         21 => insert(alloc, &mut shelf.memtable, call, out),
-        22 => {
-            look(&shelf.memtable, out);
-            Ok(())
-        }
-        23 => shelf.flush(alloc),
-        24 => shelf.build(alloc, call),
-        25 => shelf.keep_made(alloc, call),
-        26 => insert_all(&mut shelf.memtable, call),
-        _ => Err(Halt::Refused),
+        22 => look(&shelf.memtable, out),
+        23 => shelf.flush(alloc, out),
+        24 => shelf.make(built(alloc, call), out),
+        25 => shelf.keep_made(alloc, call, out),
+        26 => insert_all(&mut shelf.memtable, call, out),
+        _ => out.refuse(),
     }
 }

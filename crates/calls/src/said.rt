@@ -1,7 +1,9 @@
 //! Changes, writes, effects and points, as calls spell them.
 use crate::input::Input;
+use crate::out::Out;
 use std::alloc::{AllocError, Global};
-use uc_bytes::{Bytes, OpRef, Write, WriteRef};
+use uc_batch::Writes;
+use uc_bytes::{Bytes, Op, OpRef, Write, WriteRef};
 use uc_oper::Effect;
 use uc_run_entry::WhatRef;
 
@@ -22,16 +24,63 @@ pub(crate) fn write<'a>(call: &mut Input<'a>) -> WriteRef<'a> {
     WriteRef::new(seq, op(call))
 }
 
-/// A number of writes, and these.
-pub(crate) fn writes(alloc: Global, call: &mut Input<'_>) -> Result<Vec<Write>, AllocError> {
-    let mut writes = Vec::new(alloc);
+/// What a call may have any number of.
+pub(crate) trait Spelled: Drop {
+    /// Reads one.
+    fn read(alloc: Global, call: &mut Input<'_>) -> Result<Self, AllocError>;
+}
+
+/// A number, and as many of these.
+pub(crate) fn list<T: Spelled>(alloc: Global, call: &mut Input<'_>) -> Result<Vec<T>, AllocError> {
+    let mut list = Vec::new(alloc);
     for _ in 0..call.number() {
         if call.is_short() {
             break;
         }
-        writes.push(write(call).to_write(alloc)?)?;
+        list.push(T::read(alloc, call)?)?;
     }
-    Ok(writes)
+    Ok(list)
+}
+
+/// A number of writes that rise, and these. If there are none, there is no answer.
+pub(crate) fn rising(alloc: Global, call: &mut Input<'_>, out: &mut Out) -> Option<Writes> {
+    match list::<Write>(alloc, call) {
+        Ok(writes) => {
+            let rising = Writes::of(writes);
+            if rising.is_none() {
+                out.refuse();
+            }
+            rising
+        }
+        Err(_) => {
+            out.want();
+            None
+        }
+    }
+}
+
+impl Spelled for usize {
+    fn read(_: Global, call: &mut Input<'_>) -> Result<usize, AllocError> {
+        Ok(call.place())
+    }
+}
+
+impl Spelled for Write {
+    fn read(alloc: Global, call: &mut Input<'_>) -> Result<Write, AllocError> {
+        write(call).to_write(alloc)
+    }
+}
+
+impl Spelled for Effect {
+    fn read(alloc: Global, call: &mut Input<'_>) -> Result<Effect, AllocError> {
+        effect(alloc, call)
+    }
+}
+
+impl Spelled for Op {
+    fn read(alloc: Global, call: &mut Input<'_>) -> Result<Op, AllocError> {
+        op(call).to_op(alloc)
+    }
 }
 
 /// What a point says of its key, if it is a put, a delete or a merge.

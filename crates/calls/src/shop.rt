@@ -1,13 +1,11 @@
 //! [`Shop`]: what calls of a store of one owner work with.
-use crate::beginning::given;
 use crate::input::Input;
 use crate::installs::Workers;
-use crate::opening;
 use crate::out::Out;
 use crate::owner::Held;
 use crate::steps::step;
-use crate::talk::{Halt, Talk};
-use crate::versions::{self, write_error};
+use crate::talk::Talk;
+use crate::{opening, versions};
 use std::alloc::Global;
 use std::io;
 use std::marker::Sync;
@@ -43,6 +41,15 @@ pub(crate) fn workers(call: &mut Input<'_>) -> Workers {
     }
 }
 
+impl<O: Operator> Shop<O> {
+    /// It has another store, with no claims.
+    fn renew(&mut self, store: Owned<O>, workers: Workers) {
+        self.store = Some(store);
+        self.claims.clear();
+        self.workers = workers;
+    }
+}
+
 /// Who works for a store, and what it is opened from. Writes whether it is opened, or why it isn't.
 fn open<O: Operator>(
     rt: &(impl Threads + Clock + Sync),
@@ -50,32 +57,44 @@ fn open<O: Operator>(
     shop: &mut Shop<O>,
     call: &mut Input<'_>,
     out: &mut Out,
-) -> Result<(), Halt> {
+) {
     let workers = workers(call);
-    let given = given(alloc, call)?;
-    match opening::opened::<O>(rt, alloc, given, out)? {
+    match opening::open::<O>(rt, alloc, call, out) {
         Ok(store) => {
-            shop.store = Some(store);
-            shop.claims.clear();
-            shop.workers = workers;
+            shop.renew(store, workers);
             out.flag(true);
-            Ok(())
         }
-        Err(OpenError::Memory) => Err(Halt::Memory),
+        Err(OpenError::Memory) => out.want(),
         Err(error) => {
             out.flag(false);
-            Ok(write_error(alloc, out, &error)?)
+            out.text(alloc, &error);
         }
     }
 }
 
 /// The texts of errors that no store comes to.
-fn write_errors(alloc: Global, out: &mut Out) -> Result<(), Halt> {
-    write_error(alloc, out, &OpenError::BadCount)?;
-    write_error(alloc, out, &OpenError::Memory)?;
-    write_error(alloc, out, &CompactError::NotClaimed(ClaimError::Busy(3)))?;
-    write_error(alloc, out, &CompactError::IdsSpent)?;
-    Ok(write_error(alloc, out, &CompactError::Memory)?)
+fn write_errors(alloc: Global, out: &mut Out) {
+    out.text(alloc, &OpenError::BadCount);
+    out.text(alloc, &OpenError::Memory);
+    out.text(alloc, &CompactError::NotClaimed(ClaimError::Busy(3)));
+    out.text(alloc, &CompactError::IdsSpent);
+    out.text(alloc, &CompactError::Memory);
+}
+
+/// Makes a call of the store, if there is one.
+fn play_store<O: Operator + Sync>(
+    rt: &(impl Threads + Clock + Sync),
+    alloc: Global,
+    shop: &mut Shop<O>,
+    kind: u64,
+    call: &mut Input<'_>,
+    out: &mut Out,
+) {
+    let terms = (kind, shop.workers);
+    match &mut shop.store {
+        Some(store) => step(rt, alloc, store, &mut shop.claims, terms, call, out),
+        None => out.refuse(),
+    }
 }
 
 /// Makes a call.
@@ -85,25 +104,13 @@ fn play<O: Operator + Sync>(
     shop: &mut Shop<O>,
     call: &mut Input<'_>,
     out: &mut Out,
-) -> Result<(), Halt> {
+) {
     let kind = call.number();
     match kind {
-        0 => return open(rt, alloc, shop, call, out),
-        20 => return versions::pick(alloc, call, out),
-        23 => return write_errors(alloc, out),
-        _ => {}
-    }
-    match &mut shop.store {
-        Some(store) => step(
-            rt,
-            alloc,
-            store,
-            &mut shop.claims,
-            (kind, shop.workers),
-            call,
-            out,
-        ),
-        None => Err(Halt::Refused),
+        0 => open(rt, alloc, shop, call, out),
+        20 => versions::pick(alloc, call, out),
+        23 => write_errors(alloc, out),
+        _ => play_store(rt, alloc, shop, kind, call, out),
     }
 }
 
@@ -118,8 +125,8 @@ fn play_at<O: Operator + Sync>(
         let Some(mut call) = talk.next(rt, alloc) else {
             break;
         };
-        let made = play(rt, alloc, shop, &mut call, talk.answer());
-        talk.end(rt, alloc, call, made)?;
+        play(rt, alloc, shop, &mut call, talk.answer());
+        talk.end(rt, alloc, call)?;
     }
     Ok(())
 }

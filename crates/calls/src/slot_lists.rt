@@ -2,8 +2,6 @@
 ghost use Rattle.std.specs.Prelude.{◌<◌, IsTrue, All, Contains};
 ghost use Rattle.uc_claims.specs.Holding.{AreDistinct};
 
-use crate::input::Input;
-use std::alloc::{AllocError, Global};
 use uc_claims::HeldSlots;
 
 /// Whether no slot is in the list twice.
@@ -33,16 +31,4 @@ pub(crate) fn holds_all(held: &HeldSlots, slots: &[usize]) -> bool
         }
     }
     true
-}
-
-/// A number of slots, and these.
-pub(crate) fn slots_in(alloc: Global, call: &mut Input<'_>) -> Result<Vec<usize>, AllocError> {
-    let mut slots = Vec::new(alloc);
-    for _ in 0..call.number() {
-        if call.is_short() {
-            break;
-        }
-        slots.push(call.place())?;
-    }
-    Ok(slots)
 }

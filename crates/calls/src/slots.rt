@@ -2,10 +2,10 @@
 ghost use Rattle.std.specs.Prelude.{◌≡◌, IfOk};
 
 use crate::input::Input;
-use crate::out::Out;
-use crate::slot_lists::{are_below, are_distinct, holds_all, slots_in};
-use crate::talk::{Halt, Talk};
-use crate::versions::write_error;
+use crate::out::{Halt, Out};
+use crate::said;
+use crate::slot_lists::{are_below, are_distinct, holds_all};
+use crate::talk::Talk;
 use std::alloc::Global;
 use std::io;
 use std::time::Clock;
@@ -19,35 +19,33 @@ fn take(
     slots: &[usize],
     count: usize,
     out: &mut Out,
-) -> Result<(), Halt>
+)
     requires table { held.old.table ≡ table.now.table }
     requires count { table.now.count ≡ count }
     ensures { held.new.table ≡ table.now.table }
 {
     if !are_distinct(slots) || !are_below(slots, count) {
-        return Err(Halt::Refused);
+        return out.refuse();
     }
     match table.take_more_in_place(held, slots) {
         Ok(()) => out.flag(true),
         Err(busy) => {
             out.flag(false);
             out.place(busy.0);
-            write_error(alloc, out, &busy)?;
+            out.text(alloc, &busy);
         }
     }
-    Ok(())
 }
 
 /// Slots that are held: gives them back.
-fn give(table: &ClaimTable, held: &mut HeldSlots, slots: &[usize]) -> Result<(), Halt>
+fn give(table: &ClaimTable, held: &mut HeldSlots, slots: &[usize], out: &mut Out)
     requires table { held.old.table ≡ table.now.table }
     ensures { held.new.table ≡ table.now.table }
 {
     if !are_distinct(slots) || !holds_all(held, slots) {
-        return Err(Halt::Refused);
+        return out.refuse();
     }
     table.give_some_in_place(held, slots);
-    Ok(())
 }
 
 /// Writes which slots a seat holds, and one more than there are.
@@ -63,26 +61,51 @@ fn play(
     table: &ClaimTable,
     held: &mut HeldSlots,
     kind: u64,
+    slots: &[usize],
     count: usize,
-    call: &mut Input<'_>,
     out: &mut Out,
-) -> Result<(), Halt>
+)
     requires table { held.old.table ≡ table.now.table }
     requires count { table.now.count ≡ count }
     ensures { held.new.table ≡ table.now.table }
 {
-    let slots = slots_in(alloc, call)?;
     match kind {
-        0 => take(alloc, table, held, &slots, count, out),
-        1 => give(table, held, &slots),
-        _ => {
-            look(held, count, out);
-            Ok(())
-        }
+        0 => take(alloc, table, held, slots, count, out),
+        1 => give(table, held, slots, out),
+        _ => look(held, count, out),
     }
 }
 
-/// Makes all calls. Each begins with a kind, and 1 if the second seat makes it.
+/// Makes a call. It begins with a kind, and 1 if the second seat makes it, and has slots then.
+fn play_one(
+    alloc: Global,
+    table: &ClaimTable,
+    one: &mut HeldSlots,
+    other: &mut HeldSlots,
+    count: usize,
+    call: &mut Input<'_>,
+    out: &mut Out,
+)
+    requires one { one.old.table ≡ table.now.table }
+    requires other { other.old.table ≡ table.now.table }
+    requires count { table.now.count ≡ count }
+    ensures one { one.new.table ≡ table.now.table }
+    ensures other { other.new.table ≡ table.now.table }
+{
+    let (kind, is_second) = (call.number(), call.flag());
+    match said::list::<usize>(alloc, call) {
+        Ok(slots) => {
+            if is_second {
+                play(alloc, table, other, kind, &slots, count, out);
+            } else {
+                play(alloc, table, one, kind, &slots, count, out);
+            }
+        }
+        Err(_) => out.want(),
+    }
+}
+
+/// Makes all calls.
 fn play_at(
     rt: &(impl Clock + Print),
     alloc: Global,
@@ -102,13 +125,8 @@ fn play_at(
         let Some(mut call) = talk.next(rt, alloc) else {
             break;
         };
-        let (kind, is_second) = (call.number(), call.flag());
-        let made = if is_second {
-            play(alloc, table, other, kind, count, &mut call, talk.answer())
-        } else {
-            play(alloc, table, one, kind, count, &mut call, talk.answer())
-        };
-        talk.end(rt, alloc, call, made)?;
+        play_one(alloc, table, one, other, count, &mut call, talk.answer());
+        talk.end(rt, alloc, call)?;
     }
     Ok(())
 }
@@ -148,7 +166,7 @@ fn play_table(
     let played = play_at(rt, alloc, &table, &mut one, &mut other, count, talk);
     talk.answer().clear();
     close(table, one, other, count, talk.answer());
-    talk.end(rt, alloc, Input::new(&[]), Ok(()))?;
+    talk.end(rt, alloc, Input::new(&[]))?;
     played
 }
 
@@ -182,10 +200,13 @@ pub(crate) fn play_all(
         let count = call.place();
         match open(alloc, count) {
             Ok((table, one, other)) => {
-                talk.end(rt, alloc, call, Ok(()))?;
+                talk.end(rt, alloc, call)?;
                 return play_table(rt, alloc, table, one, other, count, talk);
             }
-            Err(halt) => talk.end(rt, alloc, call, Err(halt))?,
+            Err(halt) => {
+                talk.answer().stop(halt);
+                talk.end(rt, alloc, call)?;
+            }
         }
     }
     Ok(())

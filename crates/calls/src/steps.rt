@@ -1,14 +1,13 @@
 //! Calls of a store of one owner.
 use crate::input::Input;
 use crate::installs::{Workers, compact, install, make, make_under, settle};
-use crate::lists::{self, name, rising};
-use crate::out::Out;
+use crate::lists::{self, name};
+use crate::out::{Halt, Out};
 use crate::owner::{Held, abandon, claim, held_under};
 use crate::replies::write_reply;
-use crate::shop;
 use crate::store_reads::{answer, apart, ask, merge};
-use crate::talk::Halt;
 use crate::versions::{self, stretch};
+use crate::{said, shop};
 use std::alloc::Global;
 use std::marker::Sync;
 use std::thread::Threads;
@@ -32,6 +31,15 @@ fn fed<O: Operator>(
     }
 }
 
+/// The reply to a feed.
+fn reply_to(fed: Result<u64, FeedError>) -> Result<Reply, Halt> {
+    match fed {
+        Ok(count) => Ok(Reply::Fed(count)),
+        Err(FeedError::Memory) => Err(Halt::Memory),
+        Err(error) => Ok(Reply::NotFed(error)),
+    }
+}
+
 /// Feeds writes. The feeding alone is clocked.
 fn feed<O: Operator>(
     rt: &(impl Threads + Clock + Sync),
@@ -40,15 +48,12 @@ fn feed<O: Operator>(
     workers: Workers,
     call: &mut Input<'_>,
     out: &mut Out,
-) -> Result<Reply, Halt> {
-    let writes = rising(alloc, call)?;
-    out.watch.restart(rt);
-    let outcome = fed(rt, alloc, store, &writes, workers);
-    out.watch.stop(rt);
-    match outcome {
-        Ok(count) => Ok(Reply::Fed(count)),
-        Err(FeedError::Memory) => Err(Halt::Memory),
-        Err(error) => Ok(Reply::NotFed(error)),
+) {
+    if let Some(writes) = said::rising(alloc, call, out) {
+        out.watch.restart(rt);
+        let outcome = fed(rt, alloc, store, &writes, workers);
+        out.watch.stop(rt);
+        say(alloc, out, &reply_to(outcome));
     }
 }
 
@@ -57,6 +62,14 @@ fn release<O: Operator>(store: &mut Owned<O>, seq: u64) -> Reply {
     match store.release(seq) {
         Ok(()) => Reply::Released(seq),
         Err(_) => Reply::NotReleased(seq),
+    }
+}
+
+/// Writes a reply, if there is one.
+fn say(alloc: Global, out: &mut Out, reply: &Result<Reply, Halt>) {
+    match reply {
+        Ok(reply) => write_reply(alloc, out, reply),
+        Err(halt) => out.stop(*halt),
     }
 }
 
@@ -100,30 +113,87 @@ fn make_one<O: Operator + Sync>(
     rt: &(impl Threads + Sync),
     alloc: Global,
     store: &Owned<O>,
-    claims: &mut Vec<Held<O>>,
-    (name, workers): (u8, Workers),
+    held: &mut Held<O>,
+    workers: Workers,
     call: &mut Input<'_>,
 ) -> Result<(), Halt> {
     if !call.flag() {
-        return make(rt, alloc, store, claims, (name, workers));
+        return make(rt, alloc, store, held, workers);
     }
     let keeps = call.numbers(alloc)?;
-    make_under(
-        rt,
-        alloc,
-        store,
-        held_under(claims, name)?,
-        (&keeps, call.flag()),
-    )
+    make_under(rt, alloc, store, held, (&keeps, call.flag()))
+}
+
+/// A name: makes a call of the claim that is held under it. Its runs are compacted (4), or it says its number (16), or is told apart
+/// from a claim of another store (17).
+fn play_claim<O: Operator + Sync>(
+    rt: &(impl Threads + Clock + Sync),
+    alloc: Global,
+    store: &Owned<O>,
+    claims: &mut Vec<Held<O>>,
+    (kind, workers): (u64, Workers),
+    call: &mut Input<'_>,
+    out: &mut Out,
+) {
+    match held_under(claims, name(call)) {
+        Ok(held) => match kind {
+            4 => out.end(make_one(rt, alloc, store, held, workers, call)),
+            16 => out.place(held.claim.number()),
+            _ => apart(rt, alloc, store, &held.claim, call, out),
+        },
+        Err(halt) => out.stop(halt),
+    }
 }
 
 /// Whether the run with a slot is claimed.
-fn busy<O: Operator>(store: &Owned<O>, slot: usize, out: &mut Out) -> Result<(), Halt> {
-    if slot >= MOST_SLOTS {
-        return Err(Halt::Refused);
+fn busy<O: Operator>(store: &Owned<O>, slot: usize, out: &mut Out) {
+    if slot < MOST_SLOTS {
+        out.flag(store.busy(slot));
+    } else {
+        out.refuse();
     }
-    out.flag(store.busy(slot));
-    Ok(())
+}
+
+/// Writes how many compactions there were.
+fn write_settled(out: &mut Out, settled: Result<u64, Halt>) {
+    match settled {
+        Ok(count) => out.number(count),
+        Err(halt) => out.stop(halt),
+    }
+}
+
+/// Makes a call whose answer is a reply, and writes that.
+fn play_reply<O: Operator + Sync>(
+    rt: &(impl Threads + Sync),
+    alloc: Global,
+    store: &mut Owned<O>,
+    claims: &mut Vec<Held<O>>,
+    terms: (u64, Workers),
+    call: &mut Input<'_>,
+    out: &mut Out,
+) {
+    let reply = reply(rt, alloc, store, claims, terms, call);
+    say(alloc, out, &reply);
+}
+
+/// Makes a call that changes nothing.
+fn see<O: Operator + Sync>(
+    rt: &(impl Threads + Clock + Sync),
+    alloc: Global,
+    store: &Owned<O>,
+    kind: u64,
+    call: &mut Input<'_>,
+    out: &mut Out,
+) {
+    match kind {
+        2 => versions::show(alloc, store.version(), call, out),
+        10 => ask::<O>(rt, alloc, store.version(), call, out),
+        11 => answer::<O>(alloc, store.version(), call, out),
+        15 => busy(store, call.place(), out),
+        18 => versions::place(alloc, store.version(), call, out),
+        19 => versions::refuse(alloc, store.version(), call, out),
+        _ => merge::<O>(rt, alloc, store.version(), call, out),
+    }
 }
 
 /// Makes a call.
@@ -135,36 +205,14 @@ pub(crate) fn step<O: Operator + Sync>(
     (kind, workers): (u64, Workers),
     call: &mut Input<'_>,
     out: &mut Out,
-) -> Result<(), Halt> {
+) {
     match kind {
         1 => look(store, claims, out),
-        2 => versions::show(alloc, store.version(), call, out)?,
-        4 => make_one(rt, alloc, store, claims, (name(call), workers), call)?,
-        10 => ask::<O>(rt, alloc, store.version(), call, out)?,
-        11 => answer::<O>(alloc, store.version(), call, out)?,
-        12 => {
-            let reply = feed(rt, alloc, store, workers, call, out)?;
-            write_reply(alloc, out, &reply)?;
-        }
-        15 => busy(store, call.place(), out)?,
-        16 => out.place(held_under(claims, name(call))?.claim.number()),
-        17 => apart(
-            rt,
-            alloc,
-            store,
-            &held_under(claims, name(call))?.claim,
-            call,
-            out,
-        )?,
-        18 => versions::place(alloc, store.version(), call, out)?,
-        19 => versions::refuse(alloc, store.version(), call, out)?,
-        21 => lists::play(rt, alloc, store, call, out)?,
-        22 => merge::<O>(rt, alloc, store.version(), call, out)?,
-        24 => out.number(settle(rt, alloc, store, shop::workers(call))?),
-        _ => {
-            let reply = reply(rt, alloc, store, claims, (kind, workers), call)?;
-            write_reply(alloc, out, &reply)?;
-        }
+        2 | 10 | 11 | 15 | 18 | 19 | 22 => see(rt, alloc, store, kind, call, out),
+        4 | 16 | 17 => play_claim(rt, alloc, store, claims, (kind, workers), call, out),
+        12 => feed(rt, alloc, store, workers, call, out),
+        21 => lists::play(rt, alloc, store, call, out),
+        24 => write_settled(out, settle(rt, alloc, store, shop::workers(call))),
+        _ => play_reply(rt, alloc, store, claims, (kind, workers), call, out),
     }
-    Ok(())
 }

@@ -1,24 +1,32 @@
 //! Calls that read a store of one owner, and such as make another run or store beside it.
-use crate::asked::{query, write_answer};
-use crate::beginning::given;
+use crate::asked::{made_answer, write_answers};
 use crate::input::Input;
-use crate::lists::{queries, write_stopped};
+use crate::lists::write_stopped;
 use crate::merges::made_by_parts;
-use crate::out::Out;
-use crate::replies::write_reply;
-use crate::talk::Halt;
+use crate::out::{Halt, Out};
+use crate::said::Spelled;
 use crate::versions::stretch;
-use crate::{opening, reads};
+use crate::{opening, reads, said};
 use std::alloc::{AllocError, Global};
 use std::marker::Sync;
 use std::thread::Threads;
 use std::time::Clock;
-use uc_bytes::Items;
+use uc_compact::Compacted;
 use uc_oper::Operator;
-use uc_query::Reply;
 use uc_query_read::{Answer, Query, answer_last, answer_one, get, get_last, rows_at};
-use uc_query_workers::answer_plain;
+use uc_query_workers::{AskError, answer_plain};
 use uc_version::{OpenError, Owned, OwnedClaim, Stretch, Version};
+
+/// Writes answers, or why there are none.
+fn write_answered(alloc: Global, out: &mut Out, answered: &Result<Vec<Answer>, AskError>) {
+    match answered {
+        Ok(answers) => {
+            out.number(10);
+            write_answers(out, answers);
+        }
+        Err(error) => write_stopped(alloc, out, error),
+    }
+}
 
 /// The number of workers, of queries in a piece, and queries: their answers. The answering alone is clocked.
 pub(crate) fn ask<O: Operator + Sync>(
@@ -27,32 +35,27 @@ pub(crate) fn ask<O: Operator + Sync>(
     version: &Version,
     call: &mut Input<'_>,
     out: &mut Out,
-) -> Result<(), Halt> {
+) {
     let (workers, piece) = (call.place(), call.place());
-    let queries = queries(alloc, call)?;
-    out.watch.restart(rt);
-    let answered = answer_plain::<O>(rt, alloc, version, &queries, workers, piece);
-    out.watch.stop(rt);
-    match answered {
-        Ok(answers) => {
-            let reply = Reply::Answers(Items::from(answers));
-            Ok(write_reply(alloc, out, &reply)?)
+    match said::list::<Query>(alloc, call) {
+        Ok(queries) => {
+            out.watch.restart(rt);
+            let answered = answer_plain::<O>(rt, alloc, version, &queries, workers, piece);
+            out.watch.stop(rt);
+            write_answered(alloc, out, &answered);
         }
-        Err(error) => write_stopped(alloc, out, error),
+        Err(_) => out.want(),
     }
 }
 
-/// What a query is answered that asks no list of snapshots, and what is answered at the last sequence.
+/// What a query is answered that asks no list of snapshots.
 fn unasked<O: Operator>(
     alloc: Global,
     version: &Version,
     query: &Query,
-) -> Result<(Answer, Answer), AllocError> {
+) -> Result<Answer, AllocError> {
     match query {
-        Query::Get { key, at } => {
-            let answer = get::<O>(alloc, version, key.as_slice(), *at)?;
-            Ok((answer, get_last::<O>(alloc, version, key.as_slice())?))
-        }
+        Query::Get { key, at } => get::<O>(alloc, version, key.as_slice(), *at),
         Query::Scan {
             low,
             high,
@@ -60,8 +63,20 @@ fn unasked<O: Operator>(
             limit,
         } => {
             let rows = rows_at::<O>(alloc, version, low.as_slice(), high, *at, *limit)?;
-            Ok((Answer::Rows(rows), answer_last::<O>(alloc, version, query)?))
+            Ok(Answer::Rows(rows))
         }
+    }
+}
+
+/// What a query is answered at the last sequence.
+fn last<O: Operator>(
+    alloc: Global,
+    version: &Version,
+    query: &Query,
+) -> Result<Answer, AllocError> {
+    match query {
+        Query::Get { key, at: _ } => get_last::<O>(alloc, version, key.as_slice()),
+        Query::Scan { .. } => answer_last::<O>(alloc, version, query),
     }
 }
 
@@ -71,47 +86,66 @@ pub(crate) fn answer<O: Operator>(
     version: &Version,
     call: &mut Input<'_>,
     out: &mut Out,
-) -> Result<(), Halt> {
-    let query = query(alloc, call)?;
-    write_answer(out, &answer_one::<O>(alloc, version, &query)?);
-    let (answer, last) = unasked::<O>(alloc, version, &query)?;
-    write_answer(out, &answer);
-    write_answer(out, &last);
-    Ok(())
+) {
+    match Query::read(alloc, call) {
+        Ok(query) => {
+            made_answer(out, answer_one::<O>(alloc, version, &query));
+            made_answer(out, unasked::<O>(alloc, version, &query));
+            made_answer(out, last::<O>(alloc, version, &query));
+        }
+        Err(_) => out.want(),
+    }
 }
 
-/// A stretch, keeps, and whether it has the oldest run: the run that it becomes, with its points and fragments.
+/// A stretch, keeps, and whether it has the oldest run: what it becomes.
+fn merged<O: Operator + Sync>(
+    rt: &(impl Threads + Sync),
+    alloc: Global,
+    version: &Version,
+    call: &mut Input<'_>,
+) -> Result<Compacted<O>, Halt> {
+    let stretch = stretch(call);
+    let keeps = call.numbers(alloc)?;
+    made_by_parts::<O>(rt, alloc, version.runs(), stretch, (&keeps, call.flag()))
+}
+
+/// What `merged` takes: the run that the stretch becomes, with its points and fragments.
 pub(crate) fn merge<O: Operator + Sync>(
     rt: &(impl Threads + Sync),
     alloc: Global,
     version: &Version,
     call: &mut Input<'_>,
     out: &mut Out,
-) -> Result<(), Halt> {
-    let stretch = stretch(call);
-    let keeps = call.numbers(alloc)?;
-    let terms = (keeps.as_slice(), call.flag());
-    let made = made_by_parts::<O>(rt, alloc, version.runs(), stretch, terms)?;
-    reads::show(alloc, made.output(), out)
+) {
+    match merged::<O>(rt, alloc, version, call) {
+        Ok(made) => reads::show(alloc, made.output(), out),
+        Err(halt) => out.stop(halt),
+    }
 }
 
 /// The numbers of a claim and of one of another store, and which store holds which: each its own, and each the other's.
 fn tell_apart<O: Operator>(
     here: &Owned<O>,
     claim: &OwnedClaim,
-    there: &mut Owned<O>,
+    there: &Owned<O>,
+    other: &OwnedClaim,
     out: &mut Out,
-) -> Result<(), Halt> {
-    let Ok(other) = there.claim(Stretch { first: 0, count: 2 }) else {
-        return Err(Halt::Refused);
-    };
+) {
     out.place(claim.number());
     out.place(other.number());
     out.flag(here.holds(claim));
-    out.flag(there.holds(&other));
-    out.flag(here.holds(&other));
+    out.flag(there.holds(other));
+    out.flag(here.holds(other));
     out.flag(there.holds(claim));
-    Ok(())
+}
+
+/// Tells a claim apart from one of another store.
+fn apart_from<O: Operator>(here: &Owned<O>, claim: &OwnedClaim, there: Owned<O>, out: &mut Out) {
+    let mut there = there;
+    match there.claim(Stretch { first: 0, count: 2 }) {
+        Ok(other) => tell_apart(here, claim, &there, &other, out),
+        Err(_) => out.refuse(),
+    }
 }
 
 /// What another store is opened from: tells a claim apart from one of its claims.
@@ -122,10 +156,10 @@ pub(crate) fn apart<O: Operator>(
     claim: &OwnedClaim,
     call: &mut Input<'_>,
     out: &mut Out,
-) -> Result<(), Halt> {
-    match opening::opened::<O>(rt, alloc, given(alloc, call)?, out)? {
-        Ok(mut there) => tell_apart(here, claim, &mut there, out),
-        Err(OpenError::Memory) => Err(Halt::Memory),
-        Err(_) => Err(Halt::Refused),
+) {
+    match opening::open::<O>(rt, alloc, call, out) {
+        Ok(there) => apart_from(here, claim, there, out),
+        Err(OpenError::Memory) => out.want(),
+        Err(_) => out.refuse(),
     }
 }

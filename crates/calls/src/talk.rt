@@ -1,25 +1,10 @@
 //! [`Talk`]: the calls that are to be made, and the answers to them.
 use crate::input::Input;
 use crate::marks;
-use crate::out::Out;
+use crate::out::{Halt, Out};
 use std::alloc::{AllocError, Global};
 use std::io::{self, Write};
 use std::time::Clock;
-
-/// Why a call has no answer.
-#[derive(Clone, Copy)]
-pub(crate) enum Halt {
-    /// Memory ran out.
-    Memory,
-    /// It isn't a call, or it may not be made now.
-    Refused,
-}
-
-impl From<AllocError> for Halt {
-    fn from(_: AllocError) -> Halt {
-        Halt::Memory
-    }
-}
 
 /// The most requests that are refused of one call.
 const MOST: usize = 100_000;
@@ -34,6 +19,15 @@ enum Way {
     Looks(usize),
     /// It is clocked, and made this many times.
     Clocked(u64),
+}
+
+/// How a call ended: 0 if it was made, 1 if memory ran out, 2 if it was refused.
+fn status_of(answer: &Out, call: Input<'_>) -> u64 {
+    match answer.halt() {
+        Some(Halt::Memory) => 1,
+        Some(Halt::Refused) => 2,
+        None => u64::from(call.is_short()) * 2,
+    }
 }
 
 /// Prints a status, and an answer with its length and a line feed.
@@ -173,7 +167,6 @@ impl<'a> Talk<'a> {
         rt: &(impl Clock + Print),
         alloc: Global,
         call: Input<'_>,
-        made: Result<(), Halt>,
     ) -> io::Result<()> {
         match self.way {
             Way::Marked(_) => marks::end(alloc),
@@ -185,13 +178,7 @@ impl<'a> Talk<'a> {
             }
             Way::Once | Way::Looks(_) => {}
         }
-        let status = match made {
-            Ok(()) if call.is_short() => 2,
-            Ok(()) if self.answer.is_short() => 1,
-            Ok(()) => 0,
-            Err(Halt::Memory) => 1,
-            Err(Halt::Refused) => 2,
-        };
+        let status = status_of(&self.answer, call);
         self.was_refused = status == 1;
         if status != 0 {
             self.answer.clear();

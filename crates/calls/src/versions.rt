@@ -1,11 +1,9 @@
 //! Versions of a store, and what is asked of one, as calls spell them.
-
 use crate::input::Input;
-use crate::out::Out;
+use crate::out::{Halt, Out};
 use crate::reads;
-use crate::talk::Halt;
+use crate::said::{self, Spelled};
 use std::alloc::{AllocError, Global};
-use std::fmt::Display;
 use std::sync::Arc;
 use uc_compact::keeps_rise;
 use uc_run::Run;
@@ -46,16 +44,6 @@ pub(crate) fn write_stretch(out: &mut Out, stretch: Option<Stretch>) {
     }
 }
 
-/// Writes the library's own text of an error.
-pub(crate) fn write_error<E: Display>(
-    alloc: Global,
-    out: &mut Out,
-    error: &E,
-) -> Result<(), AllocError> {
-    out.bytes(format!(in alloc; "{error}")?.as_bytes());
-    Ok(())
-}
-
 /// Writes a run's id and slot, and the run as a whole.
 fn write_placed(out: &mut Out, placed: &Placed) {
     out.number(placed.id());
@@ -75,80 +63,87 @@ pub(crate) fn write_version(out: &mut Out, version: &Version) {
     out.number(version.limit());
 }
 
-/// The run at a place.
-fn run_at(runs: &[Placed], place: usize) -> Result<&Arc<Run>, Halt> {
+/// A place: the run there, its points and fragments.
+pub(crate) fn show(alloc: Global, version: &Version, call: &mut Input<'_>, out: &mut Out) {
+    match version.runs().get(call.place()) {
+        Some(placed) => reads::show(alloc, placed.run(), out),
+        None => out.refuse(),
+    }
+}
+
+/// Writes a place, if there is one.
+fn write_place(out: &mut Out, place: Option<usize>) {
+    out.flag(place.is_some());
+    out.place(place.unwrap_or(0));
+}
+
+/// Ids: where runs with these stand as neighbours.
+pub(crate) fn place(alloc: Global, version: &Version, call: &mut Input<'_>, out: &mut Out) {
+    match call.numbers(alloc) {
+        Ok(ids) => write_place(out, version.place_of(&ids)),
+        Err(_) => out.want(),
+    }
+}
+
+/// A share of the run at a place.
+fn run_at(runs: &[Placed], place: usize) -> Result<Arc<Run>, Halt> {
     match runs.get(place) {
-        Some(placed) => Ok(placed.run()),
+        Some(placed) => Ok(placed.run().clone()?),
         None => Err(Halt::Refused),
     }
 }
 
-/// A place: the run there, its points and fragments.
-pub(crate) fn show(
-    alloc: Global,
-    version: &Version,
-    call: &mut Input<'_>,
-    out: &mut Out,
-) -> Result<(), Halt> {
-    reads::show(alloc, run_at(version.runs(), call.place())?, out)
-}
-
-/// Ids: where runs with these stand as neighbours.
-pub(crate) fn place(
-    alloc: Global,
-    version: &Version,
-    call: &mut Input<'_>,
-    out: &mut Out,
-) -> Result<(), Halt> {
-    let place = version.place_of(&call.numbers(alloc)?);
-    out.flag(place.is_some());
-    out.place(place.unwrap_or(0));
-    Ok(())
-}
-
-/// Ids, keeps, the place of a run, and whether it is the oldest: why it may not replace those with the ids.
-pub(crate) fn refuse(
-    alloc: Global,
-    version: &Version,
-    call: &mut Input<'_>,
-    out: &mut Out,
-) -> Result<(), Halt> {
+/// Ids, keeps, the place of a run, and whether it is the oldest: that it replaces those with the ids.
+fn install(alloc: Global, version: &Version, call: &mut Input<'_>) -> Result<Install, Halt> {
     let ids = call.numbers(alloc)?;
     let keeps = call.numbers(alloc)?;
-    let output = run_at(version.runs(), call.place())?.clone()?;
+    let output = run_at(version.runs(), call.place())?;
     if ids.len() < 2 || !keeps_rise(&keeps) {
         return Err(Halt::Refused);
     }
-    let install = Install::new(ids, keeps, call.flag(), output);
-    match version.refusal(&install) {
-        Some(refusal) => out.bytes(format!(in alloc; "{refusal:?}")?.as_bytes()),
-        None => out.bytes(b""),
-    }
-    Ok(())
+    Ok(Install::new(ids, keeps, call.flag(), output))
 }
 
-/// A number of sizes of runs, each with whether it is claimed.
-fn candidates(alloc: Global, call: &mut Input<'_>) -> Result<Vec<Candidate>, AllocError> {
-    let mut candidates = Vec::new(alloc);
-    for _ in 0..call.number() {
-        if call.is_short() {
-            break;
-        }
-        candidates.push(Candidate {
+/// Writes the library's own name of why an install is refused; nothing if it isn't.
+fn write_refusal(alloc: Global, version: &Version, install: &Install, out: &mut Out) {
+    match version.refusal(install) {
+        Some(refusal) => out.name(alloc, &refusal),
+        None => out.bytes(b""),
+    }
+}
+
+/// What `install` takes: why it is refused.
+pub(crate) fn refuse(alloc: Global, version: &Version, call: &mut Input<'_>, out: &mut Out) {
+    match install(alloc, version, call) {
+        Ok(install) => write_refusal(alloc, version, &install, out),
+        Err(halt) => out.stop(halt),
+    }
+}
+
+impl Spelled for Candidate {
+    /// The size of a run, and whether it is claimed.
+    fn read(_: Global, call: &mut Input<'_>) -> Result<Candidate, AllocError> {
+        Ok(Candidate {
             size: call.number(),
             claimed: call.flag(),
-        })?;
+        })
     }
-    Ok(candidates)
+}
+
+/// Writes which stretch of runs is compacted next.
+fn write_pick(out: &mut Out, options: &Options, candidates: &[Candidate]) {
+    if options.are_good() && candidates.len() <= 65_536 {
+        write_stretch(out, pick_among(options, candidates));
+    } else {
+        out.refuse();
+    }
 }
 
 /// Options, and sizes of runs: which stretch is compacted next.
-pub(crate) fn pick(alloc: Global, call: &mut Input<'_>, out: &mut Out) -> Result<(), Halt> {
+pub(crate) fn pick(alloc: Global, call: &mut Input<'_>, out: &mut Out) {
     let options = options(call);
-    let candidates = candidates(alloc, call)?;
-    if !options.are_good() || candidates.len() > 65_536 {
-        return Err(Halt::Refused);
+    match said::list::<Candidate>(alloc, call) {
+        Ok(candidates) => write_pick(out, &options, &candidates),
+        Err(_) => out.want(),
     }
-    write_stretch(out, pick_among(&options, &candidates));
-    Ok(())
 }
