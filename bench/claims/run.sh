@@ -1,13 +1,13 @@
 #!/bin/sh
 # Takes and gives per second by 1, 2 and 4 threads, beside the same loop in plain Rust.
-# Needs rustc, and crates/bench_beside/out/bench_beside (or BESIDE), which `rt run` in crates/bench_beside builds.
+# Needs rustc, python3, and crates/bench_beside/out/bench_beside (or BESIDE), which `rt run` in crates/bench_beside builds.
 # A round is one take of two of 256 slots and, where it won, their give. Disjoint: two slots of its own for each
 # thread, side by side, so that those of several threads share a cache line. Spaced: these 16 slots apart, so that
 # no line has those of two threads. Contended: the same two for all.
 # Each line has the medians of 9 runs, which take turns. RESULTS names a file for the figures as JSON.
 set -eu
 here=$(cd "$(dirname "$0")" && pwd)
-ours=${BESIDE:-$here/../../crates/bench_beside/out/bench_beside}
+ours=${OURS:-$here/../beside}
 rounds=${ROUNDS:-10000000}
 work=$(mktemp -d)
 trap 'rm -r "$work"' EXIT

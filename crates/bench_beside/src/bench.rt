@@ -1,6 +1,7 @@
-//! [`Bench`]: a store that threads share, and [`Actor`]: one that uses it in a thread of its own.
+//! [`Bench`]: a store that threads share, where actors work at once.
+use crate::actor::Actor;
+use crate::plan::Plan;
 use crate::told::Told;
-use crate::worker::{Reads, Worker};
 use std::alloc::Global;
 use std::marker::{Model, Send, Sync};
 use std::sync::Wait;
@@ -12,84 +13,14 @@ use uc_oper::Counter;
 use uc_query_read::Query;
 use uc_share::{Name, Store};
 
-/// The phases of a measurement: the store doesn't change yet, it changes, and all actors are to stop.
+/// The phases of a measurement: the store doesn't change yet, it changes, its changes have ended, and something was refused.
 pub(crate) const WAITING: u64 = 0;
 
 pub(crate) const CHANGING: u64 = 1;
 
 pub(crate) const STOPPED: u64 = 2;
 
-/// The ways to use a store that are measured.
-#[derive(Clone, Copy, PartialEq, Eq)]
-pub(crate) enum Mode {
-    /// A batch beside compactors, and once more after them.
-    Batch,
-    /// Single lookups beside compactors.
-    Lookups,
-    /// Feeds beside a compactor and two readers, and a batch after them.
-    Fed,
-    /// Pins without an installer.
-    Pins,
-    /// Pins beside an installer.
-    Beside,
-    /// The same, with a clock around each pin.
-    Times,
-}
-
-impl Mode {
-    /// The mode of a name.
-    pub(crate) fn named(name: &str) -> Option<Mode> {
-        match name {
-            "batch" => Some(Mode::Batch),
-            "lookups" => Some(Mode::Lookups),
-            "fed" => Some(Mode::Fed),
-            "pins" => Some(Mode::Pins),
-            "beside" => Some(Mode::Beside),
-            "times" => Some(Mode::Times),
-            _ => None,
-        }
-    }
-}
-
-/// The numbers of a measurement.
-#[derive(Clone, Copy)]
-pub(crate) struct Plan {
-    pub(crate) mode: Mode,
-    /// The readers that answer a batch or pin.
-    pub(crate) readers: usize,
-    /// The workers that compact or install, two at most.
-    pub(crate) workers: usize,
-    /// The pins of each reader without an installer.
-    pub(crate) rounds: u64,
-    /// The bytes of writes that make a run as a store opens.
-    pub(crate) memtable: u64,
-    /// The stores that are measured, one after the other.
-    pub(crate) stores: u64,
-    pub(crate) lookups: usize,
-    pub(crate) scans: usize,
-    /// The keys from which lookups and scans are drawn.
-    pub(crate) keys: u64,
-    /// The writes of a batch that is fed, and the number of batches.
-    pub(crate) size: usize,
-    pub(crate) count: usize,
-}
-
-/// An actor uses a store in a thread of its own.
-#[derive(Drop)]
-pub(crate) enum Actor<N: Name> {
-    /// Compacts what is picked until nothing is, and beside feeds until these end too.
-    Compactor(Worker<N>),
-    /// Makes all runs one, two by two.
-    Installer(Worker<N>),
-    /// Feeds the batches.
-    Feeder(Reads<N>),
-    /// Answers the queries as one batch.
-    Batch(Vec<Reads<N>>),
-    /// Looks up keys that are drawn from a seed.
-    Drawer(Reads<N>, u64),
-    /// Pins.
-    Pinner(Reads<N>),
-}
+pub(crate) const REFUSED: u64 = 3;
 
 /// A store, the measurement, and the words by which actors know of each other.
 pub(crate) struct Bench<'a, N: Name, W: Wait + Drop, R> {
@@ -101,7 +32,8 @@ pub(crate) struct Bench<'a, N: Name, W: Wait + Drop, R> {
     pub(crate) batches: &'a [Writes],
     pub(crate) begun: Instant,
     pub(crate) phase: AtomicU64,
-    /// The number of readers that pin already.
+    /// The number of actors, and of those that have begun.
+    pub(crate) actors: u64,
     pub(crate) ready: AtomicU64,
 }
 
@@ -126,6 +58,7 @@ impl<N: Name, W: Wait + Drop, R> Drop for Bench<'_, N, W, R> {
             batches: _,
             begun: _,
             phase: _,
+            actors: _,
             ready: _,
         } = self;
     }
@@ -145,33 +78,65 @@ where
         }
     }
 
+    /// The nanoseconds since a time.
+    pub(crate) fn since(&self, start: u64) -> u64 {
+        self.now().saturating_sub(start)
+    }
+
     /// Whether it is this phase.
     pub(crate) fn is(&self, phase: u64) -> bool {
         self.phase.load(Ordering::Acquire) == phase
     }
 
-    /// Lets an actor work until it is done or refused. Returns whether that ends the work of the others, and `None` for a refusal.
-    fn work(&self, actor: &mut Actor<N>, told: &mut Told) -> (bool, Option<()>) {
+    /// Whether all actors have begun.
+    pub(crate) fn are_ready(&self) -> bool {
+        self.ready.load(Ordering::Acquire) >= self.actors
+    }
+
+    /// Ends the work of an actor, and the changes of the store.
+    pub(crate) fn stop(&self) -> Option<bool> {
+        self.phase.store(STOPPED, Ordering::Release);
+        Some(false)
+    }
+
+    /// Takes an actor's next step. Returns whether there are more, and `None` if something is refused.
+    fn step(&self, actor: &mut Actor<N>, told: &mut Told) -> Option<bool> {
         match actor {
-            Actor::Compactor(worker) => (true, self.compact_all(worker, told)),
-            Actor::Installer(worker) => (true, self.install_all(worker, told)),
-            Actor::Feeder(reader) => (true, self.feed_all(reader, told)),
-            Actor::Batch(readers) => (false, self.answer_batch(readers, told)),
-            Actor::Drawer(reader, seed) => (false, self.ask_drawn(reader, *seed, told)),
-            Actor::Pinner(reader) => (false, self.pin_all(reader, told)),
+            Actor::Compactor(compactor) => self.compact(compactor, told),
+            Actor::Installer(reader, place) => self.install(reader, place, told),
+            Actor::Batch(readers) => self.answer_batch(readers, told),
+            Actor::Feeder(reader, kept) => self.feed(reader, kept, told),
+            Actor::Drawer(reader, numbers) => self.ask(reader, numbers, told),
+            Actor::Pinner(reader) => self.pin(reader, told),
+        }
+    }
+
+    /// Takes an actor's next step, unless something was refused. Returns whether there are more.
+    fn goes_on(&self, actor: &mut Actor<N>, told: &mut Told) -> bool {
+        if self.is(REFUSED) {
+            return false;
+        }
+        match self.step(actor, told) {
+            Some(goes_on) => goes_on,
+            None => {
+                told.is_fine = false;
+                self.phase.store(REFUSED, Ordering::Release);
+                false
+            }
         }
     }
 
     /// Lets an actor work, and tells about it.
     pub(crate) fn act(&self, mut actor: Actor<N>) -> Told {
         let mut told = Told::new(self.alloc);
+        self.ready.fetch_add(1, Ordering::Release);
         let start = self.now();
-        let (ends, done) = self.work(&mut actor, &mut told);
-        told.is_fine = done.is_some();
-        told.whole = self.now().saturating_sub(start);
-        if ends || !told.is_fine {
-            self.phase.store(STOPPED, Ordering::Release);
+        for _ in self.rt.forever() {
+            if !self.goes_on(&mut actor, &mut told) {
+                break;
+            }
         }
+        told.whole = self.since(start);
         told
     }
 }

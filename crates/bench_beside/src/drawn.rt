@@ -1,6 +1,7 @@
 //! Keys and queries that look random, the same in each run.
-use crate::bench::Plan;
-use std::alloc::{AllocError, Global};
+use crate::plan::Plan;
+use std::alloc::Global;
+use uc_batch::Writes;
 use uc_bytes::Bytes;
 use uc_query_read::Query;
 
@@ -29,28 +30,57 @@ impl Numbers {
 }
 
 /// The key with a number, as `make_log` spells it.
-pub(crate) fn key_of(alloc: Global, number: u64) -> Result<Bytes, AllocError> {
-    let text = format!(in alloc; "account/{number:08}")?;
-    Bytes::from_slice(alloc, text.as_bytes())
+pub(crate) fn key_of(alloc: Global, number: u64) -> Option<Bytes> {
+    let text = format!(in alloc; "account/{number:08}").ok()?;
+    Bytes::from_slice(alloc, text.as_bytes()).ok()
 }
 
-/// Lookups of drawn keys at a sequence, and then scans from such keys on, each for 1 to 50 rows.
-pub(crate) fn queries_of(alloc: Global, plan: Plan, at: u64) -> Result<Vec<Query>, AllocError> {
+/// A lookup of a drawn key, or a scan from one on for 1 to 50 rows.
+fn query_of(
+    alloc: Global,
+    numbers: &mut Numbers,
+    plan: Plan,
+    at: u64,
+    is_scan: bool,
+) -> Option<Query> {
+    let key = key_of(alloc, numbers.below(plan.keys))?;
+    if !is_scan {
+        return Some(Query::Get { key, at });
+    }
+    Some(Query::Scan {
+        low: key,
+        high: None,
+        at,
+        limit: numbers.below(MOST_ROWS).saturating_add(1),
+    })
+}
+
+/// Lookups at a sequence, and then scans, where a batch is answered.
+pub(crate) fn queries_of(alloc: Global, plan: Plan, at: u64) -> Option<Vec<Query>> {
     let mut numbers = Numbers::new(1);
     let mut queries = Vec::new(alloc);
-    for _ in 0..plan.lookups {
-        let key = key_of(alloc, numbers.below(plan.keys))?;
-        queries.push(Query::Get { key, at })?;
+    for place in 0..plan.lookups.saturating_add(plan.scans) {
+        let query = query_of(alloc, &mut numbers, plan, at, place >= plan.lookups)?;
+        queries.push(query).ok()?;
     }
-    for _ in 0..plan.scans {
-        let low = key_of(alloc, numbers.below(plan.keys))?;
-        let limit = numbers.below(MOST_ROWS).saturating_add(1);
-        queries.push(Query::Scan {
-            low,
-            high: None,
-            at,
-            limit,
-        })?;
+    Some(queries)
+}
+
+/// The writes from a place on, `size` at the most.
+fn batch_at(alloc: Global, writes: &Writes, place: usize, size: usize) -> Option<Writes> {
+    let rest = writes.list().get(place..)?;
+    let list = rest.get(..size).unwrap_or(rest);
+    Writes::of(list.to_vec(alloc).ok()?)
+}
+
+/// The first batches of a log's writes, as many as are fed.
+pub(crate) fn batches_of(alloc: Global, writes: &Writes, plan: Plan) -> Option<Vec<Writes>> {
+    let mut batches = Vec::new(alloc);
+    for number in 0..plan.count {
+        let place = number.saturating_mul(plan.size);
+        batches
+            .push(batch_at(alloc, writes, place, plan.size)?)
+            .ok()?;
     }
-    Ok(queries)
+    Some(batches)
 }

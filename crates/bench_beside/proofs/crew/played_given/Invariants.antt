@@ -1,5 +1,5 @@
 use Rattle.std.proofs.Common.{false}
-use Rattle.bench_beside.proofs.crew.played.Given as goal
+use Rattle.bench_beside.proofs.crew.played_given.Given as goal
 
 -- the book, the claim words and the version of what was opened; keeps come and go
 abbrev pub ghosts-played_named : goal.ghosts-played_named
