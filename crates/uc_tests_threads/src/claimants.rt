@@ -1,12 +1,12 @@
 //! Four threads that take and give lists of slots of one table.
 ghost use Rattle.std.specs.Prelude.{◌≡◌};
 
+use crate::dice::Dice;
 use crate::slots::{are_below, are_distinct};
 use std::array;
 use std::sync::atomic::{AtomicU64, Ordering};
 use std::test::Fail;
 use std::thread::{Threads, join};
-use testkit_draws::dice::Dice;
 use uc_claims::{ClaimTable, MOST_SLOTS, Seat};
 
 const COUNT: usize = MOST_SLOTS;

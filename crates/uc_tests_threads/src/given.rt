@@ -1,72 +1,77 @@
 //! Writes and queries of races.
-use std::alloc::{AllocError, Global};
-use uc_bytes::{Bytes, OpRef, Write, WriteRef};
+use crate::dice::change_of;
+use crate::drawn::{get, scan};
+use std::alloc::Global;
+use uc_batch::Writes;
+use uc_bytes::WriteRef;
 use uc_query_read::Query;
 
-/// Appends a change, with the sequence after those that are there.
-fn push_write(writes: &mut Vec<Write>, alloc: Global, change: OpRef<'_>) -> Result<(), AllocError> {
-    let seq = (writes.len() as u64).saturating_add(1);
-    Ok(writes.push(WriteRef::new(seq, change).to_write(alloc)?)?)
-}
+/// A kind, and the texts of a change (`change_of`).
+type Change = (u64, &'static [u8], &'static [u8]);
 
 /// A put and three merges.
-pub fn four_writes(alloc: Global) -> Result<Vec<Write>, AllocError> {
-    let mut writes = Vec::new(alloc);
-    push_write(&mut writes, alloc, OpRef::put(b"k", b"a"))?;
-    for _ in 0..3 {
-        push_write(&mut writes, alloc, OpRef::merge(b"k", b"b"))?;
-    }
-    Ok(writes)
-}
+static FOUR: [Change; 4] = [
+    (0, b"k", b"a"),
+    (4, b"k", b"b"),
+    (4, b"k", b"b"),
+    (4, b"k", b"b"),
+];
 
 /// A put and a merge of `k`, a put of `l`, a range deletion from `k` to below `l`, and a merge of `k`.
-pub fn five_writes(alloc: Global) -> Result<Vec<Write>, AllocError> {
-    let mut writes = Vec::new(alloc);
-    push_write(&mut writes, alloc, OpRef::put(b"k", b"a"))?;
-    push_write(&mut writes, alloc, OpRef::merge(b"k", b"b"))?;
-    push_write(&mut writes, alloc, OpRef::put(b"l", b"x"))?;
-    push_write(&mut writes, alloc, OpRef::delete_range(b"k", b"l"))?;
-    push_write(&mut writes, alloc, OpRef::merge(b"k", b"c"))?;
-    Ok(writes)
-}
+static FIVE: [Change; 5] = [
+    (0, b"k", b"a"),
+    (4, b"k", b"b"),
+    (0, b"l", b"x"),
+    (2, b"k", b"l"),
+    (4, b"k", b"c"),
+];
 
-/// A lookup.
-fn get(alloc: Global, key: &[u8], at: u64) -> Result<Query, AllocError> {
-    let key = Bytes::from_slice(alloc, key)?;
-    Ok(Query::Get { key, at })
-}
-
-/// A scan of all keys.
-fn scan_all(alloc: Global, limit: u64, at: u64) -> Result<Query, AllocError> {
-    Ok(Query::Scan {
-        low: Bytes::from_slice(alloc, b"")?,
-        high: None,
-        at,
-        limit,
-    })
-}
-
-/// A scan from `k` to below `l`.
-fn scan_between(alloc: Global, limit: u64, at: u64) -> Result<Query, AllocError> {
-    Ok(Query::Scan {
-        low: Bytes::from_slice(alloc, b"k")?,
-        high: Some(Bytes::from_slice(alloc, b"l")?),
-        at,
-        limit,
-    })
-}
-
-/// The number of queries of five writes.
-pub const QUERIES: usize = 7;
+/// Whether it is a scan; a key, the end, a sequence and the most rows.
+type Asked = (bool, &'static [u8], &'static [u8], u64, u64);
 
 /// Queries of five writes. A snapshot keeps the second one, and the third isn't protected.
-pub fn queries(alloc: Global) -> Result<Vec<Query>, AllocError> {
-    let mut queries = Vec::new(alloc);
-    for (key, at) in [(b"k", 5), (b"k", 2), (b"l", 5), (b"k", 3)] {
-        queries.push(get(alloc, key, at)?)?;
+static QUERIES: [Asked; 7] = [
+    (false, b"k", b"", 5, 0),
+    (false, b"k", b"", 2, 0),
+    (false, b"l", b"", 5, 0),
+    (false, b"k", b"", 3, 0),
+    (true, b"", b"", 5, 10),
+    (true, b"", b"", 5, 0),
+    (true, b"k", b"l", 2, 10),
+];
+
+/// The changes of four writes or of five.
+fn changes(are_five: bool) -> &'static [Change] {
+    if are_five { &FIVE } else { &FOUR }
+}
+
+/// Four writes or five, numbered from 1.
+pub fn writes_of(alloc: Global, are_five: bool) -> Option<Writes> {
+    let mut writes = Vec::new(alloc);
+    let mut seq = 0_u64;
+    for (kind, key, other) in changes(are_five) {
+        seq = seq.saturating_add(1);
+        let write = WriteRef::new(seq, change_of(*kind, key, other));
+        writes.push(write.to_write(alloc).ok()?).ok()?;
     }
-    queries.push(scan_all(alloc, 10, 5)?)?;
-    queries.push(scan_all(alloc, 0, 5)?)?;
-    queries.push(scan_between(alloc, 10, 2)?)?;
-    Ok(queries)
+    Writes::of(writes)
+}
+
+/// All queries.
+fn asked() -> &'static [Asked] {
+    &QUERIES
+}
+
+/// The first queries, this many of them.
+pub fn queries_of(alloc: Global, count: usize) -> Option<Vec<Query>> {
+    let mut queries = Vec::new(alloc);
+    for (is_scan, key, end, at, limit) in asked().iter().take(count) {
+        let query = if *is_scan {
+            scan(alloc, key, end, *at, *limit)
+        } else {
+            get(alloc, key, *at)
+        };
+        queries.push(query?).ok()?;
+    }
+    Some(queries)
 }

@@ -1,60 +1,134 @@
-//! Threads that race, or wait for one another: two compactors, and workers who are held up at a gate while something is installed.
-ghost use Rattle.std.specs.Prelude.{◌≡◌, false};
+//! Compactors that race, and workers who are held up at a gate while something is installed.
+ghost use Rattle.std.specs.Prelude.{◌≡◌, All, false};
 ghost use Rattle.uc_share.specs.Stores.{IsNamed};
 
-use crate::batch::Batch;
-use crate::drawn::small_runs;
-use crate::gates::Holding;
-use crate::given::{QUERIES, five_writes, four_writes, queries};
-use crate::scene::Scene;
-use crate::worker::{Worker, workers_of};
-use std::alloc::{AllocError, Global};
+use crate::actors::{Actor, Job, push_racer};
+use crate::dice::Dice;
+use crate::done::Done;
+use crate::gate::Holding;
+use crate::given::{queries_of, writes_of};
+use crate::plan::{small, small_runs};
+use crate::scene::{Scene, Start};
+use std::alloc::Global;
 use std::marker::{Brand, Send, Sync};
-use std::sync::Wait;
-use std::thread::{Threads, join};
+use std::sync::{RwLock, Wait};
+use std::thread::Threads;
 use uc_batch::Writes;
-use uc_bytes::Write;
 use uc_oper::Append;
-use uc_query_shared::answer_all;
-use uc_share::{Name, Opening, Pin, Reader, Stretch, Turn, Version};
+use uc_query_read::Query;
+use uc_share::{Name, Opening, Reader, Seat, Store, Version};
 
 /// The operator: texts joined by a comma.
 type Commas = Append<0x2C>;
 
-/// A trial with a store and two compactors.
+/// A trial with compactors who install at once, and workers who answer.
 #[derive(Clone, Copy)]
-enum Tried {
-    /// Both install at once.
-    Race,
-    /// Two workers answer. The first piece is held until the second has come, and then both compactors have installed.
-    SecondFirst,
-    /// A worker answers pieces up to this one, which is held until a compaction is installed.
-    LastBehind(usize),
+struct Trial {
+    /// The number of compactors: one with the two newest runs, and one with the two after them.
+    racers: usize,
+    /// The number of workers, who see all installs, and of their queries.
+    workers: usize,
+    asked: usize,
+    /// The piece that compactors wait for, and the one that is held until they have installed.
+    told: usize,
+    held: usize,
 }
 
-/// Its writes.
-fn writes_of(alloc: Global, tried: Tried) -> Result<Vec<Write>, AllocError> {
-    match tried {
-        Tried::Race => four_writes(alloc),
-        Tried::SecondFirst | Tried::LastBehind(_) => five_writes(alloc),
-    }
+/// Both install at once. Nobody asks.
+static RACE: Trial = Trial {
+    racers: 2,
+    workers: 0,
+    asked: 0,
+    told: 0,
+    held: 0,
+};
+
+/// Two workers answer. The first piece is held until the second has come, and then both compactors have installed. Or one answers
+/// pieces up to a last one, which is held until a compaction is installed.
+static TRIALS: [Trial; 8] = [
+    Trial {
+        racers: 2,
+        workers: 2,
+        asked: 7,
+        told: 1,
+        held: 0,
+    },
+    Trial {
+        racers: 1,
+        workers: 1,
+        asked: 1,
+        told: 0,
+        held: 0,
+    },
+    Trial {
+        racers: 1,
+        workers: 1,
+        asked: 2,
+        told: 1,
+        held: 1,
+    },
+    Trial {
+        racers: 1,
+        workers: 1,
+        asked: 3,
+        told: 2,
+        held: 2,
+    },
+    Trial {
+        racers: 1,
+        workers: 1,
+        asked: 4,
+        told: 3,
+        held: 3,
+    },
+    Trial {
+        racers: 1,
+        workers: 1,
+        asked: 5,
+        told: 4,
+        held: 4,
+    },
+    Trial {
+        racers: 1,
+        workers: 1,
+        asked: 6,
+        told: 5,
+        held: 5,
+    },
+    Trial {
+        racers: 1,
+        workers: 1,
+        asked: 7,
+        told: 6,
+        held: 6,
+    },
+];
+
+/// The trial of compactors alone.
+fn race() -> Trial {
+    RACE
 }
 
-/// Its gate, how many workers there are, who see as many installs, and how many queries.
-fn gate_of(tried: Tried) -> (Holding, usize, usize) {
-    match tried {
-        Tried::LastBehind(last) => (Holding::new(last, last), 1, last.saturating_add(1)),
-        Tried::Race | Tried::SecondFirst => (Holding::new(1, 0), 2, QUERIES),
-    }
+/// The trials with workers.
+fn trials() -> &'static [Trial] {
+    &TRIALS
 }
 
-/// The number of events that the reader has seen that has seen most.
-fn most_seen<N: Name>(readers: &[Reader<Commas, N>]) -> Option<u64> {
-    let mut most = None;
-    for reader in readers {
-        most = most.max(Some(reader.front().len()));
+impl Trial {
+    /// Its gate.
+    fn gate(self) -> Holding {
+        if self.workers == 0 {
+            Holding::open()
+        } else {
+            Holding::new(self.told, self.held, self.racers as u64)
+        }
     }
-    most
+
+    /// Whether all have installed, and workers have seen that.
+    fn is_done(self, done: Done) -> bool {
+        let racers = self.racers as u64;
+        done.installs == racers && (self.workers == 0 || done.seen == racers)
+    }
 }
 
 /// Whether a version of two runs has the ids of two installs, with sequences 3 and 4 in the newer run and 1 and 2 in the older one.
@@ -68,109 +142,86 @@ fn has_both(version: &Version) -> bool {
     ids && newest && oldest
 }
 
-impl<N, W, R> Scene<'_, Commas, N, W, R>
+/// Whether two compactors have installed four runs, and nothing else is shown then.
+fn shows_both<N: Name>(reader: &mut Reader<Commas, N>) -> Option<bool> {
+    let pin = reader.pin().ok()?;
+    Some(has_both(pin.version()))
+}
+
+/// Adds the compactors of a trial, and its workers.
+fn push_all<N: Name>(
+    jobs: &mut Vec<Job<Commas, N>>,
+    readers: &mut Vec<Reader<Commas, N>>,
+    seats: &mut Vec<Seat>,
+    trial: Trial,
+) -> Option<()>
+    requires { All (λ seat. seat.table ≡ N.table) seats.old.items }
+{
+    push_racer(jobs, readers, seats, 0)?;
+    if trial.racers > 1 {
+        push_racer(jobs, readers, seats, 2)?;
+    }
+    if trial.workers > 0 {
+        let rest = readers.len().checked_sub(trial.workers)?;
+        let workers = Actor::Gated(readers.split_off(rest).ok()?);
+        jobs.push((workers, Dice::new(0))).ok()?;
+    }
+    Some(())
+}
+
+/// Whether a trial comes right in a store.
+fn comes_right_in<N, W, R>(
+    rt: &R,
+    alloc: Global,
+    store: &Store<Commas, N, W>,
+    readers: &mut Vec<Reader<Commas, N>>,
+    seats: &mut Vec<Seat>,
+    trial: Trial,
+    writes: &Writes,
+    queries: &[Query],
+) -> Option<bool>
 where
     N: Name + Send + Sync,
     W: Wait + Drop + Send,
     R: Threads + Wait + Sync,
+    requires table { store.now.table ≡ N.table }
+    requires keeps { N.keeps_stay ≡ false }
+    requires seats { All (λ seat. seat.table ≡ N.table) seats.old.items }
 {
-    /// Installs what two runs are compacted to, from a place on of what was pinned.
-    fn install_two(
-        &self,
-        worker: Worker<Commas, N>,
-        pin: Pin<Commas, N>,
-        first: usize,
-    ) -> Option<Worker<Commas, N>> {
-        match self.compact_stretch(worker, pin, Stretch { first, count: 2 }, false)? {
-            (worker, 1) => Some(worker),
-            _ => None,
-        }
-    }
-
-    /// Two compactors at once, one with the two newest runs, and one with the two after them. Both have pinned the same runs before,
-    /// and both must install; one comes back then.
-    fn both_install(
-        &self,
-        mut one: Worker<Commas, N>,
-        mut other: Worker<Commas, N>,
-    ) -> Option<Worker<Commas, N>> {
-        let newest = one.pin()?;
-        let behind = other.pin()?;
-        let (one, other) = join(
-            self.rt,
-            move || self.install_two(one, newest, 0),
-            move || self.install_two(other, behind, 2),
-        );
-        other?;
-        one
-    }
-
-    /// Whether both have installed, of four runs, and nothing else is there then.
-    fn have_raced(&self, one: Worker<Commas, N>, other: Worker<Commas, N>) -> Option<bool> {
-        let mut worker = self.both_install(one, other)?;
-        Some(has_both(worker.pin()?.version()))
-    }
-
-    /// The number of installs that a compactor makes until nothing is picked.
-    fn installs_of(&self, mut worker: Worker<Commas, N>) -> Option<u64> {
-        for installs in 0..16 {
-            let (back, came) = self.take_turn(worker);
-            worker = back;
-            if came.ok()? != Turn::Installed {
-                return Some(installs);
-            }
-        }
-        None
-    }
-
-    /// Installs once a piece has come to a gate, which goes on then. How many installs that was.
-    fn install_at_gate(
-        &self,
-        tried: Tried,
-        (one, other): (Worker<Commas, N>, Worker<Commas, N>),
-        gate: &Holding,
-    ) -> Option<u64> {
-        gate.wait_for_piece();
-        let installs = match tried {
-            Tried::LastBehind(_) => self.installs_of(one),
-            Tried::Race | Tried::SecondFirst => self.both_install(one, other).and(Some(2)),
-        };
-        gate.let_go_on();
-        installs
-    }
-
-    /// Whether a batch is answered through its gate, and what was installed meanwhile was seen.
-    fn is_answered_at_gate(
-        &self,
-        tried: Tried,
-        mut readers: Vec<Reader<Commas, N>>,
-        workers: (Worker<Commas, N>, Worker<Commas, N>),
-        batch: &Batch,
-    ) -> bool {
-        let (gate, count, asked) = gate_of(tried);
-        readers.truncate(count);
-        let (gate, queries) = (&gate, batch.first(asked));
-        let ((readers, answers), installs) = join(
-            self.rt,
-            move || answer_all(self.rt, self.alloc, readers, queries, count, 1, gate),
-            move || self.install_at_gate(tried, workers, gate),
-        );
-        let wanted = Some(count as u64);
-        batch.are_answers(&answers, asked)
-            && installs == wanted
-            && most_seen(&readers) == wanted
-            && gate.is_passed()
-    }
+    let plan = small().first().copied()?;
+    let mut late = readers.pop()?;
+    let mut jobs = Vec::new(alloc);
+    push_all(&mut jobs, readers, seats, trial)?;
+    let scene = Scene {
+        rt,
+        alloc,
+        store,
+        plan,
+        start: Start {
+            count: 0,
+            first_id: 0,
+            first_keep: 2,
+            last: writes.last(),
+        },
+        writes,
+        kept: RwLock::new(0),
+        queries,
+        gate: trial.gate(),
+    };
+    let done = scene.act_at_once(jobs)?;
+    let is_right = trial.is_done(done) && scene.gate.is_passed();
+    Some(is_right && (trial.workers > 0 || shows_both(&mut late)?))
 }
 
-/// Whether what is tried comes right in a store that gets its name here.
+/// Whether a trial comes right in a store that gets its name here.
 fn comes_right_named<N, W, R>(
     rt: &R,
     handle: W,
     alloc: Global,
     opening: Opening<Commas>,
-    tried: Tried,
-    batch: &Batch,
+    trial: Trial,
+    writes: &Writes,
+    queries: &[Query],
 ) -> Option<bool>
 where
     N: Name + Send + Sync,
@@ -179,43 +230,37 @@ where
     requires name { IsNamed opening N.book N.table N.base }
     requires keeps { N.keeps_stay ≡ false }
 {
-    let (store, mut readers, seats) = opening.named::<N, W>(alloc, handle).ok()?;
-    let mut workers = workers_of(alloc, &mut readers, seats)?;
-    let one = workers.pop()?;
-    let other = workers.pop()?;
-    let scene = Scene::new(rt, alloc, &store);
-    match tried {
-        Tried::Race => scene.have_raced(one, other),
-        Tried::SecondFirst | Tried::LastBehind(_) => {
-            Some(scene.is_answered_at_gate(tried, readers, (one, other), batch))
-        }
-    }
+    let (store, mut readers, mut seats) = opening.named::<N, W>(alloc, handle).ok()?;
+    comes_right_in(
+        rt,
+        alloc,
+        &store,
+        &mut readers,
+        &mut seats,
+        trial,
+        writes,
+        queries,
+    )
 }
 
-/// Whether what is tried comes right.
-fn comes_right<R: Threads + Wait + Sync>(rt: &R, alloc: Global, tried: Tried) -> Option<bool> {
-    let writes = Writes::of(writes_of(alloc, tried).ok()?)?;
-    let opening = Opening::open(alloc, &writes, &[2], small_runs(), 4, 2).ok()?;
-    let queries = queries(alloc).ok()?;
-    let batch = Batch::of::<Commas>(alloc, &writes, opening.version().keeps(), queries).ok()?;
-    comes_right_named::<Brand, &R, R>(rt, rt, alloc, opening, tried, &batch)
+/// Whether a trial comes right, in a store of four writes, or of five where workers ask.
+fn comes_right<R: Threads + Wait + Sync>(rt: &R, alloc: Global, trial: Trial) -> Option<bool> {
+    let writes = writes_of(alloc, trial.workers > 0)?;
+    let queries = queries_of(alloc, trial.asked)?;
+    let opening = Opening::open(alloc, &writes, &[2], small_runs(), 5, 2).ok()?;
+    comes_right_named::<Brand, &R, R>(rt, rt, alloc, opening, trial, &writes, &queries)
 }
 
 #[test]
 fn two_stretches_are_installed_at_once(rt: HostRuntime) {
     for _ in 0..100 {
-        assert!(rt; comes_right(&rt, rt.alloc(), Tried::Race) == Some(true));
+        assert!(rt; comes_right(&rt, rt.alloc(), race()) == Some(true));
     }
 }
 
 #[test]
-fn pieces_wait_for_one_another(rt: HostRuntime) {
-    assert!(rt; comes_right(&rt, rt.alloc(), Tried::SecondFirst) == Some(true));
-}
-
-#[test]
-fn each_piece_is_pinned_behind_its_gate(rt: HostRuntime) {
-    for last in 0..7 {
-        assert!(rt; comes_right(&rt, rt.alloc(), Tried::LastBehind(last)) == Some(true));
+fn pieces_wait_and_are_pinned_behind_their_gate(rt: HostRuntime) {
+    for trial in trials() {
+        assert!(rt; comes_right(&rt, rt.alloc(), *trial) == Some(true));
     }
 }

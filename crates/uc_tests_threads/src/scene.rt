@@ -1,19 +1,65 @@
-//! [`Scene`]: a store that threads share, and what it is called with.
-ghost use Rattle.std.specs.Prelude.{◌≡◌, false};
+//! [`Scene`]: a store that threads share, and what all know who work there.
+ghost use Rattle.std.specs.Prelude.{◌≡◌};
 
-use std::alloc::{AllocError, Global};
-use std::marker::{Model, Sync};
-use std::sync::Wait;
-use std::thread::Threads;
+use crate::dice::Dice;
+use crate::done::Done;
+use crate::drawn::{drawn_queries, writes_behind};
+use crate::gate::Holding;
+use crate::place::Place;
+use crate::plain::Plain;
+use crate::plan::Plan;
+use std::alloc::Global;
+use std::marker::{Model, Send, Sync};
+use std::mem;
+use std::sync::{RwLock, Wait};
+use std::thread::{Threads, yield_now};
 use uc_batch::Writes;
 use uc_oper::Operator;
-use uc_share::{FeedError, Name, Reader, ReleaseError, Store};
+use uc_query_read::Query;
+use uc_query_shared::answer_all;
+use uc_share::{Compactor, FeedError, Held, Name, Pin, Reader, Seat, Store, Stretch, Turn};
 
-/// A store, and what it is called with. Contracts see whether its snapshots stay, which they don't.
+/// What a store opened with.
+#[derive(Clone, Copy)]
+pub struct Start {
+    /// The number of writes, and the id that the next run gets.
+    pub count: u64,
+    pub first_id: u64,
+    /// Two sequences that it keeps since then: one, and the last one.
+    pub first_keep: u64,
+    pub last: u64,
+}
+
+/// How runs are claimed.
+#[derive(Clone, Copy)]
+pub struct Claimed {
+    /// What is claimed if nothing is picked, and whether what is picked is claimed.
+    pub stretch: Stretch,
+    pub picks: bool,
+    /// Whether the claim is given back.
+    pub gives_back: bool,
+}
+
+/// The last sequence that is shown.
+pub fn last_shown<O: Operator, N: Name>(reader: &mut Reader<O, N>) -> Option<u64> {
+    let pin = reader.pin().ok()?;
+    Some(pin.version().last())
+}
+
+/// A store, and what all know who work there. Contracts see whether its snapshots stay, which they don't.
 pub struct Scene<'a, O: Operator, N: Name, W: Wait + Drop, R> {
     pub rt: &'a R,
     pub alloc: Global,
     pub store: &'a Store<O, N, W>,
+    pub plan: Plan,
+    pub start: Start,
+    /// All writes that may be fed, after those that it opened with.
+    pub writes: &'a Writes,
+    /// The sequence that is kept last. Who asks reads it and asks under the lock, so nobody asks at what is released.
+    pub kept: RwLock<u64>,
+    /// What is asked at the gate.
+    pub queries: &'a [Query],
+    pub gate: Holding,
 }
 
 impl<'a, O: Operator, N: Name, W: Wait + Drop, R> Model for Scene<'a, O, N, W, R> {
@@ -32,33 +78,171 @@ impl<O: Operator, N: Name, W: Wait + Drop, R> Drop for Scene<'_, O, N, W, R> {
             rt: _,
             alloc: _,
             store: _,
+            plan: _,
+            start: _,
+            writes: _,
+            kept: _,
+            queries: _,
+            gate: _,
         } = self;
     }
 }
 
-impl<'a, O: Operator, N: Name, W: Wait + Drop, R> Scene<'a, O, N, W, R> {
-    /// A store whose snapshots may be kept and released.
-    pub fn new(rt: &'a R, alloc: Global, store: &'a Store<O, N, W>) -> Scene<'a, O, N, W, R>
-        requires table { store.now.table ≡ N.table }
-        requires keeps { N.keeps_stay ≡ false }
+impl<O, N, W, R> Scene<'_, O, N, W, R>
+where
+    O: Operator + Sync,
+    N: Name + Send,
+    W: Wait + Drop,
+    R: Threads + Wait + Sync,
+{
+    /// Compacts a claim, and installs it.
+    fn install(
+        &self,
+        reader: &mut Reader<O, N>,
+        place: &mut Place<N>,
+        held: Held<O, N>,
+        done: &mut Done,
+    ) -> Option<()>
+        requires { held.seat.table ≡ N.table }
     {
-        Scene { rt, alloc, store }
-    }
-}
-
-impl<O: Operator, N: Name, W: Wait + Drop, R: Threads + Wait + Sync> Scene<'_, O, N, W, R> {
-    /// Feeds writes.
-    pub fn feed(&self, writes: &Writes, reader: &mut Reader<O, N>) -> Result<u64, FeedError> {
-        self.store.feed(self.rt, self.alloc, writes, reader)
-    }
-
-    /// Keeps the last sequence.
-    pub fn keep(&self, reader: &mut Reader<O, N>) -> Result<u64, AllocError> {
-        self.store.keep(self.rt, self.alloc, reader)
+        let Ok(made) = held.compact(self.rt, self.alloc) else {
+            return None;
+        };
+        match self.store.install(self.rt, self.alloc, held, made, reader) {
+            Ok(seat) => place.put(seat),
+            Err(_) => return None,
+        }
+        done.install();
+        Some(())
     }
 
-    /// Releases a sequence.
-    pub fn release(&self, seq: u64, reader: &mut Reader<O, N>) -> Result<(), ReleaseError> {
-        self.store.release(self.rt, self.alloc, seq, reader)
+    /// Claims a stretch of a pin, and installs what it is compacted to, or gives it back. Nothing is done if the claim is refused.
+    fn compact_stretch(
+        &self,
+        reader: &mut Reader<O, N>,
+        place: &mut Place<N>,
+        seat: Seat,
+        pin: Pin<O, N>,
+        claimed: Claimed,
+        done: &mut Done,
+    ) -> Option<()>
+        requires { seat.table ≡ N.table }
+    {
+        match self.store.claim(seat, pin, reader, claimed.stretch) {
+            Err((seat, _pin, _error)) => place.put(seat),
+            Ok(held) if claimed.gives_back => place.put(self.store.abandon(held).0),
+            Ok(held) => return self.install(reader, place, held, done),
+        }
+        Some(())
+    }
+
+    /// Claims a stretch of a pin, or what is picked of it.
+    pub fn compact_pin(
+        &self,
+        reader: &mut Reader<O, N>,
+        place: &mut Place<N>,
+        pin: Pin<O, N>,
+        claimed: Claimed,
+        done: &mut Done,
+    ) -> Option<()> {
+        let Some(mut seat) = place.take() else {
+            return None;
+        };
+        let stretch = match self.store.pick(&pin, &mut seat) {
+            Some(picked) if claimed.picks => picked,
+            _ => claimed.stretch,
+        };
+        let claimed = Claimed { stretch, ..claimed };
+        self.compact_stretch(reader, place, seat, pin, claimed, done)
+    }
+
+    /// Takes a compactor's turn. It isn't refused.
+    pub fn take_turn(&self, compactor: &mut Compactor<O, N>, done: &mut Done) -> Option<()> {
+        match self.store.turn(self.rt, self.alloc, compactor).ok()? {
+            Turn::Installed => done.install(),
+            Turn::Idle | Turn::Late(_) => yield_now(),
+        }
+        Some(())
+    }
+
+    /// Feeds this many writes after the last sequence that is shown, unless another is faster, or too many runs wait for compactors.
+    pub fn feed(&self, reader: &mut Reader<O, N>, count: u64, done: &mut Done) -> Option<()> {
+        let last = last_shown(reader)?;
+        let writes = writes_behind(self.alloc, last, count)?;
+        match self.store.feed(self.rt, self.alloc, &writes, reader) {
+            Ok(runs) => done.feed(count, runs),
+            Err(FeedError::Back(now)) if now > last => yield_now(),
+            Err(FeedError::TooManyRuns) => yield_now(),
+            Err(_) => return None,
+        }
+        Some(())
+    }
+
+    /// Keeps the last sequence. Returns it.
+    pub fn keep(&self, reader: &mut Reader<O, N>, done: &mut Done) -> Option<u64> {
+        let seq = self.store.keep(self.rt, self.alloc, reader).ok()?;
+        done.event();
+        Some(seq)
+    }
+
+    /// Releases a sequence that was kept. What the store was opened with stays, and so does what is kept now.
+    pub fn release(
+        &self,
+        reader: &mut Reader<O, N>,
+        before: u64,
+        kept: u64,
+        done: &mut Done,
+    ) -> Option<()> {
+        if before != self.start.last && before != kept {
+            self.store
+                .release(self.rt, self.alloc, before, reader)
+                .ok()?;
+            done.event();
+        }
+        Some(())
+    }
+
+    /// What the plain writes answer where this sequence is kept beside those of the opening.
+    fn plain(&self, kept: u64) -> Plain<'_> {
+        Plain {
+            writes: self.writes,
+            keeps: [self.start.first_keep, self.start.last, kept],
+        }
+    }
+
+    /// This many drawn queries, where this sequence is kept beside those of the opening.
+    pub fn drawn(&self, dice: &mut Dice, kept: u64, count: u64) -> Option<Vec<Query>> {
+        let keeps = [self.start.first_keep, self.start.last, kept];
+        drawn_queries(self.alloc, dice, keeps, count)
+    }
+
+    /// Whether what is shown answers these queries as the plain writes do, where this sequence is kept.
+    pub fn answers_pinned(
+        &self,
+        reader: &mut Reader<O, N>,
+        queries: &[Query],
+        kept: u64,
+    ) -> Option<bool> {
+        let pin = reader.pin().ok()?;
+        let plain = self.plain(kept);
+        Some(plain.are_given::<O>(self.alloc, pin.version(), queries))
+    }
+
+    /// Whether workers answer these queries as the plain writes do, where this sequence is kept.
+    pub fn answers_all(
+        &self,
+        readers: &mut Vec<Reader<O, N>>,
+        queries: &[Query],
+        kept: u64,
+        workers: usize,
+        piece: usize,
+    ) -> bool {
+        let own = mem::replace(readers, Vec::new(self.alloc));
+        let (back, answers) = answer_all(
+            self.rt, self.alloc, own, queries, workers, piece, &self.gate,
+        );
+        *readers = back;
+        self.plain(kept)
+            .gives_all::<O>(self.alloc, queries, &answers)
     }
 }

@@ -1,5 +1,0 @@
-use Rattle.std.proofs.Common.{◌≡◌, All}
-use Rattle.uc_tests_threads.proofs.named_seat.named_seats.Given as goal
-
-abbrev pub invariant-loop-seat : goal.invariant-loop-seat
-invariant-loop-seat g l = All (λ seat. seat.table ≡ g.N.Name.table) l.seat-iterator.rest.items
