@@ -1,73 +1,224 @@
-//! Runs of `ask` over memory.
+//! What compactors install and a feeder feeds beside the answers.
+use crate::logs::{answers_of, input_of};
+use crate::meeting::{Meeting, Page, Waits};
 use std::alloc::Global;
-use std::marker::{Send, Sync};
+use std::marker::Sync;
 use std::sync::Wait;
 use std::thread::Threads;
-use uc_oper::Operator;
-use uc_tool_ask::{Beside, ask, is_plan};
+use uc_oper::Append;
+use uc_tool_ask::{Beside, ask_through, is_plan};
 use uc_tool_io::Done;
 use uc_version_state::Options;
 
-/// A run: the bytes that it printed, its end, and what was done to the store meanwhile.
-#[derive(Drop)]
-pub(crate) struct Run {
-    pub(crate) text: Vec<u8>,
-    pub(crate) done: Done,
-    pub(crate) beside: Beside,
+/// Merges join texts by commas.
+type Texts = Append<b','>;
+
+/// A run of `ask`.
+#[derive(Clone, Copy)]
+struct Row {
+    /// The number of changes in the log, and of those that come later.
+    changes: u64,
+    later: u64,
+    /// As many neighbours are compacted as a compaction may have, as long as there are as many runs as the trigger. Each change is a
+    /// run.
+    trigger: u32,
+    greatest: u32,
+    workers: usize,
+    compactors: usize,
+    waits: Waits,
+    /// The number of installs, or `ANY`.
+    installs: u64,
 }
 
-/// The number of workers, of queries in a piece, and of compactors.
-pub(crate) type Plan = (usize, usize, usize);
+/// Any number of installs, since some come before a feed and some after it.
+const ANY: u64 = u64::MAX;
 
-/// Options under which each write is a run and two runs are compacted.
-pub(crate) fn small_runs() -> Options {
-    Options {
-        memtable: 1,
-        trigger: 2,
-        percent: 25,
-        ..Options::usual()
+/// A row in short: the trigger and the most runs of a compaction, the numbers of workers and compactors, what these wait for, and the
+/// installs.
+type Short = ((u32, u32), (usize, usize), Waits, u64);
+
+/// One compactor makes of 20 runs what a report makes (`crates/ucstore/cases/reports.txt`): compactions of two runs each until one
+/// is left, of three until two are left and then of these, and of three until two are left. Without a compactor nothing is installed.
+static ALONE: [Short; 4] = [
+    ((2, 2), (1, 1), Waits::Never, 19),
+    ((2, 3), (1, 1), Waits::Never, 10),
+    ((4, 3), (1, 1), Waits::Never, 9),
+    ((2, 2), (1, 0), Waits::Never, 0),
+];
+
+/// Any crew leaves nothing to be picked.
+static CREWS: [Short; 5] = [
+    ((2, 2), (2, 1), Waits::Never, 19),
+    ((2, 2), (2, 2), Waits::Never, 19),
+    ((2, 2), (2, 3), Waits::Never, 19),
+    ((2, 2), (2, 4), Waits::Never, 19),
+    ((2, 2), (2, 16), Waits::Never, 19),
+];
+
+/// Who finds what it picked claimed by another, or compacted by another, picks again.
+static PICKS: [Short; 2] = [
+    ((2, 2), (1, 2), Waits::Claims, 19),
+    ((2, 2), (1, 2), Waits::Moves, 19),
+];
+
+/// Answers are printed while runs are claimed.
+static PRINTS: [Short; 2] = [
+    ((2, 2), (1, 1), Waits::Prints, 19),
+    ((2, 2), (1, 2), Waits::Prints, 19),
+];
+
+/// How many writes come later.
+static LATER: [u64; 5] = [0, 1, 3, 7, u64::MAX];
+
+fn alone() -> &'static [Short] {
+    &ALONE
+}
+
+fn crews() -> &'static [Short] {
+    &CREWS
+}
+
+fn picks() -> &'static [Short] {
+    &PICKS
+}
+
+fn prints() -> &'static [Short] {
+    &PRINTS
+}
+
+fn later_writes() -> &'static [u64] {
+    &LATER
+}
+
+impl Row {
+    /// A run over twenty changes.
+    fn of_short(short: Short) -> Row {
+        let ((trigger, greatest), (workers, compactors), waits, installs) = short;
+        Row {
+            changes: 20,
+            later: 0,
+            trigger,
+            greatest,
+            workers,
+            compactors,
+            waits,
+            installs,
+        }
+    }
+
+    /// A run over three changes, of which some come later.
+    fn of_later(later: u64) -> Row {
+        Row {
+            changes: 3,
+            later,
+            trigger: 2,
+            greatest: 3,
+            workers: 2,
+            compactors: 1,
+            waits: Waits::Never,
+            installs: if later == 0 { 1 } else { ANY },
+        }
+    }
+
+    /// The number of writes that are fed, which are no more than there are.
+    fn fed(self) -> u64 {
+        self.later.min(self.changes)
+    }
+
+    /// Its options.
+    fn options(self) -> Options {
+        Options {
+            memtable: 1,
+            trigger: self.trigger,
+            greatest: self.greatest,
+            ratio: u32::MAX,
+            percent: u32::MAX,
+            ..Options::usual()
+        }
+    }
+
+    /// Whether this is what it should come to: each write is fed, as nothing is against it.
+    fn is_done(self, done: Done, beside: Beside) -> bool {
+        let installs = self.installs == ANY || beside.installs == self.installs;
+        done == Done::Fine && installs && beside.fed == self.fed() && beside.left == 0
     }
 }
 
-/// The run of an input, where the plan is a plan.
-pub(crate) fn run_of<O: Operator + Send + Sync>(
+/// Whether a run ends as it should.
+fn ends_well(
     rt: &(impl Threads + Wait + Sync),
     alloc: Global,
-    options: &Options,
     input: &[u8],
-    plan: Plan,
-) -> Option<Run> {
-    run_later::<O>(rt, alloc, options, input, plan, 0)
-}
-
-/// The run of an input whose last writes come later, where the plan is a plan.
-pub(crate) fn run_later<O: Operator + Send + Sync>(
-    rt: &(impl Threads + Wait + Sync),
-    alloc: Global,
-    options: &Options,
-    input: &[u8],
-    (workers, piece, compactors): Plan,
-    later: u64,
-) -> Option<Run> {
-    if !is_plan(workers, piece, compactors) {
-        return None;
+    row: Row,
+    page: &mut Page<'_>,
+    meeting: &Meeting,
+) -> bool {
+    if !is_plan(row.workers, 1, row.compactors) {
+        return false;
     }
     let mut reader = input;
-    let mut text = Vec::new(alloc);
-    let (outcome, beside) = ask::<O, &[u8], Vec<u8>>(
+    let (outcome, beside) = ask_through::<Texts, &[u8], Page<'_>, Meeting>(
         rt,
         alloc,
         &mut reader,
-        &mut text,
-        options,
-        workers,
-        piece,
-        compactors,
-        later,
+        page,
+        &row.options(),
+        row.workers,
+        1,
+        row.compactors,
+        meeting,
+        row.later,
     );
-    Some(Run {
-        text,
-        done: outcome.done,
-        beside,
-    })
+    row.is_done(outcome.done, beside)
+}
+
+/// Whether a run ends as it should and prints the answers, and nobody waited for too long.
+fn comes_right(rt: &(impl Threads + Wait + Sync), alloc: Global, row: Row) -> Option<bool> {
+    let input = input_of(alloc, row.changes)?;
+    let meeting = Meeting::new(row.waits);
+    let mut page = Page {
+        text: Vec::new(alloc),
+        meeting: &meeting,
+    };
+    let ends = ends_well(rt, alloc, input.as_slice(), row, &mut page, &meeting);
+    let opened = row.changes.saturating_sub(row.fed());
+    Some(ends && page.text.as_slice() == answers_of(opened) && meeting.is_in_time())
+}
+
+/// Whether all of these runs come right.
+fn come_right(rt: &(impl Threads + Wait + Sync), alloc: Global, rows: &[Short]) -> bool {
+    for short in rows {
+        if comes_right(rt, alloc, Row::of_short(*short)) != Some(true) {
+            return false;
+        }
+    }
+    true
+}
+
+#[test]
+fn one_compactor_installs_what_is_reported(rt: HostRuntime) {
+    assert!(rt; come_right(&rt, rt.alloc(), alone()));
+}
+
+#[test]
+fn crews_install_all_that_is_due(rt: HostRuntime) {
+    assert!(rt; come_right(&rt, rt.alloc(), crews()));
+}
+
+#[test]
+fn a_compactor_who_comes_too_late_picks_again(rt: HostRuntime) {
+    assert!(rt; come_right(&rt, rt.alloc(), picks()));
+}
+
+#[test]
+fn answers_are_printed_beside_compactors(rt: HostRuntime) {
+    assert!(rt; come_right(&rt, rt.alloc(), prints()));
+}
+
+/// The program says only how many later writes were left.
+#[test]
+fn later_writes_are_fed(rt: HostRuntime) {
+    for later in later_writes() {
+        assert!(rt; comes_right(&rt, rt.alloc(), Row::of_later(*later)) == Some(true));
+    }
 }
