@@ -22,7 +22,7 @@ use Rattle.uc_compact.proofs.Keys.{no_less_itself, lt_of, le_of_not, le_trans, l
 use Rattle.uc_compact.proofs.NestedLists.{all-append, all-map, all-mapped, none-passed}
 use Rattle.uc_compact.specs.Groups.{keys_of}
 use Rattle.uc_compact.specs.Inputs.{points_of}
-use Rattle.uc_query_read.specs.Ahead.{is_ahead, keys_ahead, Comes}
+use Rattle.uc_query_read.specs.Ahead.{is_ahead, keys_ahead}
 use Rattle.uc_query_read.specs.Answers.{is_below}
 use Rattle.uc_query_read.specs.Back.{greater_of}
 use Rattle.uc_query_read.proofs.LeastKeys.{in_front, behind, points-more}

@@ -1,9 +1,8 @@
 -- Where the cursors of a walk against the order of keys stand.
-use Rattle.std.proofs.Common.{◌≡◌, ℕ, ◌≤◌, min, Bool, true, false, List, [], ◌∷◌, map, filter, length, Option, Some, None, refl, sym, ap, ◌∙◌, subst, arith}
+use Rattle.std.proofs.Common.{◌≡◌, ℕ, ◌≤◌, min, true, false, List, [], ◌∷◌, map, filter, length, Option, Some, None, refl, sym, ap, ◌∙◌, subst, arith}
 use Rattle.std.specs.Prelude.{reverse}
 use Rattle.std.specs.List.{AllByRecursion}
 use Rattle.std.proofs.lemmas.List.Sums.{length-filter}
-use Rattle.uc_bytes.specs.Bytes.{bytes_cmp}
 use Rattle.uc_run_entry.specs.declared.entry.Entry.{Entry}
 use Rattle.uc_run_entry.specs.Run.{Contents}
 use Rattle.uc_run_entry.specs.Seek.{is_passed, seek_place}
@@ -47,7 +46,7 @@ module _ (high : Option (List ℕ)) (key : List ℕ) (below : is_before high key
       let b : length (filter (λ p. is_before high p.key) ps) ≡ end_place ps high = length-filter (λ p. is_before high p.key) ps in
       omega (arith, le, a, b)
 
-  one_before : (n : ℕ) (ps : List Entry) → n ≡ end_place ps high → min n (seek_place ps key false) ≡ seek_place ps key false
+  pub one_before : (n : ℕ) (ps : List Entry) → n ≡ end_place ps high → min n (seek_place ps key false) ≡ seek_place ps key false
   one_before n ps e = let le : seek_place ps key false ≤ end_place ps high = no_further ps in omega (arith, e, le)
 
   pub all_before : (cs : List Standing) → AllByRecursion (StandsBelow high) cs → AllByRecursion (StandsBelow (Some key)) (map (passed_back key) cs)

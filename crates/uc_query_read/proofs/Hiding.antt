@@ -23,7 +23,7 @@ use Rattle.uc_run_entry.specs.Seek.{is_passed}
 use Rattle.uc_run_entry.specs.PlainList.{plain_list}
 use Rattle.uc_run_entry.specs.Lookup.{is_visible, above_newest, effect_found}
 use Rattle.uc_run.specs.Cursors.{Standing}
-use Rattle.uc_run.specs.Hiding.{hides, hidden_to}
+use Rattle.uc_run.specs.Hiding.{hides}
 use Rattle.uc_run.specs.NextKey.{IsNextKey}
 use Rattle.uc_run.specs.Heads.{lesser_of}
 use Rattle.uc_compact.proofs.Keys.{no_less_itself, lt_of, le_of_not, lt_le}

@@ -1,6 +1,6 @@
 -- Keys before one that a newer run's range deletion hides have no value.
-use Rattle.std.proofs.Common.{◌≡◌, ℕ, zero, suc, ◌+◌, ◌<◌, Bool, true, false, cond, List, [], ◌∷◌, ◌++◌, length, get_or, take, filter, Option, Some, None, refl, sym, ap, ◌∙◌, subst, arith}
-use Rattle.std.specs.Prelude.{◌&&◌, ◌==◌, nat_le, option_map}
+use Rattle.std.proofs.Common.{◌≡◌, ℕ, zero, suc, ◌+◌, Bool, true, false, cond, List, [], ◌∷◌, ◌++◌, get_or, take, filter, Option, Some, None, refl, sym, ap, ◌∙◌, subst, arith}
+use Rattle.std.specs.Prelude.{◌==◌, nat_le, option_map}
 use Rattle.std.specs.List.{AllByRecursion, flat_map, find, list_any}
 use Rattle.std.specs.declared.cmp.Ordering.{Ordering}
 use Rattle.std.specs.declared.cmp.Ordering.TheVariants.{Less, Equal, Greater}
@@ -28,9 +28,8 @@ use Rattle.uc_compact.specs.Inputs.{writes_of, points_of}
 use Rattle.uc_query_read.specs.Back.{bound_at, later_of}
 use Rattle.uc_query_read.specs.Dead.{AreDeadBelow, IsHiddenFrom}
 use Rattle.uc_query_read.specs.Walks.{runs_of, IsOfRun}
-use Rattle.uc_query_read.proofs.Hiding.{IsOther, IsSeenOver, all_cleared, any_first, any_later, both, differs, differs_back}
+use Rattle.uc_query_read.proofs.Hiding.{IsOther, all_cleared, any_first, any_later, both, differs, differs_back}
 use Rattle.uc_query_read.proofs.Walking.{and_left, and_right, above}
-use denote.Ref.{Bor}
 
 -- ---- a key with a zero byte after it is the least above it
 

@@ -17,3 +17,4 @@ pub mod BackStanding
 pub mod HidingBack
 pub mod SkippingBack
 pub mod Alone
+pub mod BackAlone

@@ -2,14 +2,10 @@
 use Rattle.std.proofs.Common.{◌≡◌, ℕ, ◌≤◌, min, Bool, true, false, List, [], ◌∷◌, map, filter, filter_map, length, Option, Some, None, refl, sym, ap, ◌∙◌, subst, arith}
 use Rattle.std.specs.Prelude.{not, ◌&&◌, option_map, reverse}
 use Rattle.std.specs.List.{AllByRecursion}
-use Rattle.std.specs.declared.cmp.Ordering.{Ordering}
-use Rattle.std.specs.declared.cmp.Ordering.TheVariants.{Less, Equal, Greater}
 use Rattle.std.specs.Ordering.{is_lt, is_le}
 use Rattle.std.proofs.lemmas.Bool.{false≢true}
-use Rattle.std.proofs.lemmas.Cmp.{nat_list_cmp_total}
 use Rattle.std.proofs.lemmas.List.{length-reverse}
 use Rattle.std.proofs.lemmas.List.Sums.{length-filter}
-use Rattle.std.proofs.lemmas.Map.Lookups.{exact_bytes}
 use Rattle.uc_bytes.specs.Bytes.{bytes_cmp}
 use Rattle.uc_oper.specs.Operation.{Operation}
 use Rattle.uc_model.specs.Meaning.{value_of}
@@ -21,14 +17,14 @@ use Rattle.uc_compact.specs.Groups.{keys_of}
 use Rattle.uc_compact.specs.Inputs.{writes_of, points_of}
 use Rattle.uc_compact.proofs.Keys.{lt_of, lt_le}
 use Rattle.uc_query_read.specs.Ahead.{is_ahead, keys_ahead}
-use Rattle.uc_query_read.specs.Answers.{is_below, rows_of}
+use Rattle.uc_query_read.specs.Answers.{rows_of}
 use Rattle.uc_query_read.specs.Back.{back_walk_at, passed_back, StandsBelow}
 use Rattle.uc_query_read.specs.Dead.{AreDeadBelow}
 use Rattle.uc_query_read.specs.Walks.{Walk, runs_of, Skips}
 use Rattle.uc_query_read.proofs.Shown.{filter_map-reverse}
 use Rattle.uc_query_read.proofs.Skipping.{same_given, no_more_given}
 use Rattle.uc_query_read.proofs.Standing.{more_length}
-use Rattle.uc_query_read.proofs.Walking.{and_left, and_right, and_none}
+use Rattle.uc_query_read.proofs.Walking.{and_left, and_right}
 
 -- ---- a cursor before a key moves back to a bound that isn't above it
 

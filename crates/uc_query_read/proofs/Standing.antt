@@ -37,7 +37,7 @@ module _ (f g : Entry → Bool) where
   same_length [] h = refl
   same_length (p ∷ ps) h = same_by p (filter f ps) (filter g ps) (f p) (g p) h.0 (same_length ps h.1)
 
-  more_by : (p : Entry) (ps qs : List Entry) (b c : Bool) → (b ≡ true → c ≡ true) → length ps ≤ length qs → length (cond b (p ∷ ps) ps) ≤ length (cond c (p ∷ qs) qs)
+  pub more_by : (p : Entry) (ps qs : List Entry) (b c : Bool) → (b ≡ true → c ≡ true) → length ps ≤ length qs → length (cond b (p ∷ ps) ps) ≤ length (cond c (p ∷ qs) qs)
   more_by p ps qs true true e rest = omega (arith, rest)
   more_by p ps qs true false e rest = absurd (false≢true (e refl))
   more_by p ps qs false true e rest = omega (arith, rest)
@@ -95,7 +95,7 @@ module _ (key : List ℕ) where
       let b : length (filter (λ p. is_passed key true p.key) ps) ≡ seek_place ps key true = length-filter (λ p. is_passed key true p.key) ps in
       omega (arith, le, a, b)
 
-  one_behind : (n : ℕ) (ps : List Entry) → n ≡ seek_place ps key false → max n (seek_place ps key true) ≡ seek_place ps key true
+  pub one_behind : (n : ℕ) (ps : List Entry) → n ≡ seek_place ps key false → max n (seek_place ps key true) ≡ seek_place ps key true
   one_behind n ps e = let le : seek_place ps key false ≤ seek_place ps key true = further ps in omega (arith, e, le)
 
   pub all_behind : (cs : List Standing) → AllByRecursion (StandsAt key false) cs → AllByRecursion (StandsAt key true) (map (passed key) cs)

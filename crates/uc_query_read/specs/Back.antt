@@ -31,6 +31,11 @@ greater_of None other = other
 greater_of (Some key) None = Some key
 greater_of (Some key) (Some other) = if is_lt (bytes_cmp key other) then Some other else Some key
 
+-- whether a key is above another, if there is one
+abbrev pub is_above_other : List ℕ → Option (List ℕ) → Bool
+is_above_other key None = true
+is_above_other key (Some other) = is_lt (bytes_cmp other key)
+
 -- a key, or the least one above it: what is below that is also the key itself
 abbrev pub bound_at : List ℕ → Bool → List ℕ
 bound_at key included = if included then key ++ 0 ∷ [] else key

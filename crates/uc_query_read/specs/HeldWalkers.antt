@@ -1,5 +1,5 @@
 -- Invariant of the cursors of several runs.
-use Rattle.std.specs.Prelude.{◌≡◌, IfSome, map, option_map}
+use Rattle.std.specs.Prelude.{◌≡◌, false, All, IfSome, IsTrue, map, option_map}
 use Rattle.std.specs.List.{AllByRecursion}
 use Rattle.uc_run.specs.Cursors.{has_ranges}
 use Rattle.uc_run.specs.Heads.{IsLeast, next_key, number_of}
@@ -16,3 +16,4 @@ pub record AreKnown (w : Inside) : Type 0 where
   pub least : IsLeast w.heads.keys (option_map (λ head. head.key.now) w.newer)
   pub number : IfSome w.newer (λ head. head.number ≡ number_of w.heads.front head.key.now)
   pub ranges : w.with_ranges.items ≡ map has_ranges w.cursors.items
+  pub plain : IsTrue w.is_plain → All (λ b. b ≡ false) w.with_ranges.items

@@ -33,6 +33,10 @@ fn last_rows<O: Operator>(
     let mut rows = RowBuffer::with_capacity(alloc, limit.min(FEW_ROWS) as usize * ROW_ROOM)?;
     let mut walk = BackWalk::from(alloc, runs, low, high)?;
     while (rows.len() as u64) < limit {
+        if let Some((key, value)) = walk.next_alone::<O>(at) {
+            rows.push(key, value)?;
+            continue;
+        }
         let Some((key, value)) = walk.next::<O>(alloc, at)? else {
             break;
         };

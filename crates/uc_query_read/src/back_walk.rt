@@ -1,12 +1,14 @@
 //! [`BackWalk`]: a walk over the points of several runs against the order of their keys.
-ghost use Rattle.std.specs.Prelude.{◌≡◌, ℕ, true, List, Option, Some, map, option_map, if◌then◌else◌, IfOk, IfSome};
+ghost use Rattle.std.specs.Prelude.{◌≡◌, ℕ, true, false, All, List, Option, Some, map, option_map, if◌then◌else◌, IfNone, IfOk, IfSome, IsTrue};
 ghost use Rattle.std.specs.List.{AllByRecursion};
 ghost use Rattle.uc_model.specs.Meaning.{effect_on, value_of};
+ghost use Rattle.uc_run_entry.specs.Seek.{is_passed};
 ghost use Rattle.uc_run.specs.BackCursors.{IsPreviousKey};
+ghost use Rattle.uc_run.specs.Cursors.{has_ranges};
 ghost use Rattle.uc_compact.specs.Inputs.{points_of, writes_of};
 ghost use Rattle.uc_version_state.specs.Versions.{contents_of};
 ghost use Rattle.uc_query_read.specs.Ahead.{Comes};
-ghost use Rattle.uc_query_read.specs.Back.{back_walk_at, bound_at, greater_of, passed_back, standing_below, StandsBelow};
+ghost use Rattle.uc_query_read.specs.Back.{back_walk_at, bound_at, greater_of, is_above_other, passed_back, standing_below, StandsBelow};
 ghost use Rattle.uc_query_read.specs.Walks.{runs_of, IsOfRun, Skips};
 
 use crate::dead_below::dead_from;
@@ -16,7 +18,7 @@ use std::marker::Model;
 use uc_bytes::Bytes;
 use uc_model::{effect_gives_value, effects_of_parts_compose};
 use uc_oper::{Effect, EffectRef, Operator, ValueRef};
-use uc_run::{BackCursor, text_order};
+use uc_run::{BackCursor, keys_at_places_are_next, other_keys_are_kept, text_order};
 use uc_version_state::Placed;
 
 /// The place of a walk over the points of runs against the order of their keys. A contract sees it as the runs' contents, the newest
@@ -31,6 +33,8 @@ pub(crate) struct BackWalk<'a> {
     high: Option<&'a [u8]>,
     /// Whether those at that key are ahead too.
     is_included: bool,
+    /// Whether no run has range deletions.
+    is_plain: bool,
 }
 
 impl<'a> Model for BackWalk<'a> {
@@ -166,6 +170,65 @@ fn value_of_each<'a, O: Operator>(
     effect_of_each::<O>(alloc, cursors, key, at)?.apply::<O>(alloc, None)
 }
 
+/// Whether none of the cursors' runs has range deletions.
+fn are_plain(cursors: &[BackCursor<'_>]) -> bool
+    ensures { IsTrue result → All (λ c. has_ranges c ≡ false) cursors.now }
+{
+    for cursor in cursors {
+        if cursor.has_ranges() {
+            return false;
+        }
+    }
+    true
+}
+
+/// Whether a key is above another, if there is one.
+#[inline]
+fn is_above(key: &[u8], other: Option<&[u8]>) -> bool
+    ensures { result ≡ is_above_other key.now (option_map (λ k. k.now) other.entry) }
+{
+    match other {
+        None => true,
+        Some(other) => text_order(other, key).is_lt(),
+    }
+}
+
+/// The last row, if it is at or above a bound, only the oldest run says something of its key, and that is one put at or below a sequence.
+/// Then that run's cursor passes the key; otherwise none moves. No effects are composed, and each point is read once.
+fn prev_alone<'a, O: Operator>(
+    cursors: &mut [BackCursor<'a>],
+    low: &[u8],
+    at: u64,
+) -> Option<(&'a [u8], &'a [u8])>
+    requires of_runs { AllByRecursion IsOfRun cursors.old }
+    requires plain { AllByRecursion (λ c. has_ranges c ≡ false) cursors.old }
+    ensures last { IfSome result (λ row. (high : Option (List ℕ)) → AllByRecursion (StandsBelow high) cursors.old →
+        IsPreviousKey (points_of (runs_of cursors.old)) high (Some row.0.now)) }
+    ensures from { IfSome result (λ row. is_passed low.now false row.0.now ≡ false) }
+    ensures value { IfSome result (λ row. (high : Option (List ℕ)) → AllByRecursion (StandsBelow high) cursors.old →
+        value_of O.meaning (writes_of (runs_of cursors.old)) row.0.now at ≡ Some row.1.now) }
+    ensures passes { IfSome result (λ row. (high : Option (List ℕ)) → AllByRecursion (StandsBelow high) cursors.old →
+        cursors.new ≡ map (passed_back row.0.now) cursors.old) }
+    ensures stays { IfNone result (cursors.new ≡ cursors.old) }
+    ensures runs { runs_of cursors.new ≡ runs_of cursors.old }
+{
+    effect_gives_value::<O>();
+    effects_of_parts_compose::<O>();
+    other_keys_are_kept::<O>();
+    keys_at_places_are_next();
+    let last = cursors.len().checked_sub(1)?;
+    let key = cursors[last].key()?;
+    if text_order(key, low).is_lt() {
+        return None;
+    }
+    let newer = greatest_key(&cursors[..last]);
+    if !is_above(key, newer) {
+        return None;
+    }
+    let value = cursors[last].prev_put::<O>(at)?;
+    Some((key, value))
+}
+
 /// A bound as a slice.
 #[inline]
 fn bound_of(high: &Option<Bytes>) -> Option<&[u8]>
@@ -187,12 +250,34 @@ impl<'a> BackWalk<'a> {
     ) -> Result<BackWalk<'a>, AllocError>
         ensures { IfOk result (λ walk. walk ≡ back_walk_at low.now high.now (contents_of runs.now)) }
     {
+        let cursors = cursors_below(alloc, runs, high)?;
+        let is_plain = are_plain(&cursors);
         Ok(BackWalk {
-            cursors: cursors_below(alloc, runs, high)?,
+            cursors,
             low,
             high: bound_of(high),
             is_included: false,
+            is_plain,
         })
+    }
+
+    /// The greatest of the keys that are ahead, with its value at a sequence number, if that is one put of the oldest run, and nothing else
+    /// is said of the key. Then it passes the key; otherwise it stays where it is, and [`next`](BackWalk::next) says what comes.
+    pub(crate) fn next_alone<O: Operator>(&mut self, at: u64) -> Option<(&'a [u8], &'a [u8])>
+        ensures comes { IfSome result (λ row. Comes self.old.keys (Some row.0.now) self.new.keys) }
+        ensures value { IfSome result (λ row. value_of O.meaning (writes_of self.old.runs) row.0.now at ≡ Some row.1.now) }
+        ensures stays { IfNone result (self.new ≡ self.old) }
+        ensures runs { self.new.runs ≡ self.old.runs }
+    {
+        if !self.is_plain {
+            return None;
+        }
+        let Some((key, value)) = prev_alone::<O>(&mut self.cursors, self.low, at) else {
+            return None;
+        };
+        self.high = Some(key);
+        self.is_included = false;
+        Some((key, value))
     }
 
     /// The greatest of the keys that are ahead, with its value at a sequence number, if it has one. It passes the key, even if it

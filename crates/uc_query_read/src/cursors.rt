@@ -1,18 +1,16 @@
 //! [`Cursors`]: a walk over the points of several runs, key by key.
-ghost use Rattle.std.specs.Prelude.{◌≡◌, false, option_map, IfOk, IfSome};
+ghost use Rattle.std.specs.Prelude.{◌≡◌, false, option_map, IfNone, IfOk, IfSome, Some};
 ghost use Rattle.uc_model.specs.Meaning.{value_of};
-ghost use Rattle.uc_query_read.specs.Answers as answers;
 ghost use Rattle.uc_compact.specs.Inputs.{writes_of};
 ghost use Rattle.uc_version_state.specs.Versions.{contents_of};
 ghost use Rattle.uc_query_read.specs.Ahead.{Comes};
 ghost use Rattle.uc_query_read.specs.Walks.{walk_at, Skips};
 
-use crate::walkers::Walkers;
+use crate::walkers::{Walkers, is_below};
 use std::alloc::{AllocError, Global};
 use std::marker::Model;
 use uc_bytes::Bytes;
 use uc_oper::{Operator, ValueRef};
-use uc_run::text_order;
 use uc_version_state::Placed;
 
 /// The place of a walk over the points of runs. A contract sees it as the runs' contents, the newest first, and the
@@ -38,16 +36,6 @@ impl<'a> Model for Cursors<'a> {
     ghost invariant = { AreThere };
 }
 
-/// Whether a key is below `high`, if there is one.
-fn is_below(key: &[u8], high: &Option<Bytes>) -> bool
-    ensures { result ≡ answers.is_below key.now high.now }
-{
-    match high {
-        None => true,
-        Some(high) => text_order(key, high.as_slice()).is_lt(),
-    }
-}
-
 impl<'a> Cursors<'a> {
     /// Before the keys of the runs' points from `low` on, and below `high` if there is one. It costs a search in each
     /// run.
@@ -65,6 +53,23 @@ impl<'a> Cursors<'a> {
             strict: false,
             high,
         })
+    }
+
+    /// The first of the keys that are ahead, with its value at a sequence, if that is one put of the oldest run, and nothing else is said of
+    /// the key. Then it passes the key; otherwise it stays where it is, and [`next`](Cursors::next) says what comes.
+    #[inline]
+    pub(crate) fn next_alone<O: Operator>(&mut self, at: u64) -> Option<(&'a [u8], &'a [u8])>
+        ensures comes { IfSome result (λ row. Comes self.old.keys (Some row.0.now) self.new.keys) }
+        ensures value { IfSome result (λ row. value_of O.meaning (writes_of self.old.runs) row.0.now at ≡ Some row.1.now) }
+        ensures stays { IfNone result (self.new ≡ self.old) }
+        ensures runs { self.new.runs ≡ self.old.runs }
+    {
+        let Some((key, value)) = self.walkers.next_alone::<O>(self.high, at) else {
+            return None;
+        };
+        self.low = key;
+        self.strict = true;
+        Some((key, value))
     }
 
     /// The first of the keys that are ahead, with its value at a sequence, if it has one. It passes the key. It costs a

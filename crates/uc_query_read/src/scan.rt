@@ -38,6 +38,10 @@ fn first_rows<O: Operator>(
     let mut rows = RowBuffer::with_capacity(alloc, limit.min(FEW_ROWS) as usize * ROW_ROOM)?;
     let mut cursors = Cursors::from(alloc, runs, low, high)?;
     while (rows.len() as u64) < limit {
+        if let Some((key, value)) = cursors.next_alone::<O>(at) {
+            rows.push(key, value)?;
+            continue;
+        }
         let Some((key, value)) = cursors.next::<O>(alloc, at)? else {
             break;
         };

@@ -1,13 +1,13 @@
 //! [`Walkers`]: a cursor in each of several runs; and [`Least`], their least key.
-ghost use Rattle.std.specs.Prelude.{◌≡◌, ◌≢◌, ◌↔◌, ◌<◌, ℕ, Bool, List, Some, true, false, length, map, option_map, All, IfOk, IfSome, IsTrue};
+ghost use Rattle.std.specs.Prelude.{◌≡◌, ◌≢◌, ◌↔◌, ◌<◌, ℕ, Bool, List, Some, true, false, length, map, option_map, All, IfNone, IfOk, IfSome, IsTrue};
 ghost use Rattle.std.specs.List.{AllByRecursion, slice_get};
-ghost use Rattle.uc_oper.specs.declared.effect.Effect.TheVariants.{Set};
 ghost use Rattle.uc_model.specs.Meaning.{effect_on, value_of};
 ghost use Rattle.uc_run.specs.Cursors.{has_ranges};
-ghost use Rattle.uc_run.specs.Heads.{next_key, number_of, lesser_of};
+ghost use Rattle.uc_run.specs.Heads.{next_key, number_of, lesser_of, IsLeast};
 ghost use Rattle.uc_run.specs.NextKey.{IsNextKey};
 ghost use Rattle.uc_compact.specs.Inputs.{points_of, writes_of};
 ghost use Rattle.uc_version_state.specs.Versions.{contents_of};
+ghost use Rattle.uc_query_read.specs.Answers as answers;
 ghost use Rattle.uc_query_read.specs.Dead.{AreDead};
 ghost use Rattle.uc_query_read.specs.Walks.{runs_of, newer_of, standing_at, passed, sought, StandsAt, IsOfRun, IsFound, IsFoundAmong, IsFoundBeside};
 
@@ -15,6 +15,7 @@ use crate::dead_keys::dead_up_to;
 use crate::lookup::compose;
 use std::alloc::{AllocError, Global};
 use std::marker::Model;
+use uc_bytes::Bytes;
 use uc_model::{effect_gives_value, effects_of_parts_compose};
 use uc_oper::{Effect, EffectRef, Operator, ValueRef};
 use uc_run::{Cursor, Head, Heads, keys_at_places_are_next, other_keys_are_kept, text_order};
@@ -42,6 +43,8 @@ pub(crate) struct Walkers<'a> {
     newer: Option<Head<'a>>,
     /// The runs that have range deletions, as flags. These say something of other keys too.
     with_ranges: Vec<bool>,
+    /// Whether none has.
+    is_plain: bool,
 }
 
 impl<'a> Model for Walkers<'a> {
@@ -218,35 +221,66 @@ fn are_without_ranges(with_ranges: &[bool]) -> bool
     true
 }
 
-/// The value that the oldest run puts for the least key, if no other run does anything to that key. It looks at no other point, and
-/// composes no effects: so most rows of a large run are found.
+/// Whether a key is below `high`, if there is one.
 #[inline]
-fn value_alone<'a, O: Operator>(
-    cursors: &[Cursor<'a>],
-    heads: &Heads<'_>,
-    with_ranges: &[bool],
-    least: Least<'_>,
-    at: u64,
-) -> Option<&'a [u8]>
-    requires found { IsFoundAmong heads.now least.key.now least.number }
-    requires stand { AllByRecursion (StandsAt least.key.now false) cursors.now }
-    requires of_runs { AllByRecursion IsOfRun cursors.now }
-    requires heads { heads.now.keys ≡ map next_key (newer_of cursors.now) }
-    requires ranges { with_ranges.now ≡ map has_ranges cursors.now }
-    ensures { IfSome result (λ value.
-        effect_on O.meaning (writes_of (runs_of cursors.now)) least.entry.key.now at ≡ Set (Some value.now)) }
+pub(crate) fn is_below(key: &[u8], high: &Option<Bytes>) -> bool
+    ensures { result ≡ answers.is_below key.now high.now }
 {
+    match high {
+        None => true,
+        Some(high) => text_order(key, high.as_slice()).is_lt(),
+    }
+}
+
+/// Whether a key is below the least of the newer runs' next keys, if there is one.
+#[inline]
+fn is_before(key: &[u8], newer: Option<Head<'_>>) -> bool
+    ensures { result ≡ answers.is_below key.now (option_map (λ head. head.key.now) newer.entry) }
+{
+    match newer {
+        None => true,
+        Some(head) => text_order(key, head.key).is_lt(),
+    }
+}
+
+/// The next row, if it is below a bound, only the oldest run says something of its key, and that is one put at or below a sequence. Then
+/// that run's cursor passes the key; otherwise none moves. No effects are composed, and each point is read once: so most rows of a large
+/// run are found.
+#[inline]
+fn next_alone<'a, O: Operator>(
+    cursors: &mut [Cursor<'a>],
+    newer: Option<Head<'_>>,
+    high: &Option<Bytes>,
+    at: u64,
+) -> Option<(&'a [u8], &'a [u8])>
+    requires of_runs { AllByRecursion IsOfRun cursors.old }
+    requires least { IsLeast (map next_key (newer_of cursors.old)) (option_map (λ head. head.key.now) newer) }
+    requires without { AllByRecursion (λ b. b ≡ false) (map has_ranges cursors.old) }
+    ensures next { IfSome result (λ row. (low : List ℕ) (strict : Bool) → AllByRecursion (StandsAt low strict) cursors.old →
+        IsNextKey (points_of (runs_of cursors.old)) low strict (Some row.0.now)) }
+    ensures below { IfSome result (λ row. answers.is_below row.0.now high.now ≡ true) }
+    ensures value { IfSome result (λ row. AllByRecursion (StandsAt row.0.now false) cursors.old →
+        value_of O.meaning (writes_of (runs_of cursors.old)) row.0.now at ≡ Some row.1.now) }
+    ensures passes { IfSome result (λ row. AllByRecursion (StandsAt row.0.now false) cursors.old →
+        cursors.new ≡ map (passed row.0.now) cursors.old) }
+    ensures stays { IfNone result (cursors.new ≡ cursors.old) }
+    ensures runs { runs_of cursors.new ≡ runs_of cursors.old }
+    ensures newer { newer_of cursors.new ≡ newer_of cursors.old }
+{
+    effect_gives_value::<O>();
     effects_of_parts_compose::<O>();
     other_keys_are_kept::<O>();
     keys_at_places_are_next();
-    if least.number.is_some() {
+    let last = cursors.len().checked_sub(1)?;
+    let key = cursors[last].key()?;
+    if !is_below(key, high) {
         return None;
     }
-    let oldest = cursors.last()?;
-    if !are_without_ranges(&with_ranges[..newer_of(cursors).len()]) {
+    if !is_before(key, newer) {
         return None;
     }
-    oldest.value_put::<O>(least.key, at)
+    let value = cursors[last].next_put::<O>(at)?;
+    Some((key, value))
 }
 
 /// Moves the cursors that are at a key past it. The others are after it already.
@@ -335,11 +369,13 @@ impl<'a> Walkers<'a> {
         let heads = Heads::of_cursors(alloc, newer_of(&cursors))?;
         let newer = heads.least();
         let with_ranges = ranges_of(alloc, &cursors)?;
+        let is_plain = are_without_ranges(&with_ranges);
         Ok(Walkers {
             cursors,
             heads,
             newer,
             with_ranges,
+            is_plain,
         })
     }
 
@@ -368,10 +404,6 @@ impl<'a> Walkers<'a> {
             value ≡ value_of O.meaning (writes_of (runs_of self.now.cursors)) least.entry.key.now at) }
     {
         effect_gives_value::<O>();
-        let (cursors, heads) = (&self.cursors, &self.heads);
-        if let Some(value) = value_alone::<O>(cursors, heads, &self.with_ranges, least, at) {
-            return Ok(Some(ValueRef::lent(value)));
-        }
         let effect = effect_of_all::<O>(
             alloc,
             &self.cursors,
@@ -381,6 +413,30 @@ impl<'a> Walkers<'a> {
             at,
         )?;
         effect.apply::<O>(alloc, None)
+    }
+
+    /// The next row, if it is below a bound, only the oldest run says something of its key, that is one put at or below a sequence, and no
+    /// run has range deletions. Then it moves past the key; otherwise it doesn't move.
+    #[inline]
+    pub(crate) fn next_alone<O: Operator>(
+        &mut self,
+        high: &Option<Bytes>,
+        at: u64,
+    ) -> Option<(&'a [u8], &'a [u8])>
+        ensures next { IfSome result (λ row. (low : List ℕ) (strict : Bool) →
+            AllByRecursion (StandsAt low strict) self.old.cursors →
+            IsNextKey (points_of (runs_of self.old.cursors)) low strict (Some row.0.now)) }
+        ensures below { IfSome result (λ row. answers.is_below row.0.now high.now ≡ true) }
+        ensures value { IfSome result (λ row. AllByRecursion (StandsAt row.0.now false) self.old.cursors →
+            value_of O.meaning (writes_of (runs_of self.old.cursors)) row.0.now at ≡ Some row.1.now) }
+        ensures passes { IfSome result (λ row. AllByRecursion (StandsAt row.0.now false) self.old.cursors →
+            self.new.cursors ≡ map (passed row.0.now) self.old.cursors) }
+        ensures stays { IfNone result (self.new ≡ self.old) }
+    {
+        if !self.is_plain {
+            return None;
+        }
+        next_alone::<O>(&mut self.cursors, self.newer, high, at)
     }
 
     /// Moves past the points at and below a key that are the first ahead.

@@ -39,3 +39,4 @@ pub mod NextHead
 pub mod Walking
 pub mod Alike
 mod PutFirst
+pub mod LonePuts

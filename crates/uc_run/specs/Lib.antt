@@ -18,5 +18,6 @@ pub mod Filters
 pub mod NumberBlocks
 pub mod Heads
 pub mod HeldHeads
+pub mod Lone
 pub mod BackCursors
 pub mod HeldBackCursors

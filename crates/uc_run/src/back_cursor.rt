@@ -1,6 +1,7 @@
 //! [`BackCursor`]: a walk over a run's points against the order of key.
-ghost use Rattle.std.specs.Prelude.{◌≡◌, ◌≤◌, ℕ, List, Option, Some, false, length, min, option_map, IfOk};
+ghost use Rattle.std.specs.Prelude.{◌≡◌, ◌≤◌, ◌-◌, ℕ, List, Option, Some, true, false, length, min, option_map, IfNone, IfOk, IfSome};
 ghost use Rattle.std.specs.List.Sorted.{IsStrictlySortedBy};
+ghost use Rattle.uc_oper.specs.declared.effect.Effect.TheVariants.{Set};
 ghost use Rattle.uc_model.specs.Meaning.{effect_on};
 ghost use Rattle.uc_run_entry.specs.Order.{entry_cmp};
 ghost use Rattle.uc_run_entry.specs.PlainList.{plain_list};
@@ -9,18 +10,20 @@ ghost use Rattle.uc_run_entry.specs.Seek.{seek_place};
 ghost use Rattle.uc_run.specs.BackCursors.{end_place, hidden_from, last_key, point_before, IsPreviousKey};
 ghost use Rattle.uc_run.specs.Cursors.{has_ranges};
 ghost use Rattle.uc_run.specs.Fences.{IsFenced};
+ghost use Rattle.uc_run.specs.Lone.{is_same, lone_put_before};
 
 use crate::fences::{Fences, seek_by_fences};
 use crate::lookup::effect_found;
 use crate::near::{begin_of_hiding, fragments_near};
 use crate::places::is_passed;
 use crate::run::Run;
+use crate::texts::same_text;
 use std::alloc::{AllocError, Global};
 use std::marker::Model;
 use uc_bytes::Bytes;
 use uc_oper::{EffectRef, Operator};
-use uc_run_entry::plain_list_does_what_is_found;
-use uc_run_points::Points;
+use uc_run_entry::{WhatRef, plain_list_does_what_is_found};
+use uc_run_points::{PointRef, Points};
 
 /// The number of points that are passed one by one before the fences are searched.
 const FEW_POINTS: usize = 8;
@@ -31,8 +34,8 @@ const FEW_POINTS: usize = 8;
 pub struct BackCursor<'a> {
     run: &'a Run,
     place: usize,
-    /// The key of the point just before the place, if there is one.
-    key: Option<&'a [u8]>,
+    /// The point just before the place, if there is one: it is read already.
+    last: Option<PointRef<'a>>,
 }
 
 impl<'a> Model for BackCursor<'a> {
@@ -78,12 +81,48 @@ fn end_in(run: &Run, high: &Option<Bytes>) -> usize
     }
 }
 
-/// The key of the point just before a place. It costs a step for each point before that in its quarter of a block.
-fn key_before(run: &Run, place: usize) -> Option<&[u8]>
-    ensures { option_map (λ key. key.now) result ≡ option_map (λ p. p.key) (point_before run.now.points place) }
+/// The point just before a place. It costs a step for each point before that in its quarter of a block.
+fn before(points: &Points, place: usize) -> Option<PointRef<'_>>
+    ensures { result ≡ point_before points.now place }
 {
-    let point = run.entries().get(place.checked_sub(1)?)?;
-    Some(point.key())
+    points.get(place.checked_sub(1)?)
+}
+
+/// Whether a point, if there is one, is of a key.
+fn is_of(point: Option<&PointRef<'_>>, key: &[u8]) -> bool
+    ensures { result ≡ is_same key.now (option_map (λ p. p.now.key) point.entry) }
+{
+    match point {
+        Some(point) => same_text(point.key(), key),
+        None => false,
+    }
+}
+
+/// The value of the point just before a place, if it is a put at or below a sequence and the only point of its key before the place; and
+/// the point before it.
+fn lone_put_before<'a>(
+    points: &'a Points,
+    place: usize,
+    last: Option<&PointRef<'a>>,
+    at: u64,
+) -> Option<(&'a [u8], Option<PointRef<'a>>)>
+    requires { option_map (λ p. p.now) last ≡ point_before points.now place }
+    ensures value { option_map (λ row. row.0.now) result ≡ lone_put_before points.now place at }
+    ensures before { IfSome result (λ row. row.1 ≡ point_before points.now (place - 1)) }
+{
+    let last = last?;
+    let (seq, what) = last.seq_and_what();
+    let WhatRef::Put(value) = what else {
+        return None;
+    };
+    if seq > at {
+        return None;
+    }
+    let earlier = before(points, place.saturating_sub(1));
+    if is_of(earlier.as_ref(), last.key()) {
+        return None;
+    }
+    Some((value, earlier))
 }
 
 impl<'a> BackCursor<'a> {
@@ -95,7 +134,7 @@ impl<'a> BackCursor<'a> {
         BackCursor {
             run,
             place,
-            key: key_before(run, place),
+            last: before(run.entries(), place),
         }
     }
 
@@ -115,7 +154,10 @@ impl<'a> BackCursor<'a> {
             IsPreviousKey self.now.run.points high (option_map (λ key. key.now) result) }
     {
         self.run.recall();
-        self.key
+        match &self.last {
+            Some(last) => Some(last.key()),
+            None => None,
+        }
     }
 
     /// Whether the run has range deletions.
@@ -137,7 +179,30 @@ impl<'a> BackCursor<'a> {
     {
         self.run.recall();
         self.place = place_before(self.run.entries(), self.run.fences(), self.place, key);
-        self.key = key_before(self.run, self.place);
+        self.last = before(self.run.entries(), self.place);
+    }
+
+    /// The value of the last point that isn't passed, if it is a put at or below a sequence and, of the points that aren't passed, the only one
+    /// of its key. Then the walk passes it; otherwise it stays. It looks at no range deletion, and reads the point before it, which the next
+    /// call wants first.
+    pub fn prev_put<O: Operator>(&mut self, at: u64) -> Option<&'a [u8]>
+        ensures value { option_map (λ value. value.now) result ≡ lone_put_before self.old.run.points self.old.place at }
+        ensures puts { IfSome result (λ value. (key : List ℕ) → last_key self.old ≡ Some key →
+            self.old.place ≡ seek_place self.old.run.points key true → has_ranges self.old ≡ false →
+            effect_on O.meaning (plain_list self.old.run) key at ≡ Set (Some value.now)) }
+        ensures passes { IfSome result (λ value. (key : List ℕ) → last_key self.old ≡ Some key →
+            self.new ≡ record { run = self.old.run; place = seek_place self.old.run.points key false }) }
+        ensures stays { IfNone result (self.new ≡ self.old) }
+    {
+        self.run.recall();
+        plain_list_does_what_is_found::<O>();
+        let found = lone_put_before(self.run.entries(), self.place, self.last.as_ref(), at);
+        let Some((value, last)) = found else {
+            return None;
+        };
+        self.place = self.place.saturating_sub(1);
+        self.last = last;
+        Some(value)
     }
 
     /// The effect of the run's writes at or below a sequence on a key, if the walk's place is just before the key's points. It costs

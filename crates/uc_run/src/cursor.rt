@@ -1,5 +1,5 @@
 //! [`Cursor`]: a walk over a run's points in order of key.
-ghost use Rattle.std.specs.Prelude.{◌≡◌, ◌↔◌, ℕ, Bool, List, Some, true, false, max, option_map, IfOk, IfSome, IsTrue};
+ghost use Rattle.std.specs.Prelude.{◌≡◌, ◌↔◌, ℕ, Bool, List, Some, true, false, drop, max, option_map, IfNone, IfOk, IfSome, IsTrue};
 ghost use Rattle.std.specs.List.{slice_get};
 ghost use Rattle.uc_run_entry.specs.Run.{IsRun};
 ghost use Rattle.uc_run_entry.specs.PlainList.{plain_list};
@@ -7,11 +7,14 @@ ghost use Rattle.uc_run_entry.specs.Seek.{seek_place};
 ghost use Rattle.uc_oper.specs.declared.effect.Effect.TheVariants.{Set};
 ghost use Rattle.uc_model.specs.Meaning.{effect_on};
 ghost use Rattle.uc_run.specs.Cursors.{has_ranges};
+ghost use Rattle.uc_run.specs.Heads.{next_key};
 ghost use Rattle.uc_run.specs.Hiding.{hidden_to};
+ghost use Rattle.uc_run.specs.Lone.{lone_put};
 ghost use Rattle.uc_run.specs.NextKey.{IsNextKey};
 
 use crate::fences::{pass_before, pass_key};
-use crate::lookup::{effect_found, value_found};
+use crate::lone::next_lone_put;
+use crate::lookup::effect_found;
 use crate::near::{end_of_hiding, fragments_ended, fragments_near};
 use crate::run::Run;
 use std::alloc::{AllocError, Global};
@@ -123,18 +126,21 @@ impl<'a> Cursor<'a> {
         effect_found::<O>(alloc, &self.ahead, over, key, at)
     }
 
-    /// The value that the next point puts for the key, if that is the effect of the run's writes at or below a sequence, and the cursor is
-    /// just before the key's points. It looks at no other point.
+    /// The value of the next point, if it is a put at or below a sequence and the only point of its key. Then the cursor passes it;
+    /// otherwise it stays. It looks at no range deletion, and reads the point after it, which the next call wants first.
     #[inline]
-    pub fn value_put<O: Operator>(&self, key: &[u8], at: u64) -> Option<&'a [u8]>
-        requires { self.now.place ≡ seek_place self.now.run.points key.now false }
-        ensures { IfSome result (λ value.
-            effect_on O.meaning (plain_list self.now.run) key.now at ≡ Set (Some value.now)) }
+    pub fn next_put<O: Operator>(&mut self, at: u64) -> Option<&'a [u8]>
+        ensures value { option_map (λ value. value.now) result ≡ lone_put (drop self.old.place self.old.run.points) at }
+        ensures puts { IfSome result (λ value. (key : List ℕ) → next_key self.old ≡ Some key →
+            self.old.place ≡ seek_place self.old.run.points key false → has_ranges self.old ≡ false →
+            effect_on O.meaning (plain_list self.old.run) key at ≡ Set (Some value.now)) }
+        ensures passes { IfSome result (λ value. (key : List ℕ) → next_key self.old ≡ Some key →
+            self.new ≡ record { run = self.old.run; place = seek_place self.old.run.points key true }) }
+        ensures stays { IfNone result (self.new ≡ self.old) }
     {
         self.run.recall();
         plain_list_does_what_is_found::<O>();
-        let over = fragments_near(self.run.fragments(), self.fragment, key);
-        value_found(&self.ahead, over, key, at)
+        next_lone_put(&mut self.ahead, at)
     }
 
     /// The end of the fragment over the key, if that has a range deletion at or below the sequence. From the key to

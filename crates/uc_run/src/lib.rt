@@ -27,6 +27,7 @@ mod flush;
 mod hashing;
 mod heads;
 mod laws;
+mod lone;
 mod lookup;
 mod memtable;
 mod near;

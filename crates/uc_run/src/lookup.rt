@@ -195,25 +195,6 @@ fn effect_before(newest: Option<u64>) -> Effect
     }
 }
 
-/// The value of the first point, if that says what a lookup of the key at the sequence finds: then it puts the value.
-#[inline]
-pub(crate) fn value_found<'a>(
-    points: &PointSlice<'a>,
-    fragments: &[Fragment],
-    key: &[u8],
-    at: u64,
-) -> Option<&'a [u8]>
-    requires order { AreInOrder fragments.now }
-    requires falling { AllByRecursion (λ f. IsFalling f.seqs) fragments.now }
-    ensures { (m : Operation) → IfSome result (λ value.
-        lookup.above_newest m (filter (lookup.is_visible key.now at) points.now)
-        (filter (λ seq. nat_le seq at) (flat_map (λ f. f.seqs) (filter (λ f. covers f key.now) fragments.now)))
-        ≡ Set (Some value.now)) }
-{
-    let newest = newest_over(fragments, key, at);
-    value_put(points, key, at, newest)
-}
-
 /// As [`effect_found`], whatever the first point is.
 fn effect_searched<'a, O: Operator>(
     alloc: Global,

@@ -127,6 +127,23 @@ impl<'a> PointSlice<'a> {
         self.ahead.first()
     }
 
+    /// The points after the first. It reads the one that comes first among them.
+    #[inline]
+    pub fn after_first(&self) -> PointSlice<'a>
+        ensures { result ≡ drop 1 self.now }
+    {
+        if self.is_empty() {
+            return self.again();
+        }
+        let mut ahead = self.ahead.again();
+        ahead.step();
+        PointSlice {
+            points: self.points,
+            begin: self.begin + 1,
+            ahead,
+        }
+    }
+
     /// The point at a place. It costs a step for each point before it in the slice, or in its quarter if these are fewer.
     #[inline]
     pub fn get(&self, place: usize) -> Option<PointRef<'a>>

@@ -90,7 +90,7 @@ impl<'a> PointsAhead<'a> {
 
     /// Passes over the next point, if there is one, and reads the one after it.
     #[inline]
-    fn step(&mut self)
+    pub(crate) fn step(&mut self)
         ensures { self.new ≡ drop 1 self.old }
     {
         if self.count <= 1 {

@@ -1,4 +1,3 @@
-use Rattle.std.proofs.Common.{◌∙◌}
 use Rattle.uc_version_state.specs.Versions.{contents_of}
 use Rattle.uc_query_read.proofs.Shown.{rows_shown_back}
 use Rattle.uc_query_read.proofs.back_scan.rows_back_of_runs.Goals as goal

@@ -1,13 +1,14 @@
-use Rattle.std.proofs.Common.{rules, ◌≡◌, ◌++◌, List, Option, Some, length, map, take, drop, option_map, sym, ap, ◌∙◌, subst}
+use Rattle.std.proofs.Common.{rules, ◌≡◌, ◌++◌, false, List, Some, length, map, take, drop, option_map, refl, sym, ap, ◌∙◌, subst}
 use Rattle.std.specs.List.{AllByRecursion}
 use Rattle.std.specs.Ordering.{is_lt}
 use Rattle.uc_model.specs.Meaning.{value_of}
 use Rattle.uc_run_entry.specs.Run.{Contents}
 use Rattle.uc_run.specs.BackCursors.{IsPreviousKey}
-use Rattle.uc_run.specs.Cursors.{Standing}
+use Rattle.uc_run.specs.Cursors.{Standing, has_ranges}
 use Rattle.uc_compact.specs.Inputs.{points_of, writes_of}
 use Rattle.uc_query_read.specs.Back.{bound_of, passed_back, StandsBelow}
 use Rattle.uc_query_read.specs.Walks.{runs_of, IsOfRun}
+use Rattle.uc_query_read.proofs.Alone.{plain_moved}
 use Rattle.uc_query_read.proofs.BackStanding.{Looks, ends, too_far, stand_before, same_runs, comes}
 use Rattle.uc_query_read.proofs.Beside.{moved_of_runs}
 use Rattle.uc_query_read.proofs.Standing.{come_back}
@@ -90,6 +91,7 @@ invariant_of-self g c =
     record {
       stand = stand_before c.args.self.now cursors k.low.now high found looks key some moved back;
       of_runs = subst (AllByRecursion IsOfRun) (sym back) (moved_of_runs (passed_back key) (λ c is. is) cursors c.self.invariant.of_runs);
+      plain = λ plain. subst (AllByRecursion (λ s. has_ranges s ≡ false)) (sym back) (plain_moved (passed_back key) (λ s. refl) cursors (c.self.invariant.plain plain));
     }
 
 pub returns-in_err-value-clause-runs : goal.returns-in_err-value-clause-runs
@@ -135,6 +137,7 @@ invariant_of-self-2 g c =
     record {
       stand = stand_before c.args.self.now cursors k.low.now high found looks key some moved back;
       of_runs = subst (AllByRecursion IsOfRun) (sym back) (moved_of_runs (passed_back key) (λ c is. is) cursors c.self.invariant.of_runs);
+      plain = λ plain. subst (AllByRecursion (λ s. has_ranges s ≡ false)) (sym back) (plain_moved (passed_back key) (λ s. refl) cursors (c.self.invariant.plain plain));
     }
 
 pub returns-clause-comes : goal.returns-clause-comes

@@ -1,10 +1,11 @@
-use Rattle.std.proofs.Common.{rules, ◌≡◌, ◌++◌, ℕ, Bool, List, Option, Some, length, map, take, drop, option_map, if◌then◌else◌, sym, ap, ◌∙◌, subst}
+use Rattle.std.proofs.Common.{rules, ◌≡◌, ◌++◌, ℕ, Bool, false, List, Option, Some, length, map, take, drop, option_map, if◌then◌else◌, refl, sym, ap, ◌∙◌, subst}
 use Rattle.std.specs.List.{AllByRecursion}
 use Rattle.uc_compact.specs.Inputs.{writes_of}
-use Rattle.uc_run.specs.Cursors.{Standing}
+use Rattle.uc_run.specs.Cursors.{Standing, has_ranges}
 use Rattle.uc_query_read.specs.Back.{back_walk_at, bound_at, bound_of, passed_back, StandsBelow}
 use Rattle.uc_query_read.specs.Dead.{AreDeadBelow}
 use Rattle.uc_query_read.specs.Walks.{runs_of, IsOfRun}
+use Rattle.uc_query_read.proofs.Alone.{plain_moved}
 use Rattle.uc_query_read.proofs.BackStanding.{not_included}
 use Rattle.uc_query_read.proofs.Beside.{moved_of_runs}
 use Rattle.uc_query_read.proofs.SkippingBack.{skips, stand_at}
@@ -31,6 +32,7 @@ invariant_of-self-2 g c =
     record {
       stand = stand_at g.O.Operator.meaning c.args.at c.args.self.now cursors k.low.now key bound is there dead moved goes;
       of_runs = subst (AllByRecursion IsOfRun) (sym goes) (moved_of_runs (passed_back bound) (λ c is. is) cursors c.self.invariant.of_runs);
+      plain = λ plain. subst (AllByRecursion (λ s. has_ranges s ≡ false)) (sym goes) (plain_moved (passed_back bound) (λ s. refl) cursors (c.self.invariant.plain plain));
     }
 
 pub returns : goal.returns

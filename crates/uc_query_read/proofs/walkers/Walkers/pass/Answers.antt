@@ -28,6 +28,7 @@ invariant_of-self c =
       least = c.self.invariant.least;
       number = c.self.invariant.number;
       ranges = c.self.invariant.ranges ∙ sym (moved_ranges moves (λ c. refl) w.cursors.items) ∙ ap (map has_ranges) (sym back);
+      plain = c.self.invariant.plain;
     }
 
 pub invariant_of-self-in-Some : goal.invariant_of-self-in-Some
@@ -43,4 +44,5 @@ invariant_of-self-in-Some c =
       least = c.least-self-inside.ensures.least;
       number = c.least-self-inside.ensures.number;
       ranges = c.self.invariant.ranges ∙ sym (moved_ranges moves (λ c. refl) w.cursors.items) ∙ ap (map has_ranges) (sym back);
+      plain = c.self.invariant.plain;
     }

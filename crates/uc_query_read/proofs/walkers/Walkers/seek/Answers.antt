@@ -20,4 +20,5 @@ invariant_of-self c =
       least = c.least-self-inside.ensures.least;
       number = c.least-self-inside.ensures.number;
       ranges = c.self.invariant.ranges ∙ sym (moved_ranges moves (λ c. refl) w.cursors.items) ∙ ap (map has_ranges) (sym back);
+      plain = c.self.invariant.plain;
     }
