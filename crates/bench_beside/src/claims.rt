@@ -108,7 +108,7 @@ fn work_four<R: Threads + Sync>(
     (table.join(a, b), x.wrapping_add(y))
 }
 
-/// All threads' rounds on a new table: the nanoseconds, and how many takes won. Nothing is told if a slot is taken in the end.
+/// All threads' rounds on a new table: the nanoseconds, and how many takes won. Nothing is written if a slot is taken in the end.
 pub(crate) fn claimed<R: Threads + Clock + Sync>(
     rt: &R,
     alloc: Global,

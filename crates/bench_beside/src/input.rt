@@ -1,6 +1,6 @@
 //! [`Input`]: numbers and bytes, one after the other.
 
-/// What is left to read. A number is decimal digits. Bytes are their length, a number, and then themselves. One byte of any kind
+/// The input that is left to read. A number is decimal digits. Bytes are their length, a number, and then themselves. One byte of any kind
 /// follows each of both. Where nothing is left, there are zeros and no bytes.
 #[derive(Clone, Copy, Drop)]
 pub(crate) struct Input<'a> {

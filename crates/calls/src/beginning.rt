@@ -5,7 +5,7 @@ use std::alloc::{AllocError, Global};
 use uc_bytes::Write;
 use uc_version_state::Options;
 
-/// What a store is opened from: a log, the writes behind it, and the snapshots that it keeps.
+/// The beginning of a store: a log, the writes after it, and the snapshots that it keeps.
 pub(crate) struct Beginning<'a> {
     pub(crate) way: u64,
     pub(crate) options: Options,
@@ -27,7 +27,7 @@ impl<'a> Drop for Beginning<'a> {
 }
 
 impl<'a> Beginning<'a> {
-    /// What a store without a log is opened from.
+    /// The beginning of a store without a log.
     pub(crate) fn into_parts(self) -> (Options, Vec<u64>, Vec<Write>) {
         let Beginning {
             way: _,

@@ -27,7 +27,7 @@ impl Drop for Desk {
     }
 }
 
-/// What each run and each memtable says of itself as a whole.
+/// Writes the totals of each run and each memtable.
 fn look(shelf: &Shelf, memtables: &[FlushableMemtables], out: &mut Out) {
     shelf.look(out);
     for run in shelf.runs() {

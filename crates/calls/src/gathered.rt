@@ -87,7 +87,7 @@ fn shared(
     }
 }
 
-/// Keeps memtables behind all others.
+/// Keeps memtables after all others.
 pub(crate) fn add(
     all: &mut Vec<FlushableMemtables>,
     memtables: FlushableMemtables,
@@ -96,7 +96,7 @@ pub(crate) fn add(
     Ok(())
 }
 
-/// The number of memtables, and whether what is shown is set apart: keeps a share of it behind all others.
+/// The number of memtables, and whether what is shown is set apart: keeps a share of it after all others.
 pub(crate) fn share(
     alloc: Global,
     all: &mut Vec<FlushableMemtables>,

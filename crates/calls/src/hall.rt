@@ -67,7 +67,7 @@ pub(crate) fn take_numbered<T>(list: &mut Vec<(u64, T)>, number: u64) -> Result<
     }
 }
 
-/// Keeps a value at a number, behind the others. It allocates nothing if there is room.
+/// Keeps a value at a number, after the others. It allocates nothing if there is room.
 pub(crate) fn put_numbered<T: Drop>(
     list: &mut Vec<(u64, T)>,
     number: u64,

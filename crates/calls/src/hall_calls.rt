@@ -33,7 +33,7 @@ fn opened(
     }
 }
 
-/// What `opened` takes: a store that has no name yet. Writes whether it is opened, and what it shows, or why it isn't.
+/// Reads the arguments of `opened`: a store that has no name yet. Writes whether it is opened, and what it shows, or why it isn't.
 fn open(alloc: Global, call: &mut Input<'_>, out: &mut Out) -> Option<Opening<Commas>> {
     match opened(alloc, call, out) {
         Ok(opening) => {

@@ -238,7 +238,7 @@ pub(crate) fn ask_pin<N: Name>(
     }
 }
 
-/// The answers by so many workers. All readers come back.
+/// The answers by this many workers. All readers come back.
 fn answered<N: Name + Send>(
     rt: &(impl Threads + Sync),
     alloc: Global,

@@ -183,7 +183,7 @@ fn keep(
     }
 }
 
-/// What the runs of a claim become.
+/// The run that a claim is compacted to.
 fn compacted<N: Name>(
     rt: &(impl Threads + Sync),
     alloc: Global,
@@ -204,7 +204,7 @@ pub(crate) fn compact_claim<N: Name>(
     keep(all, call.number(), compacted(rt, alloc, place), out);
 }
 
-/// What runs that nobody claims become.
+/// The run that unclaimed runs are compacted to.
 fn merged(
     rt: &(impl Threads + Sync),
     alloc: Global,

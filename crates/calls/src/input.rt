@@ -1,7 +1,7 @@
 //! [`Input`]: numbers and bytes, one after the other, as a call spells them.
 use std::alloc::{AllocError, Global};
 
-/// What is left to read.
+/// The input that is left to read.
 ///
 /// A number is decimal digits. Bytes are their length, a number, and then themselves. One byte of any kind follows each of both.
 #[derive(Clone, Copy, Drop)]

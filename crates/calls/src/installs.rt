@@ -33,7 +33,7 @@ fn stretch_of(runs: &[Placed], newest: u64, count: usize) -> Result<Stretch, Hal
     Err(Halt::Refused)
 }
 
-/// What the runs of a claim become by parts, for the store's keeps.
+/// The run that a claim is compacted to by parts, for the store's keeps.
 fn made_for_store<O: Operator + Sync>(
     rt: &(impl Threads + Sync),
     alloc: Global,
@@ -47,7 +47,7 @@ fn made_for_store<O: Operator + Sync>(
     made_by_parts::<O>(rt, alloc, runs, stretch, (version.keeps(), oldest))
 }
 
-/// What the runs of a claim become.
+/// The run that a claim is compacted to.
 fn made_of<O: Operator + Sync>(
     rt: &(impl Threads + Sync),
     alloc: Global,

@@ -39,7 +39,7 @@ fn feed(alloc: Global, call: &mut Input<'_>) -> Result<Call, AllocError> {
     }
 }
 
-/// What isn't a call. All of the list is refused then.
+/// A malformed call: the whole list is refused.
 fn no_call(call: &mut Input<'_>) -> Call {
     call.spoil();
     Call::Pick

@@ -25,7 +25,7 @@ pub(crate) fn shares(
     Ok(shares)
 }
 
-/// What the runs of a stretch become by parts, for these keeps, and as the oldest ones or not.
+/// The run that a stretch is compacted to by parts, for these keeps, and as the oldest ones or not.
 pub(crate) fn made_by_parts<O: Operator + Sync>(
     rt: &(impl Threads + Sync),
     alloc: Global,

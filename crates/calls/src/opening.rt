@@ -48,7 +48,7 @@ fn insert(alloc: Global, opener: &mut Opener, write: &Write, out: &mut Out) {
     out.done(opener.insert(&Alone, alloc, &WriteRef::of(write)));
 }
 
-/// Takes the writes behind the log, up to one that is refused.
+/// Takes the writes after the log, up to one that is refused.
 fn insert_all(alloc: Global, opener: &mut Opener, writes: &[Write], out: &mut Out) {
     for write in writes {
         if out.halt().is_some() {
@@ -70,7 +70,7 @@ fn write_ended(out: &mut Out, ended: Ended) {
     }
 }
 
-/// The log's writes and those behind it in a store that is being opened. Writes how far the log was read.
+/// The log's writes and those after it in a store that is being opened. Writes how far the log was read.
 fn begun(
     rt: &(impl Threads + Sync),
     alloc: Global,
@@ -117,7 +117,7 @@ fn owned<O: Operator>(
     }
 }
 
-/// The store of a log and the writes behind it, or why it isn't opened.
+/// The store of a log and the writes after it, or why it isn't opened.
 fn opened_of_log<O: Operator>(
     rt: &(impl Threads + Sync),
     alloc: Global,
@@ -151,7 +151,7 @@ fn opened_of_writes<O: Operator>(
     opened
 }
 
-/// What a store is opened from: the store, or why it isn't opened. Writes how far its log was read, if it has one. The opening alone is
+/// Opens a store: the store, or why it isn't opened. Writes how far its log was read, if it has one. The opening alone is
 /// clocked. If the answer says already that there is none, the error doesn't count.
 pub(crate) fn open<O: Operator>(
     rt: &(impl Threads + Clock + Sync),

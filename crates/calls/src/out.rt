@@ -48,7 +48,7 @@ impl Out {
         self.halt = None;
     }
 
-    /// What was written.
+    /// The bytes that were written.
     pub(crate) fn as_slice(&self) -> &[u8] {
         self.bytes.as_slice()
     }

@@ -57,7 +57,7 @@ pub(crate) fn find<O: Operator>(claims: &[Held<O>], name: u8) -> Option<usize> {
     None
 }
 
-/// What is held under a name.
+/// The claim that is held under a name.
 pub(crate) fn held_under<O: Operator>(
     claims: &mut Vec<Held<O>>,
     name: u8,
@@ -77,7 +77,7 @@ pub(crate) fn taken<O: Operator>(claims: &mut Vec<Held<O>>, name: u8) -> Option<
     }
 }
 
-/// Holds a claim behind the others.
+/// Holds a claim after the others.
 pub(crate) fn hold<O: Operator>(
     claims: &mut Vec<Held<O>>,
     held: Held<O>,

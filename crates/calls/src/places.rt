@@ -52,7 +52,7 @@ impl<N: Name> Place<N> {
         self.seat = Some(seat);
     }
 
-    /// What is claimed.
+    /// The stretch that is claimed.
     pub(crate) fn claim(&self) -> Result<&Held<Commas, N>, Halt> {
         match &self.held {
             Some(held) => Ok(held),
@@ -60,7 +60,7 @@ impl<N: Name> Place<N> {
         }
     }
 
-    /// What is claimed, which is its owner's then.
+    /// Takes the claim, which is its owner's then.
     pub(crate) fn take_claim(&mut self) -> Result<Held<Commas, N>, Halt>
         ensures { IfOk result (λ held. held.seat.table ≡ N.table) }
     {

@@ -8,7 +8,7 @@ use uc_batch::{Advance, BatchReader, BatchWrites, PieceReader, Pieces, PushError
 use uc_bytes::{Op, OpRef};
 use uc_logrec::{LogReader, Next, crc32c, extend, next_payload, payload_bytes};
 
-/// What a buffer has before a log is read.
+/// The bytes of a buffer before a log is read.
 const BEFORE: &[u8] = b"of an earlier log";
 
 /// Writes what comes next in a log: a payload, one that was joined, or how the log ends. Returns whether it ends.
@@ -32,7 +32,7 @@ fn write_next(alloc: Global, out: &mut Out, next: Next<'_>, joined: &[u8]) -> bo
     }
 }
 
-/// Writes what comes at an offset, and the offset behind it. Returns that, if the log goes on there.
+/// Writes the payload at an offset, and the offset after it. Returns that, if the log goes on there.
 fn write_at(
     alloc: Global,
     out: &mut Out,
@@ -53,7 +53,7 @@ fn write_at(
     }
 }
 
-/// An offset, and a log: what comes at the offset, and the offset behind it, and so on from there, up to the end.
+/// An offset, and a log: the payload at the offset, and the offset after it, and so on from there, up to the end.
 fn walk(alloc: Global, joined: &mut Vec<u8>, call: &mut Input<'_>, out: &mut Out) {
     let (first, log) = (call.number(), call.bytes());
     let mut offset = first;
@@ -220,7 +220,7 @@ fn read_whole(alloc: Global, log: &[u8], out: &mut Out) {
     write_batches(alloc, out, &mut reader, log.len());
 }
 
-/// A log in pieces: its batches, at most so many.
+/// A log in pieces: its batches, at most this many.
 fn read_pieces(alloc: Global, pieces: Pieces, most: usize, out: &mut Out) {
     let mut reader = PieceReader::new(alloc, pieces);
     write_batches(alloc, out, &mut reader, most);

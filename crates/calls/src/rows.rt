@@ -26,8 +26,8 @@ fn write_rows(out: &mut Out, ahead: RowIter<'_>) {
     }
 }
 
-/// Rows whose keys rise, how many are passed over, and how many bytes may be taken: the row behind those that are passed, those
-/// behind them, the rows as bytes, and how many fit.
+/// Rows whose keys rise, how many are passed over, and how many bytes may be taken: the row after those that are passed, those
+/// after them, the rows as bytes, and how many fit.
 fn walk(rows: &Rows, call: &mut Input<'_>, out: &mut Out) {
     let (passed, most) = (call.place(), call.place());
     let mut ahead = rows.iter();

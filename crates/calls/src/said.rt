@@ -24,7 +24,7 @@ pub(crate) fn write<'a>(call: &mut Input<'a>) -> WriteRef<'a> {
     WriteRef::new(seq, op(call))
 }
 
-/// What a call may have any number of.
+/// An element of a list that a call has.
 pub(crate) trait Spelled: Drop {
     /// Reads one.
     fn read(alloc: Global, call: &mut Input<'_>) -> Result<Self, AllocError>;
@@ -83,7 +83,7 @@ impl Spelled for Op {
     }
 }
 
-/// What a point says of its key, if it is a put, a delete or a merge.
+/// The change that a point makes to its key, if it is a put, a delete or a merge.
 pub(crate) fn what<'a>(kind: u64, text: &'a [u8]) -> WhatRef<'a> {
     match kind {
         0 => WhatRef::Put(text),

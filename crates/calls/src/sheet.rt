@@ -13,12 +13,12 @@ use uc_fold::{Effects, fold_all};
 use uc_model::{effect_at, value_at};
 use uc_oper::{Effect, Operator, merged};
 
-/// What the operator makes of both texts, in memory of the older one.
+/// The operator's result for both byte strings, in memory of the older one.
 fn joined<O: Operator>(alloc: Global, older: &[u8], newer: &[u8]) -> Result<Vec<u8>, AllocError> {
     O::join_onto(alloc, Vec::from_slice(alloc, older)?, newer)
 }
 
-/// What the operator makes of two operands, in memory of the older one.
+/// The operator's result for two operands, in memory of the older one.
 fn paired<O: Operator>(alloc: Global, older: &[u8], newer: &[u8]) -> Result<Vec<u8>, AllocError> {
     O::pair_onto(alloc, Vec::from_slice(alloc, older)?, newer)
 }
@@ -85,7 +85,7 @@ fn read<O: Operator>(alloc: Global, writes: &[Write], call: &mut Input<'_>, out:
     out.made_effect(effect_at::<O>(alloc, writes, key, at));
 }
 
-/// What `read` takes.
+/// Reads the arguments of `read`.
 fn read_writes<O: Operator>(alloc: Global, call: &mut Input<'_>, out: &mut Out) {
     match said::list::<Write>(alloc, call) {
         Ok(writes) => read::<O>(alloc, &writes, call, out),

@@ -124,7 +124,7 @@ fn make_one<O: Operator + Sync>(
     make_under(rt, alloc, store, held, (&keeps, call.flag()))
 }
 
-/// A name: makes a call of the claim that is held under it. Its runs are compacted (4), or it says its number (16), or is told apart
+/// A name: makes a call of the claim that is held under it. Its runs are compacted (4), or it says its number (16), or is compared
 /// from a claim of another store (17).
 fn play_claim<O: Operator + Sync>(
     rt: &(impl Threads + Clock + Sync),

@@ -48,7 +48,7 @@ pub(crate) fn ask<O: Operator + Sync>(
     }
 }
 
-/// What a query is answered that asks no list of snapshots.
+/// The answer to a query that needs no list of snapshots.
 fn unasked<O: Operator>(
     alloc: Global,
     version: &Version,
@@ -68,7 +68,7 @@ fn unasked<O: Operator>(
     }
 }
 
-/// What a query is answered at the last sequence.
+/// The answer to a query at the last sequence.
 fn last<O: Operator>(
     alloc: Global,
     version: &Version,
@@ -109,7 +109,7 @@ fn merged<O: Operator + Sync>(
     made_by_parts::<O>(rt, alloc, version.runs(), stretch, (&keeps, call.flag()))
 }
 
-/// What `merged` takes: the run that the stretch becomes, with its points and fragments.
+/// Reads the arguments of `merged`: the run that the stretch becomes, with its points and fragments.
 pub(crate) fn merge<O: Operator + Sync>(
     rt: &(impl Threads + Sync),
     alloc: Global,
@@ -148,7 +148,7 @@ fn apart_from<O: Operator>(here: &Owned<O>, claim: &OwnedClaim, there: Owned<O>,
     }
 }
 
-/// What another store is opened from: tells a claim apart from one of its claims.
+/// Reads the beginning of another store: tells a claim apart from one of its claims.
 pub(crate) fn apart<O: Operator>(
     rt: &(impl Threads + Clock + Sync),
     alloc: Global,

@@ -112,7 +112,7 @@ fn write_refusal(alloc: Global, version: &Version, install: &Install, out: &mut 
     }
 }
 
-/// What `install` takes: why it is refused.
+/// Why an `install` is refused.
 pub(crate) fn refuse(alloc: Global, version: &Version, call: &mut Input<'_>, out: &mut Out) {
     match install(alloc, version, call) {
         Ok(install) => write_refusal(alloc, version, &install, out),

@@ -267,7 +267,7 @@ where
     }
 }
 
-/// What all did together.
+/// The sum of what all did.
 fn all_done(done: &[Done]) -> Done {
     let mut all = Done::nothing();
     for one in done {

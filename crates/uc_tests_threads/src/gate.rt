@@ -19,7 +19,7 @@ pub struct Holding {
 }
 
 impl Holding {
-    /// A gate that tells of one piece and holds one, until so many have installed.
+    /// A gate that tells of one piece and holds one, until this many have installed.
     pub fn new(told: usize, held: usize, awaited: u64) -> Holding {
         Holding {
             told,

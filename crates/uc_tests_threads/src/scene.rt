@@ -19,7 +19,7 @@ use uc_query_read::Query;
 use uc_query_shared::answer_all;
 use uc_share::{Compactor, FeedError, Held, Name, Pin, Reader, Seat, Store, Stretch, Turn};
 
-/// What a store opened with.
+/// The numbers with which a store opened.
 #[derive(Clone, Copy)]
 pub struct Start {
     /// The number of writes, and the id that the next run gets.
@@ -33,7 +33,7 @@ pub struct Start {
 /// How runs are claimed.
 #[derive(Clone, Copy)]
 pub struct Claimed {
-    /// What is claimed if nothing is picked, and whether what is picked is claimed.
+    /// The stretch that is claimed if nothing is picked, and whether a pick is claimed.
     pub stretch: Stretch,
     pub picks: bool,
     /// Whether the claim is given back.
@@ -57,7 +57,7 @@ pub struct Scene<'a, O: Operator, N: Name, W: Wait + Drop, R> {
     pub writes: &'a Writes,
     /// The sequence that is kept last. Who asks reads it and asks under the lock, so nobody asks at what is released.
     pub kept: RwLock<u64>,
-    /// What is asked at the gate.
+    /// The queries that are asked at the gate.
     pub queries: &'a [Query],
     pub gate: Holding,
 }
@@ -202,7 +202,7 @@ where
         Some(())
     }
 
-    /// What the plain writes answer where this sequence is kept beside those of the opening.
+    /// The answer of the plain writes where this sequence is kept beside those of the opening.
     fn plain(&self, kept: u64) -> Plain<'_> {
         Plain {
             writes: self.writes,

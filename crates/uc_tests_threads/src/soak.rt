@@ -123,7 +123,7 @@ where
     }
 }
 
-/// What is done to a store, where all comes right and nothing is lost.
+/// Does the work of a store, where all comes right and nothing is lost.
 fn soak_in<O, N, W, R>(
     rt: &R,
     alloc: Global,
@@ -163,7 +163,7 @@ where
     scene.shows_all(&mut late, done)?.then_some(done)
 }
 
-/// What is done to a store that gets its name here.
+/// Does the work of a store that gets its name here.
 fn soak_named<O, N, W, R>(
     rt: &R,
     handle: W,
@@ -216,7 +216,7 @@ fn drawn_store<O: Operator>(
     Some((opening, start))
 }
 
-/// What is done to a drawn store.
+/// Does the work of a drawn store.
 fn soak<O: Operator + Send + Sync, R: Threads + Wait + Sync>(
     rt: &R,
     alloc: Global,

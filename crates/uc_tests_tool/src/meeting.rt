@@ -46,7 +46,7 @@ impl Count {
     }
 }
 
-/// What compactors wait for.
+/// The event that compactors wait for.
 #[derive(Clone, Copy)]
 pub(crate) enum Waits {
     /// Nothing.

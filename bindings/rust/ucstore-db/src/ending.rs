@@ -95,10 +95,10 @@ fn has_later(windows: &mut Windows, replay: &Replay, last: u64) -> Result<bool, 
     if first_told(&log, end)?.is_some() || is_older && has_unmarked(&log, end.offset, end)? {
         return Ok(true);
     }
-    let Some(behind) = mend_length(&mut log, end)? else {
+    let Some(resume) = mend_length(&mut log, end)? else {
         return Ok(false);
     };
-    Ok(first_told(&log, end)?.is_some() || is_older && has_unmarked(&log, behind, end)?)
+    Ok(first_told(&log, end)?.is_some() || is_older && has_unmarked(&log, resume, end)?)
 }
 
 /// Whether the batch at a place has a mark. Then those that were written after it have.
@@ -155,13 +155,13 @@ fn mend_length(log: &mut [u8], end: LogPlace) -> Result<Option<u64>, Error> {
         let Some(length) = length_by(header.checksum, header.code, &log[begin..most]) else {
             return Ok(None);
         };
-        let behind = header_place((begin + length) as u64);
+        let resume = header_place((begin + length) as u64);
         if length == usize::from(header.length) {
-            place = behind;
+            place = resume;
             continue;
         }
         log[begin - 3..begin - 1].copy_from_slice(&(length as u16).to_le_bytes());
-        return Ok(is_batch_at(log, end.offset, end.last)?.then_some(behind));
+        return Ok(is_batch_at(log, end.offset, end.last)?.then_some(resume));
     }
     Ok(None)
 }
