@@ -1,12 +1,11 @@
 -- Facts about keys in order that follow from their prefixes.
-use Rattle.std.proofs.Common.{◌≡◌, ℕ, ◌+◌, ◌-◌, ◌<◌, ◌≤◌, Bool, true, false, eqb, ltb, leb, List, [], ◌∷◌, ◌++◌, Some, length, get_or, take, drop, map, refl, sym, ap, ◌∙◌, subst, arith}
+use Rattle.std.proofs.Common.{◌≡◌, ℕ, ◌-◌, ◌<◌, ◌≤◌, Bool, true, false, eqb, ltb, leb, List, [], ◌∷◌, ◌++◌, Some, length, get_or, take, drop, map, refl, sym, ap, ◌∙◌, subst, arith}
 use Rattle.std.specs.List.{All, AllWithin, slice_get}
 use Rattle.std.specs.List.Sorted.{IsNonDecreasing, IsPartitionPoint, IsPartitionedBy}
 use Rattle.std.specs.declared.cmp.Ordering.TheVariants.{Less, Greater}
 use Rattle.std.specs.Ordering.{is_lt, is_le}
 use Rattle.std.specs.Cmp.Lexicographic.{same_text}
-use Rattle.std.proofs.lemmas.List.{get_or_default, get_or-map, length-map, map_more, take-append-drop}
-use Rattle.std.proofs.lemmas.List.Elements.{All-more}
+use Rattle.std.proofs.lemmas.List.{get_or_default, get_or-map, get_or_append_left, get_or_push, length-map, length_push, take-append-drop}
 use Rattle.std.proofs.lemmas.Option.{slice_get-get_or}
 use Rattle.std.proofs.lemmas.Bool.Decides.{nat_tests}
 use Rattle.uc_bytes.specs.Bytes.{bytes_cmp, same_bytes}
@@ -108,8 +107,8 @@ module _ (keys : List (List ℕ)) (rising : AreRising keys) (shared : ℕ) (fron
       by false same = ap is_lt same
 
 module _ (keys : List (List ℕ)) (rising : AreRising keys) (shared : ℕ) (prefixes : List ℕ) (held : ArePrefixes keys shared prefixes) where
-  long : length prefixes ≡ length keys
-  long = ap length held.each ∙ length-map keys (λ key. prefix_of (drop shared key))
+  pub prefixes_long : length prefixes ≡ length keys
+  prefixes_long = ap length held.each ∙ length-map keys (λ key. prefix_of (drop shared key))
 
   prefix_at : (k d : ℕ) → k < length keys → get_or prefixes k d ≡ prefix_of (drop shared (get_or keys k []))
   prefix_at k d l =
@@ -117,7 +116,7 @@ module _ (keys : List (List ℕ)) (rising : AreRising keys) (shared : ℕ) (pref
 
   pub prefixes_rise : IsNonDecreasing prefixes
   prefixes_rise i j d le l =
-      let high : j < length keys = omega (arith, l, long) in
+      let high : j < length keys = omega (arith, l, prefixes_long) in
       let low : i < length keys = omega (arith, le, high) in
       omega (arith, prefix_at i d low, prefix_at j d high, prefix_le (drop shared (get_or keys i [])) (drop shared (get_or keys j [])) (held.bytes i [] low) (rests_rise keys rising shared held.front i j le high))
 
@@ -139,14 +138,14 @@ module _ (keys : List (List ℕ)) (rising : AreRising keys) (shared : ℕ) (pref
 
     pub lower_passed : (i : ℕ) → IsPartitionPoint (λ n. n < prefix_of rest) (λ n. prefix_of rest ≤ n) prefixes i → i ≤ length prefixes → (strict : Bool) → AllWithin (λ key. is_passed low strict key ≡ true) keys 0 i
     lower_passed i point le strict k d least l =
-        let short : k < length keys = omega (arith, l, le, long) in
+        let short : k < length keys = omega (arith, l, le, prefixes_long) in
         let lower : prefix_of (drop shared (get_or keys k [])) < prefix_of rest = omega (arith, prefix_at k 0 short, point.0 k 0 least l) in
         ap (is_passed low strict) (get_or_default keys k d [] short)
         ∙ passed_by strict (get_or keys k []) (against k short ∙ lower_prefix (drop shared (get_or keys k [])) rest bytes lower)
 
     pub higher_ahead : (j : ℕ) → IsPartitionPoint (λ n. n ≤ prefix_of rest) (λ n. prefix_of rest < n) prefixes j → (strict : Bool) → AllWithin (λ key. is_passed low strict key ≡ false) keys j (length keys)
     higher_ahead j point strict k d le l =
-        let higher : prefix_of rest < prefix_of (drop shared (get_or keys k [])) = omega (arith, prefix_at k 0 l, point.1 k 0 le (omega (arith, l, long))) in
+        let higher : prefix_of rest < prefix_of (drop shared (get_or keys k [])) = omega (arith, prefix_at k 0 l, point.1 k 0 le (omega (arith, l, prefixes_long))) in
         ap (is_passed low strict) (get_or_default keys k d [] l)
         ∙ ahead_by strict (get_or keys k []) (against k l ∙ higher_prefix (drop shared (get_or keys k [])) rest (held.bytes k [] l) higher)
 
@@ -164,15 +163,23 @@ first_of (x ∷ xs) key e = cc
 
 -- ---- the prefixes of one more key
 
-module _ (keys : List (List ℕ)) (shared i : ℕ) (key rest : List ℕ) (l : i < length keys) (key_is : key ≡ get_or keys i key) (rest_is : rest ≡ drop shared key) where
-  behind_key : rest ≡ drop shared (get_or keys i key)
-  behind_key = rest_is ∙ ap (drop shared) key_is
+pub prefixes_more : (shared : ℕ) (keys : List (List ℕ)) (key : List ℕ) (prefixes : List ℕ) (prefix : ℕ) → prefix ≡ prefix_of (drop shared key) → prefixes ≡ map (λ k. prefix_of (drop shared k)) keys → prefixes ++ prefix ∷ [] ≡ map (λ k. prefix_of (drop shared k)) (keys ++ key ∷ [])
+prefixes_more shared [] key [] prefix e each = ap (λ p. p ∷ []) e
+prefixes_more shared [] key (p ∷ ps) prefix e each = absurd cc
+prefixes_more shared (k ∷ ks) key [] prefix e each = absurd cc
+prefixes_more shared (k ∷ ks) key (p ∷ ps) prefix e each =
+    let first : p ≡ prefix_of (drop shared k) = cc in
+    let rest : ps ≡ map (λ k. prefix_of (drop shared k)) ks = cc in
+    ap (λ n. n ∷ ps ++ prefix ∷ []) first ∙ ap (λ ns. prefix_of (drop shared k) ∷ ns) (prefixes_more shared ks key ps prefix e rest)
 
-  pub prefixes_more : (prefixes : List ℕ) (prefix : ℕ) → prefix ≡ prefix_of rest → prefixes ≡ map (λ k. prefix_of (drop shared k)) (take i keys) → prefixes ++ prefix ∷ [] ≡ map (λ k. prefix_of (drop shared k)) (take (i + 1) keys)
-  prefixes_more prefixes prefix e so_far =
-      ap (λ (ps : List ℕ). ps ++ prefix ∷ []) so_far
-      ∙ ap (λ p. map (λ k. prefix_of (drop shared k)) (take i keys) ++ p ∷ []) (e ∙ ap prefix_of behind_key)
-      ∙ sym (map_more (λ k. prefix_of (drop shared k)) keys i key l)
-
-  pub bytes_more : AreBytes rest → All (λ k. AreBytes (drop shared k)) (take i keys) → All (λ k. AreBytes (drop shared k)) (take (i + 1) keys)
-  bytes_more bytes so_far = All-more (λ k. AreBytes (drop shared k)) keys i key l so_far (subst AreBytes behind_key bytes)
+pub bytes_more : (shared : ℕ) (keys : List (List ℕ)) (key : List ℕ) → AreBytes (drop shared key) → All (λ k. AreBytes (drop shared k)) keys → All (λ k. AreBytes (drop shared k)) (keys ++ key ∷ [])
+bytes_more shared keys key bytes all i d l = by (ltb i (length keys)) refl
+  where
+    by : (b : Bool) → ltb i (length keys) ≡ b → AreBytes (drop shared (get_or (keys ++ key ∷ []) i d))
+    by true f =
+        let lt : i < length keys = grind (arith, nat_tests) in
+        subst (λ (k : List ℕ). AreBytes (drop shared k)) (sym (get_or_append_left keys (key ∷ []) d i lt)) (all i d lt)
+    by false f =
+        let ge : length keys ≤ i = grind (arith, nat_tests) in
+        let last : length keys ≡ i = omega (arith, ge, l, length_push keys key) in
+        subst (λ (k : List ℕ). AreBytes (drop shared k)) (sym (get_or_push keys key d i last)) bytes

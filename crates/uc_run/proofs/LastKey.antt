@@ -10,10 +10,12 @@ use Rattle.std.proofs.lemmas.Bool.Decides.{nat_tests}
 use Rattle.std.proofs.lemmas.Cmp.{nat_list_cmp_total, tied_itself}
 use Rattle.std.proofs.lemmas.List.Elements.{All-contains, All-from_recursion}
 use Rattle.std.proofs.lemmas.List.Sums.{length-filter}
-use Rattle.std.proofs.lemmas.Option.{get_or_from_slice_get}
+use Rattle.std.proofs.lemmas.Option.{get_or_from_slice_get, slice_get-get_or}
 use Rattle.uc_bytes.specs.Bytes.{bytes_cmp}
 use Rattle.uc_run_entry.specs.declared.entry.Entry.{Entry}
+use Rattle.uc_run_entry.specs.declared.entry.What.TheVariants.{Delete}
 use Rattle.uc_run_entry.specs.Order.{entry_cmp}
+use Rattle.uc_run_entry.specs.Seek.{is_passed}
 use Rattle.uc_run.specs.BackCursors.{is_before, end_place, point_before, IsGreatestKey, IsPreviousKey}
 use Rattle.uc_run.proofs.Order.{key_before, passed_before}
 
@@ -141,3 +143,20 @@ back_more Fails xs place passed x lt there fails after k d low l = by (ltb k (pl
         let at : k ≡ place - passed - 1 = omega (arith, below, low) in
         subst Fails (sym (get_or_from_slice_get xs k x d (ap (λ n. slice_get xs n) at ∙ there))) fails
     by false e = let ge : place - passed ≤ k = grind (arith, nat_tests) in after k d ge l
+
+-- a walk stays where the point before it, if there is one, is below the search
+pub stays_back : (points : List Entry) (key : List ℕ) (place m : ℕ) → place ≤ length points → IsPartitionPoint (λ (p : Entry). is_passed key false p.key ≡ true) (λ (p : Entry). is_passed key false p.key ≡ false) points m → ((p : Entry) → point_before points place ≡ Some p → is_passed key false p.key ≡ true) → place ≡ min place m
+stays_back points key zero m within point below = omega arith
+stays_back points key (suc n) m within point below =
+    let lt : n < length points = omega (arith, within) in
+    let last : Entry = get_or points n none_such in
+    let nothing : suc n ≡ suc n - 0 = omega arith in
+    nothing ∙ back_ends (λ (p : Entry). is_passed key false p.key ≡ true) (λ (p : Entry). is_passed key false p.key ≡ false) (λ p passes fails. false≢true (sym fails ∙ passes))
+    points (suc n) 0 m last within (omega arith) point (λ k d low l. absurd (omega (arith, low, l)))
+    (subst (λ (p : Entry). is_passed key false p.key ≡ true) (same_there n lt ∙ ap (λ k. get_or points k (get_or points n none_such)) (let at : n ≡ suc n - 0 - 1 = omega arith in at)) (below last (slice_get-get_or points n none_such lt)))
+  where
+    none_such : Entry
+    none_such = record { key = []; seq = 0; what = Delete }
+
+    same_there : (n : ℕ) → n < length points → get_or points n none_such ≡ get_or points n (get_or points n none_such)
+    same_there n lt = sym (get_or_from_slice_get points n (get_or points n none_such) (get_or points n none_such) (slice_get-get_or points n none_such lt))

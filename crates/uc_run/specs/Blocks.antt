@@ -5,7 +5,7 @@ use Rattle.uc_run_entry.specs.declared.entry.Entry.{Entry}
 
 -- how many points each block has; the last may have fewer
 abbrev pub block_points : ℕ
-block_points = 16
+block_points = 4
 
 -- how many blocks some points fill
 abbrev pub blocks_of : List Entry → ℕ

@@ -3,10 +3,12 @@ ghost use Rattle.std.specs.Prelude.{◌≡◌, ◌≤◌, ◌-◌, ℕ, List, Op
 ghost use Rattle.std.specs.List.Sorted.{IsStrictlySortedBy};
 ghost use Rattle.uc_oper.specs.declared.effect.Effect.TheVariants.{Set};
 ghost use Rattle.uc_model.specs.Meaning.{effect_on};
+ghost use Rattle.uc_run_entry.specs.declared.entry.Entry.{Entry};
 ghost use Rattle.uc_run_entry.specs.Order.{entry_cmp};
 ghost use Rattle.uc_run_entry.specs.PlainList.{plain_list};
 ghost use Rattle.uc_run_entry.specs.Run.{IsRun};
 ghost use Rattle.uc_run_entry.specs.Seek.{seek_place};
+ghost use Rattle.uc_run_entry.specs.Seek as seek;
 ghost use Rattle.uc_run.specs.BackCursors.{end_place, hidden_from, last_key, point_before, IsPreviousKey};
 ghost use Rattle.uc_run.specs.Cursors.{has_ranges};
 ghost use Rattle.uc_run.specs.Fences.{IsFenced};
@@ -66,6 +68,17 @@ fn place_before(points: &Points, fences: &Fences, place: usize, key: &[u8]) -> u
         }
     }
     place.min(seek_by_fences(points, fences, key, false))
+}
+
+/// Whether a point, if there is one, is at or above a key.
+fn is_at_or_above(point: Option<&PointRef<'_>>, key: &[u8]) -> bool
+    ensures { result ≡ false → (p : Entry) → option_map (λ p. p.now) point.entry ≡ Some p →
+        seek.is_passed key.now false p.key ≡ true }
+{
+    match point {
+        Some(point) => !is_passed(key, false, point.key()),
+        None => false,
+    }
 }
 
 /// The number of a run's points whose keys are below `high`, if there is one.
@@ -168,7 +181,8 @@ impl<'a> BackCursor<'a> {
         !self.run.fragments().is_empty()
     }
 
-    /// Moves back to before the points at and above a key, never forward: a few points one by one, more by a search by the fences.
+    /// Moves back to before the points at and above a key, never forward: a few points one by one, more by a search by the fences. If there
+    /// is none, that costs a comparison.
     pub fn pass(&mut self, key: &[u8])
         ensures { self.new ≡
             record {
@@ -178,8 +192,10 @@ impl<'a> BackCursor<'a> {
             } }
     {
         self.run.recall();
-        self.place = place_before(self.run.entries(), self.run.fences(), self.place, key);
-        self.last = before(self.run.entries(), self.place);
+        if is_at_or_above(self.last.as_ref(), key) {
+            self.place = place_before(self.run.entries(), self.run.fences(), self.place, key);
+            self.last = before(self.run.entries(), self.place);
+        }
     }
 
     /// The value of the last point that isn't passed, if it is a put at or below a sequence and, of the points that aren't passed, the only one

@@ -24,7 +24,7 @@ fn front_of_points<'a>(points: &PointSlice<'a>) -> Option<&'a [u8]> {
 /// the cache, isn't read. One fence alone says nothing about the other keys.
 fn front_of_run(run: &Run) -> Option<&[u8]> {
     if run.blocks() > 1 {
-        return run.fences().front();
+        return Some(run.fences().front());
     }
     front_of_points(&run.entries().as_slice())
 }

@@ -1,113 +1,200 @@
-//! [`Fences`]: the first keys of blocks of points, and searches by them.
-ghost use Rattle.std.specs.Prelude.{◌≡◌, ◌<◌, ◌≤◌, true, false, max, length, drop, IfOk};
+//! [`Fences`]: prefixes of the first keys of blocks of points, and searches by them.
+ghost use Rattle.std.specs.Prelude.{◌≡◌, ◌<◌, ◌≤◌, ℕ, List, true, false, max, length, drop, option_map, IfOk};
 ghost use Rattle.std.specs.List.{AllWithin, HoldsAt};
-ghost use Rattle.std.specs.List.Sorted.{IsStrictlySortedBy, IsPartitionPoint, IsPartitionedBy};
+ghost use Rattle.std.specs.List.Sorted.{IsStrictlySortedBy};
 ghost use Rattle.uc_bytes.specs.Bytes.{same_bytes};
 ghost use Rattle.uc_run_entry.specs.Order.{entry_cmp};
 ghost use Rattle.uc_run_entry.specs.Seek as seek;
-ghost use Rattle.uc_run.specs.Fences.{IsFenced};
+ghost use Rattle.uc_run.specs.Blocks.{blocks_of, fence_of};
+ghost use Rattle.uc_run.specs.Fences.{AreAhead, AreFences, ArePassed, HasPrefixes, IsFence, IsFenced, IsFront};
 ghost use Rattle.uc_run.specs.Places.{IsRest, place_of};
 
 use crate::places::is_passed;
-use crate::prefixes::{prefixes_of, shared_front, undecided};
+use crate::prefixes::{common_prefix_len, equal_range, prefix_of};
 use crate::texts::same_text;
 use std::alloc::{AllocError, Global};
-use std::marker::Model;
 use uc_bytes::Bytes;
 use uc_run_points::{PointRef, PointSlice, PointTest, Points, make_small};
 
-/// The number of points in each block; the last may have fewer.
-const BLOCK_POINTS: usize = 16;
+/// The number of points in each block; the last may have fewer. Each block is a quarter of what `Points` has the places of.
+const BLOCK_POINTS: usize = 4;
 
 /// The number of points that are passed one by one before the fences are searched.
 const FEW_POINTS: usize = 8;
 
-/// The key of the first point of each block, apart from the points, so that a search touches few cache lines. A
-/// contract sees it as these keys.
+/// Prefixes of the fences, which are the keys of the first points of blocks, apart from the points, so that a search touches few cache
+/// lines. The keys themselves are in the points.
 pub(crate) struct Fences {
-    keys: Vec<Bytes>,
-    /// The number of bytes that all keys have in common at their front.
-    shared: usize,
-    /// The prefix of each key after these bytes, in one piece: most steps of a search look at no key.
+    /// The bytes that all fences have in common at their front.
+    front: Bytes,
+    /// The prefix of each fence after these bytes, in one piece: most steps of a search look at no point.
     prefixes: Vec<u64>,
-}
-
-impl Model for Fences {
-    ghost use Rattle.std.specs.Prelude.{List, ℕ};
-
-    ghost Value = { List (List ℕ) };
-
-    ghost view = { λ f. f.keys.items };
-
-    ghost use Rattle.uc_run.specs.Prefixes.{ArePrefixes};
-
-    ghost invariant = { λ f. ArePrefixes f.keys.items f.shared f.prefixes.items };
 }
 
 impl Drop for Fences {
     fn drop(mut self) {
-        make_small(&mut self.keys, size_of::<Bytes>());
         make_small(&mut self.prefixes, size_of::<u64>());
         let Fences {
-            keys: _,
-            shared: _,
+            front: _,
             prefixes: _,
         } = self;
     }
 }
 
 impl Fences {
-    /// The keys.
+    /// The number of fences.
     #[inline]
-    pub(crate) fn keys(&self) -> &[Bytes]
-        ensures { result.now ≡ self.now }
+    pub(crate) fn len(&self) -> usize
+        ensures { result ≡ length self.now.prefixes.items }
     {
-        &self.keys
+        self.prefixes.len()
     }
 
-    /// The common front of all keys, if there are keys.
+    /// The common front of all fences.
     #[inline]
-    pub(crate) fn front(&self) -> Option<&[u8]> {
-        self.keys.first()?.as_slice().get(..self.shared)
+    pub(crate) fn front(&self) -> &[u8] {
+        self.front.as_slice()
     }
 }
 
-/// The key of the first point of each block.
-fn first_keys(alloc: Global, points: &Points) -> Result<Vec<Bytes>, AllocError>
-    ensures { IfOk result (λ keys. IsFenced points.now keys.items) }
+/// The number of blocks that points fill.
+#[inline]
+fn blocks(points: &Points) -> usize
+    ensures { result ≡ blocks_of points.now }
 {
-    let points = points.as_slice();
-    let mut keys = Vec::new(alloc);
-    for block in 0..points.len().div_ceil(BLOCK_POINTS) {
-        let first = points.at(block * BLOCK_POINTS);
-        keys.push(Bytes::from_slice(alloc, first.key())?)?;
+    points.len().div_ceil(BLOCK_POINTS)
+}
+
+/// The fence of a block: the key of its first point.
+#[inline]
+fn fence_at(points: &Points, block: usize) -> &[u8]
+    requires { block < blocks_of points.now }
+    ensures { IsFence points.now block result.now }
+{
+    // Proof step: there are fewer than 2 ^ 63.
+    let _ = points.len();
+    match points.get(block * BLOCK_POINTS) {
+        Some(first) => first.key(),
+        None => unreachable!(),
     }
-    Ok(keys)
+}
+
+/// The fence of a block, if there is that block.
+pub(crate) fn fence(points: &Points, block: u64) -> Option<&[u8]>
+    ensures { option_map (λ key. key.now) result ≡ fence_of points.now block }
+{
+    // Proof step: there are fewer than 2 ^ 63.
+    let _ = points.len();
+    if block >= blocks(points) as u64 {
+        return None;
+    }
+    let first = points.get(block as usize * BLOCK_POINTS)?;
+    Some(first.key())
+}
+
+/// The bytes that the fences of points have in common at their front.
+fn front_of(points: &Points) -> &[u8]
+    ensures { (fences : List (List ℕ)) → AreFences points.now fences → IsFront fences result.now }
+{
+    let blocks = blocks(points);
+    if blocks == 0 {
+        return &[];
+    }
+    let first = fence_at(points, 0);
+    let shared = common_prefix_len(first, fence_at(points, blocks - 1));
+    &first[..shared]
+}
+
+/// The bytes of a key after its first ones, of which there are this many; none if there are fewer.
+#[inline]
+fn after_front(key: &[u8], count: usize) -> &[u8]
+    ensures { result.now ≡ drop count key.now }
+{
+    match key.get(count..) {
+        Some(rest) => rest,
+        None => &[],
+    }
+}
+
+/// The prefix of each fence of points, after a front of this many bytes.
+fn prefixes_of(alloc: Global, points: &Points, shared: usize) -> Result<Vec<u64>, AllocError>
+    ensures { IfOk result (λ prefixes. HasPrefixes points.now shared (blocks_of points.now) prefixes.items) }
+{
+    let blocks = blocks(points);
+    let mut prefixes = Vec::with_capacity(alloc, blocks)?;
+    for block in 0..blocks {
+        prefixes.push(prefix_of(after_front(fence_at(points, block), shared)))?;
+    }
+    Ok(prefixes)
 }
 
 /// The fences of points.
 pub(crate) fn fences_of(alloc: Global, points: &Points) -> Result<Fences, AllocError>
-    requires { IsStrictlySortedBy entry_cmp points.now }
     ensures { IfOk result (λ fences. IsFenced points.now fences) }
 {
-    let keys = first_keys(alloc, points)?;
-    let shared = shared_front(&keys);
-    let prefixes = prefixes_of(alloc, &keys, shared)?;
+    let front = front_of(points);
+    let prefixes = prefixes_of(alloc, points, front.len())?;
     Ok(Fences {
-        keys,
-        shared,
+        front: Bytes::from_slice(alloc, front)?,
         prefixes,
     })
 }
 
-/// The number of keys before the search, if those before it do come first.
-fn keys_passed(keys: &[Bytes], low: &[u8], strict: bool) -> usize
-    requires { IsPartitionedBy (seek.is_passed low.now strict) keys.now }
-    ensures bound { result ≤ length keys.now }
-    ensures place { IsPartitionPoint (λ key. seek.is_passed low.now strict key ≡ true)
-        (λ key. seek.is_passed low.now strict key ≡ false) keys.now result }
+/// The range of blocks that the prefixes don't decide: the fences before it lie before the search, and those after it don't.
+fn undecided(points: &Points, fences: &Fences, low: &[u8], strict: bool) -> (usize, usize)
+    requires sorted { IsStrictlySortedBy entry_cmp points.now }
+    requires fenced { IsFenced points.now fences.now }
+    ensures order { result.0 ≤ result.1 }
+    ensures bound { result.1 ≤ blocks_of points.now }
+    ensures before { ArePassed points.now low.now strict result.0 }
+    ensures after { AreAhead points.now low.now strict result.1 }
 {
-    keys.partition_point(|key| is_passed(low, strict, key.as_slice()))
+    if let Some(rest) = low.strip_prefix(fences.front.as_slice()) {
+        return equal_range(&fences.prefixes, prefix_of(rest));
+    }
+    let Some(first) = points.get(0) else {
+        return (0, 0);
+    };
+    if is_passed(low, strict, first.key()) {
+        (fences.len(), fences.len())
+    } else {
+        (0, 0)
+    }
+}
+
+/// The number of fences before the search, which lies between two of them. It is a binary search.
+fn search_between(points: &Points, begin: usize, end: usize, low: &[u8], strict: bool) -> usize
+    requires sorted { IsStrictlySortedBy entry_cmp points.now }
+    requires order { begin ≤ end }
+    requires bound { end ≤ blocks_of points.now }
+    requires before { ArePassed points.now low.now strict begin }
+    requires after { AreAhead points.now low.now strict end }
+    ensures bound { result ≤ blocks_of points.now }
+    ensures before { ArePassed points.now low.now strict result }
+    ensures after { AreAhead points.now low.now strict result }
+{
+    let (mut passed, mut ahead) = (begin, end);
+    while passed < ahead {
+        let middle = passed + (ahead - passed) / 2;
+        if is_passed(low, strict, fence_at(points, middle)) {
+            passed = middle + 1;
+        } else {
+            ahead = middle;
+        }
+    }
+    passed
+}
+
+/// The number of fences before the search.
+fn fences_passed(points: &Points, fences: &Fences, low: &[u8], strict: bool) -> usize
+    requires sorted { IsStrictlySortedBy entry_cmp points.now }
+    requires fenced { IsFenced points.now fences.now }
+    ensures bound { result ≤ blocks_of points.now }
+    ensures before { ArePassed points.now low.now strict result }
+    ensures after { AreAhead points.now low.now strict result }
+{
+    let (begin, end) = undecided(points, fences, low, strict);
+    search_between(points, begin, end, low, strict)
 }
 
 /// Passes the points whose keys lie before a search.
@@ -141,40 +228,8 @@ impl PointTest for IsOf<'_> {
     }
 }
 
-/// The number of fences before the search.
-fn fences_passed(points: &Points, fences: &Fences, low: &[u8], strict: bool) -> usize
-    requires sorted { IsStrictlySortedBy entry_cmp points.now }
-    requires fenced { IsFenced points.now fences.now }
-    ensures bound { result ≤ length fences.now }
-    ensures place { IsPartitionPoint (λ key. seek.is_passed low.now strict key ≡ true)
-        (λ key. seek.is_passed low.now strict key ≡ false) fences.now result }
-{
-    let keys = fences.keys.as_slice();
-    let prefixes = fences.prefixes.as_slice();
-    let (begin, end) = undecided(keys, fences.shared, prefixes, low, strict);
-    begin + keys_passed(&keys[begin..end], low, strict)
-}
-
-/// A place some steps further on, if a point is there and lies before the search; otherwise the place.
-#[inline]
-fn further(points: &Points, place: usize, steps: usize, low: &[u8], strict: bool) -> usize
-    requires sorted { IsStrictlySortedBy entry_cmp points.now }
-    requires steps { steps ≤ 16 }
-    requires within { place < length points.now }
-    requires before { AllWithin (λ p. seek.is_passed low.now strict p.key ≡ true) points.now 0 place }
-    ensures within { result < length points.now }
-    ensures before { AllWithin (λ p. seek.is_passed low.now strict p.key ≡ true) points.now 0 result }
-{
-    // Proof step: there are fewer than 2 ^ 63.
-    let _ = points.len();
-    match points.get(place + steps) {
-        Some(point) if is_passed(low, strict, point.key()) => place + steps,
-        _ => place,
-    }
-}
-
-/// The points that the search finds, and all after them. It looks into one block, the last whose fence lies before the search:
-/// at the first points of two of its quarters, and at those of the last quarter that begins before the search, one by one.
+/// The points that the search finds, and all after them. It looks into one block, the last whose fence lies before the search, at its
+/// points one by one.
 pub(crate) fn found_by_fences<'a>(
     points: &'a Points,
     fences: &Fences,
@@ -190,10 +245,7 @@ pub(crate) fn found_by_fences<'a>(
     if passed == 0 {
         return points.as_slice();
     }
-    let block = (passed - 1) * BLOCK_POINTS;
-    let half = further(points, block, BLOCK_POINTS / 2, low, strict);
-    let quarter = further(points, half, BLOCK_POINTS / 4, low, strict);
-    let mut found = points.slice_from(quarter);
+    let mut found = points.slice_from((passed - 1) * BLOCK_POINTS);
     found.pass_while(count, &IsPassed { low, strict });
     found
 }

@@ -56,7 +56,8 @@ pub(crate) fn prefix_of(bytes: &[u8]) -> u64
 
 /// The number of bytes that two keys have in common at their front.
 pub(crate) fn common_prefix_len(first: &[u8], last: &[u8]) -> usize
-    ensures { result ≡ list.common_prefix_len nat_eq first.now last.now }
+    ensures shared { result ≡ list.common_prefix_len nat_eq first.now last.now }
+    ensures within { result ≤ length first.now }
 {
     let short = first.len().min(last.len());
     for place in 0..short {
@@ -65,34 +66,6 @@ pub(crate) fn common_prefix_len(first: &[u8], last: &[u8]) -> usize
         }
     }
     short
-}
-
-/// The number of bytes that all of some keys in order have in common at their front.
-pub(crate) fn shared_front(keys: &[Bytes]) -> usize
-    ensures { result ≡ prefixes.shared_front keys.now }
-{
-    if keys.is_empty() {
-        return 0;
-    }
-    common_prefix_len(keys[0].as_slice(), keys[keys.len() - 1].as_slice())
-}
-
-/// The prefix of each key, after the bytes that the keys share.
-pub(crate) fn prefixes_of(
-    alloc: Global,
-    keys: &[Bytes],
-    shared: usize,
-) -> Result<Vec<u64>, AllocError>
-    requires shared { shared ≡ prefixes.shared_front keys.now }
-    requires rising { AreRising keys.now }
-    ensures { IfOk result (λ prefixes. ArePrefixes keys.now shared prefixes.items) }
-{
-    let mut prefixes = Vec::with_capacity(alloc, keys.len())?;
-    for key in keys {
-        let (_, rest) = key.as_slice().split_at(shared);
-        prefixes.push(prefix_of(rest))?;
-    }
-    Ok(prefixes)
 }
 
 /// Whether the prefix at a place is this one.
@@ -108,7 +81,7 @@ fn is_at(prefixes: &[u64], place: usize, wanted: u64) -> bool
 
 /// The number of prefixes below one, and at or below it. Few searches have an equal prefix: only those cost a second
 /// search.
-fn equal_range(prefixes: &[u64], wanted: u64) -> (usize, usize)
+pub(crate) fn equal_range(prefixes: &[u64], wanted: u64) -> (usize, usize)
     requires { IsNonDecreasing prefixes.now }
     ensures below { IsPartitionPoint (λ prefix. prefix < wanted) (λ prefix. wanted ≤ prefix) prefixes.now result.0 }
     ensures up_to { IsPartitionPoint (λ prefix. prefix ≤ wanted) (λ prefix. wanted < prefix) prefixes.now result.1 }
@@ -121,30 +94,4 @@ fn equal_range(prefixes: &[u64], wanted: u64) -> (usize, usize)
     }
     let up_to = prefixes.partition_point(|prefix| *prefix <= wanted);
     (below, up_to)
-}
-
-/// The range of keys that the prefixes don't decide: those before it lie before the search, and those after it don't.
-pub(crate) fn undecided(
-    keys: &[Bytes],
-    shared: usize,
-    prefixes: &[u64],
-    low: &[u8],
-    strict: bool,
-) -> (usize, usize)
-    requires rising { AreRising keys.now }
-    requires prefixes { ArePrefixes keys.now shared prefixes.now }
-    ensures order { result.0 ≤ result.1 }
-    ensures bound { result.1 ≤ length keys.now }
-    ensures before { AllWithin (λ key. seek.is_passed low.now strict key ≡ true) keys.now 0 result.0 }
-    ensures behind { AllWithin (λ key. seek.is_passed low.now strict key ≡ false) keys.now result.1 (length keys.now) }
-{
-    let Some(first) = keys.first() else {
-        return (0, 0);
-    };
-    let first = first.as_slice();
-    match low.strip_prefix(&first[..shared]) {
-        Some(rest) => equal_range(prefixes, prefix_of(rest)),
-        None if is_passed(low, strict, first) => (keys.len(), keys.len()),
-        None => (0, 0),
-    }
 }

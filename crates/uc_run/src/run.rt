@@ -18,7 +18,7 @@ ghost use Rattle.uc_run.specs.NextKey.{IsNextKey};
 
 use crate::back_cursor::BackCursor;
 use crate::cursor::Cursor;
-use crate::fences::{Fences, fences_of, found_by_fences, seek_by_fences};
+use crate::fences::{Fences, fence, fences_of, found_by_fences, seek_by_fences};
 use crate::filter::{Filter, filter_in_threads, filter_of};
 use crate::lookup::effect_found;
 use crate::places::points_from;
@@ -232,15 +232,14 @@ impl Run {
     pub fn blocks(&self) -> u64
         ensures { result ≡ blocks_of self.now.points }
     {
-        self.fences.keys().len() as u64
+        self.fences.len() as u64
     }
 
     /// The key of the first point of a block.
     pub fn fence(&self, block: u64) -> Option<&[u8]>
         ensures { option_map (λ key. key.now) result ≡ fence_of self.now.points block }
     {
-        let fence = self.fences.keys().get(usize::try_from(block).ok()?)?;
-        Some(fence.as_slice())
+        fence(&self.points, block)
     }
 
     /// The place of the first point whose key is at or above `low` (above it if `strict`): how many come before.

@@ -19,7 +19,7 @@ returns-then-same_text-clause-front c =
     }
 
 pub returns-clause-bound : goal.returns-clause-bound
-returns-clause-bound c = subst (λ (n : ℕ). n ≤ length c.args.front.now) (sym c.common_prefix_len.ensures) (common_bound c.args.front.now c.args.key.now)
+returns-clause-bound c = subst (λ (n : ℕ). n ≤ length c.args.front.now) (sym c.common_prefix_len.ensures.shared) (common_bound c.args.front.now c.args.key.now)
 
 pub returns-clause-front : goal.returns-clause-front
-returns-clause-front c = subst (λ (n : ℕ). HasFront n c.args.front.now c.args.key.now) (sym c.common_prefix_len.ensures) (common_front c.args.front.now c.args.key.now)
+returns-clause-front c = subst (λ (n : ℕ). HasFront n c.args.front.now c.args.key.now) (sym c.common_prefix_len.ensures.shared) (common_front c.args.front.now c.args.key.now)

@@ -1,8 +1,0 @@
-use Rattle.std.proofs.Common.{rules}
-use Rattle.std.proofs.lemmas.List.Sorted.{IsPartitionPoint-from_clause}
-use Rattle.uc_run_entry.specs.Seek as seek
-use Rattle.uc_run.proofs.fences.keys_passed.Goals as goal
-
-pub returns-clause-place : goal.returns-clause-place
-returns-clause-place c =
-    IsPartitionPoint-from_clause (seek.is_passed c.args.low.now c.args.strict) c.args.keys.now c.partition_point.result c.partition_point.ensures.partitioned c.requires (λ a r q k. search rules)
