@@ -27,7 +27,7 @@ unpacked_again e =
     let tag : (4 * e.seq + tag_of e.what) % 4 ≡ tag_of e.what = omega (arith, small) in
     λ i. record { key = e.key; seq = seq i; what = (ap (λ t. tagged t (text_of e.what)) tag ∙ said_again e.what) i }
 
-trailer_fits : (e : Entry) → e.seq < 2 ^ 62 → trailer_of e < 2 ^ 64
+pub trailer_fits : (e : Entry) → e.seq < 2 ^ 62 → trailer_of e < 2 ^ 64
 trailer_fits e l = let small : tag_of e.what < 4 = tag_small e.what in omega (arith, small, l)
 
 -- an entry by what its three numbers read
@@ -39,7 +39,7 @@ by_numbers bytes b c d k t s e f g =
     ∙ ap (λ (r : ℕ × List ℕ). let u = number_from r.1 in (entry_of u.0 (take k u.1) (take r.0 (drop k u.1)), drop r.0 (drop k u.1))) f
     ∙ ap (λ (u : ℕ × List ℕ). (entry_of u.0 (take k u.1) (take t (drop k u.1)), drop t (drop k u.1))) g
 
-regrouped : (a b c d e rest : List ℕ) → (a ++ b ++ c ++ d ++ e) ++ rest ≡ a ++ (b ++ (c ++ (d ++ (e ++ rest))))
+pub regrouped : (a b c d e rest : List ℕ) → (a ++ b ++ c ++ d ++ e) ++ rest ≡ a ++ (b ++ (c ++ (d ++ (e ++ rest))))
 regrouped a b c d e rest =
     append_assoc (a ++ b ++ c ++ d) e rest ∙ append_assoc (a ++ b ++ c) d (e ++ rest) ∙ append_assoc (a ++ b) c (d ++ (e ++ rest)) ∙ append_assoc a b (c ++ (d ++ (e ++ rest)))
 

@@ -51,7 +51,7 @@ module _ (count : ℕ) (bytes : List ℕ) (spelled : AreSpelled count bytes) (e 
   spelled_pushed = are_spelled (es ++ e ∷ []) all_fit (count + 1) many (bytes ++ entry_text e) text
 
 -- each entry has bytes
-number_some : (n : ℕ) → 0 < length (number_text n)
+pub number_some : (n : ℕ) → 0 < length (number_text n)
 unfolding number_text
 number_some n = by (ltb n 248)
   where
@@ -59,7 +59,7 @@ number_some n = by (ltb n 248)
     by true = omega arith
     by false = omega arith
 
-entry_some : (e : Entry) → 0 < length (entry_text e)
+pub entry_some : (e : Entry) → 0 < length (entry_text e)
 unfolding entry_text
 entry_some e =
     let k = number_text (length e.key) in

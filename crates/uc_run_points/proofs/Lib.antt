@@ -4,3 +4,5 @@ pub mod Walked
 pub mod Grown
 pub mod Sliced
 pub mod Searched
+pub mod Judged
+pub mod Unique

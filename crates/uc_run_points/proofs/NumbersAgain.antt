@@ -28,7 +28,7 @@ width_bound n =
     (λ _. (omega arith, omega arith)) (λ _. (omega arith, omega arith)) (λ _. (omega arith, omega arith)) (omega arith, omega arith)
 
 -- the first bytes of a number make it if the others are 0
-abbrev IsLow : ℕ → ℕ → Type 0
+abbrev pub IsLow : ℕ → ℕ → Type 0
 IsLow n w = from_le_bytes w64 (take w (to_le_bytes w64 n)) ≡ n
 
 pub low_again : (n : ℕ) → n < 2 ^ 64 → IsLow n (width_of n)

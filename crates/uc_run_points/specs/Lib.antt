@@ -3,3 +3,4 @@ pub mod Spelling
 pub mod Starts
 pub mod Held
 pub mod Slices
+pub mod Faults

@@ -1,5 +1,5 @@
 //! Numbers in one to nine bytes.
-ghost use Rattle.std.specs.Prelude.{◌≡◌, ◌<◌, ◌≤◌, ◌++◌, length, slice_index, OnOk};
+ghost use Rattle.std.specs.Prelude.{◌≡◌, ℕ, ◌<◌, ◌≤◌, ◌^◌, ◌++◌, List, length, slice_index, IsTrue, OnOk, IfSome, IfNone, ◌↔◌};
 ghost use Rattle.std.specs.Int.{w64, from_le_bytes};
 ghost use mathlib.Core.List.{IsPrefix};
 ghost use Rattle.uc_run_points.specs.Numbers as numbers;
@@ -127,4 +127,36 @@ pub(crate) fn skip_number(bytes: &[u8]) -> &[u8]
     let width = usize::from(*first - LONG);
     let (_, rest) = rest.split_at(width.min(rest.len()));
     rest
+}
+
+/// Whether a number needs more than its own byte, and this many bytes.
+fn needs(number: u64, width: usize) -> bool
+    ensures { IsTrue result ↔ ((248 ≤ number) × (numbers.width_of number ≡ width)) }
+{
+    LEAST_LONG <= number && width_of(number) == width
+}
+
+/// The number at the front, and the bytes after it, if the number is spelled there in as few bytes as it needs.
+pub fn spelled_number(bytes: &[u8]) -> Option<(u64, &[u8])>
+    ensures some { IfSome result (λ read. bytes.now ≡ numbers.number_text read.0 ++ read.1.now) }
+    ensures none { IfNone result ((number : ℕ) (rest : List ℕ) → number < 2 ^ 64 →
+        bytes.now ≡ numbers.number_text number ++ rest → ⊥) }
+    ensures bound { IfSome result (λ read. read.0 < 2 ^ 64) }
+{
+    let [first, rest @ ..] = bytes else {
+        return None;
+    };
+    if *first <= LONG {
+        return Some((u64::from(*first), rest));
+    }
+    let width = usize::from(*first - LONG);
+    if width > rest.len() {
+        return None;
+    }
+    let (low, rest) = rest.split_at(width);
+    let number = low_number(low);
+    if !needs(number, width) {
+        return None;
+    }
+    Some((number, rest))
 }

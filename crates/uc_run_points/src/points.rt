@@ -1,16 +1,19 @@
 //! [`Points`]: the points of a run, as bytes.
-ghost use Rattle.std.specs.Prelude.{List, ◌+◌, ◌≡◌, ◌<◌, ◌≤◌, ◌^◌, ◌*◌, ◌%◌, ◌==◌, ◌++◌, [], ◌∷◌, length, take, drop, if◌then◌else◌, IfOk, OnOk, OnErr};
+ghost use Rattle.std.specs.Prelude.{List, ◌+◌, ◌≡◌, ◌<◌, ◌≤◌, ◌^◌, ◌*◌, ◌%◌, ◌==◌, ◌++◌, [], ◌∷◌, length, take, drop, if◌then◌else◌, IfOk, IfErr, OnOk, OnErr};
 ghost use Rattle.std.specs.List.{AllByRecursion, slice_get};
 ghost use mathlib.Core.List.{IsPrefix};
 ghost use Rattle.uc_run_entry.specs.declared.entry.Entry.{Entry as EntryOf};
 ghost use Rattle.uc_run_entry.specs.Packed as packed;
+ghost use Rattle.uc_run_points.specs.Faults.{IsErrorOf};
 ghost use Rattle.uc_run_points.specs.Spelling as spelling;
 ghost use Rattle.uc_run_points.specs.Spelling.{AreSpelled, Fits};
 ghost use Rattle.uc_run_points.specs.Starts.{AreStarts, quarter_points};
 
+use crate::judging::count_spelled;
 use crate::point_ref::PointRef;
 use crate::point_slice::PointSlice;
 use crate::points_ahead::PointsAhead;
+use crate::points_error::PointsError;
 use crate::spelling::{push_entry, read_entry};
 use std::alloc::{AllocError, Global};
 use std::marker::Model;
@@ -76,7 +79,11 @@ fn append_entry(
 }
 
 /// Pushes the offset of an entry if it is the first of a quarter. An `Err` pushes nothing.
-fn push_start(starts: &mut Vec<usize>, place: usize, offset: usize) -> Result<(), AllocError>
+pub(crate) fn push_start(
+    starts: &mut Vec<usize>,
+    place: usize,
+    offset: usize,
+) -> Result<(), AllocError>
     ensures pushed { OnOk result
         (starts.new.items ≡ (if place % quarter_points == 0 then starts.old.items ++ offset ∷ [] else starts.old.items)) }
     ensures as_it_was { OnErr result (starts.new.items ≡ starts.old.items) }
@@ -158,6 +165,30 @@ impl Points {
         ensures { result ≡ length (spelling.entries_text self.now) }
     {
         self.bytes.len()
+    }
+
+    /// The points that bytes spell, which become their arena: no byte is copied. It costs a step for each point.
+    pub fn from_bytes(alloc: Global, bytes: Vec<u8>) -> Result<Points, PointsError>
+        ensures points { IfOk result (λ points. bytes.items ≡ spelling.entries_text points) }
+        ensures fits { IfOk result (λ points. AllByRecursion Fits points) }
+        ensures fault { IfErr result (IsErrorOf bytes.items) }
+    {
+        let mut starts = Vec::new(alloc);
+        let count = count_spelled(&bytes, &mut starts)?;
+        Ok(Points {
+            bytes,
+            starts,
+            count,
+        })
+    }
+
+    /// The bytes that spell the points.
+    #[inline]
+    pub fn as_bytes(&self) -> &[u8]
+        ensures spelled { result.now ≡ spelling.entries_text self.now }
+        ensures fits { AllByRecursion Fits self.now }
+    {
+        &self.bytes
     }
 
     /// Pushes a point that says this of a key. An `Err` pushes nothing.
