@@ -1,7 +1,7 @@
 -- The newer runs do nothing to a key at which no cursor of theirs is, if they have no range deletions.
-use Rattle.std.proofs.Common.{◌≡◌, ◌≢◌, ℕ, zero, suc, ◌<◌, Bool, true, false, cond, List, [], ◌∷◌, ◌++◌, map, length, get_or, set, Option, Some, None, refl, sym, ap, ◌∙◌, subst, arith}
+use Rattle.std.proofs.Common.{◌≡◌, ◌≢◌, ℕ, zero, suc, ◌<◌, ◌≤◌, Bool, true, false, cond, List, [], ◌∷◌, ◌++◌, map, length, get_or, set, take, Option, Some, None, refl, sym, ap, ◌∙◌, subst, arith}
 use Rattle.std.specs.Prelude.{nat_lt}
-use Rattle.std.specs.List.{AllByRecursion}
+use Rattle.std.specs.List.{AllByRecursion, AllWithin}
 use Rattle.uc_oper.specs.Composition.{composed}
 use Rattle.uc_oper.specs.Operation.{Operation}
 use Rattle.uc_oper.specs.declared.effect.Effect.{Effect}
@@ -28,6 +28,15 @@ module _ (m : Operation) (parts : (older newer : List Write) (key : List ℕ) (a
       parts (writes_of (runs_of cs)) (plain_list c.run) key at
       ∙ ap (λ (e : Effect). composed m (effect_on m (writes_of (runs_of cs)) key at) e) (one_keeps c stand.0 of_runs.0 others.0 none.0)
       ∙ all_keep cs stand.1 of_runs.1 others.1 none.1
+
+-- the first cursors, of which none is at a key
+pub taken_others : (key : List ℕ) (cs : List Standing) (n : ℕ) → AllWithin (λ k. k ≢ Some key) (map next_key cs) 0 n → n ≤ length cs → AllByRecursion (λ c. next_key c ≢ Some key) (take n cs)
+taken_others key cs zero others within = tt
+taken_others key [] (suc n) others within = tt
+taken_others key (c ∷ cs) (suc n) others within = (
+  others 0 None (omega arith) (omega arith),
+  taken_others key cs n (λ i d low l. others (suc i) d (omega arith) (omega (arith, l))) (omega (arith, within)),
+)
 
 -- ---- the oldest run alone
 

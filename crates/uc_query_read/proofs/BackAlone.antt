@@ -1,6 +1,9 @@
 -- The oldest run alone says something of the greatest key, on a walk against the order of keys.
-use Rattle.std.proofs.Common.{◌≡◌, ◌≢◌, ℕ, ◌≤◌, min, Bool, true, false, cond, List, [], ◌∷◌, ◌++◌, map, filter, length, Option, Some, None, refl, sym, ap, ◌∙◌, subst, arith}
-use Rattle.std.specs.List.{AllByRecursion}
+use Rattle.std.proofs.Common.{◌≡◌, ◌≢◌, ℕ, zero, suc, ◌<◌, ◌≤◌, min, Bool, true, false, cond, List, [], ◌∷◌, ◌++◌, map, filter, take, set, get_or, length, Option, Some, None, refl, sym, ap, ◌∙◌, subst, arith}
+use Rattle.std.specs.List.{AllByRecursion, AllWithin}
+use Rattle.std.specs.declared.cmp.Ordering.{Ordering}
+use Rattle.std.specs.declared.cmp.Ordering.TheVariants.{Less, Equal, Greater}
+use Rattle.std.proofs.lemmas.Map.Lookups.{exact_bytes}
 use Rattle.std.specs.Ordering.{is_lt, is_le}
 use Rattle.std.specs.BTreeMap.Comparable.{le_lt_trans}
 use Rattle.std.proofs.lemmas.Bool.{false≢true}
@@ -16,15 +19,15 @@ use Rattle.uc_model.specs.Meaning.{effect_on}
 use Rattle.uc_run_entry.specs.declared.entry.Entry.{Entry}
 use Rattle.uc_run_entry.specs.Run.{Contents}
 use Rattle.uc_run_entry.specs.Seek.{is_passed, seek_place}
-use Rattle.uc_run.specs.BackCursors.{is_before, end_place, IsGreatestKey, IsPreviousKey}
+use Rattle.uc_run.specs.BackCursors.{is_before, end_place, last_key, IsGreatestKey, IsPreviousKey}
 use Rattle.uc_run.specs.Cursors.{Standing, has_ranges}
 use Rattle.uc_run.specs.Heads.{next_key}
 use Rattle.uc_run.specs.NextKey.{IsLeastKey, IsNextKey}
 use Rattle.uc_compact.proofs.Keys.{lt_of}
-use Rattle.uc_compact.proofs.Lists.{all-front, all-back}
+use Rattle.uc_compact.proofs.Lists.{all-append, all-front, all-back}
 use Rattle.uc_compact.proofs.NestedLists.{all-map, all-mapped}
 use Rattle.uc_compact.specs.Inputs.{points_of, writes_of}
-use Rattle.uc_query_read.specs.Back.{greater_of, is_above_other, passed_back, StandsBelow}
+use Rattle.uc_query_read.specs.Back.{IsOtherBefore, greater_of, is_above_other, passed_back, StandsBelow}
 use Rattle.uc_query_read.specs.Walks.{runs_of, IsOfRun, StandsAt}
 use Rattle.uc_query_read.proofs.Alone.{all_keep, without_all}
 use Rattle.uc_query_read.proofs.Beside.{KeptLaw, NextKeysLaw}
@@ -76,6 +79,38 @@ module _ (high : Option (List ℕ)) (key : List ℕ) (below : is_before high key
   are_lower (Some other) ps above h =
       all-map (λ (p : Entry). is_before high p.key ≡ true → is_le (bytes_cmp p.key other) ≡ true) (λ (p : Entry). IsLower p.key)
       (λ p up before. ap is_lt (le_lt_trans nat_list_cmp_total p.key other key (up before) (lt_of other key above))) ps h.greatest
+
+  -- nor has one with another last key, if none has a greater one
+  abbrev AtMost : List ℕ → Type 0
+  AtMost x = is_before high x ≡ true → is_le (bytes_cmp x key) ≡ true
+
+  less_than : (x : List ℕ) → is_le (bytes_cmp x key) ≡ true → Some x ≢ Some key → is_above_other key (Some x) ≡ true
+  less_than x le other = by (bytes_cmp x key) refl le
+    where
+      by : (o : Ordering) → bytes_cmp x key ≡ o → is_le o ≡ true → is_lt o ≡ true
+      by Less e f = refl
+      by Equal e f = absurd (other (ap (λ (k : List ℕ). Some k) (exact_bytes x key e)))
+      by Greater e f = absurd (false≢true f)
+
+  lower_by : (own : Option (List ℕ)) (ps : List Entry) → IsPreviousKey ps high own → own ≢ Some key → AllByRecursion (λ p. AtMost p.key) ps → AreLower ps
+  lower_by None ps before other most = are_lower None ps refl before
+  lower_by (Some x) ps before other most =
+      let keys = map (λ (p : Entry). p.key) ps in
+      let all : AllByRecursion AtMost keys = all-mapped (λ (p : Entry). p.key) AtMost ps most in
+      are_lower (Some x) ps (less_than x (All-contains AtMost keys x (All-from_recursion AtMost keys all) before.of_a_point before.below) other) before
+
+  pub newer_lower : (cs : List Standing) (place : ℕ) → AllByRecursion (StandsBelow high) cs → AllByRecursion (λ p. AtMost p.key) (points_of (runs_of cs)) → AllWithin (IsOtherBefore key) cs 0 place → place ≤ length cs → AreLower (points_of (runs_of (take place cs)))
+  newer_lower cs zero stand most others within = tt
+  newer_lower [] (suc n) stand most others within = tt
+  newer_lower (c ∷ cs) (suc n) stand most others within =
+      let o = others 0 c (omega arith) (omega arith) in
+      let own = lower_by (last_key c) c.run.points (o.last high stand.0) o.other (all-front (λ (p : Entry). AtMost p.key) c.run.points (points_of (runs_of cs)) most) in
+      let rest = newer_lower cs n stand.1 (all-back (λ (p : Entry). AtMost p.key) c.run.points (points_of (runs_of cs)) most) (λ i d low l. others (suc i) d (omega arith) (omega (arith, l))) (omega (arith, within)) in
+      all-append (λ (p : Entry). IsLower p.key) c.run.points (points_of (runs_of (take n cs))) own rest
+
+  -- a run that has the key as its last
+  pub own_greatest : (c : Standing) → StandsBelow high c → IsPreviousKey c.run.points high (Some key) → c.place ≡ seek_place c.run.points key true
+  own_greatest c stands own = stands ∙ after_greatest high key c.run.points own
 
   stays_one : (c : Standing) → StandsBelow high c → AreLower c.run.points → c ≡ passed_back key c
   stays_one c stands lower =
@@ -133,3 +168,14 @@ module _ (high : Option (List ℕ)) (key : List ℕ) (below : is_before high key
     all_keep_back m parts kept at cs of_runs plain lower =
         ap (λ (rs : List Contents). effect_on m (writes_of rs) key at) (sym (same_runs cs))
         ∙ all_keep m parts kept law key at (map at_key cs) (stand_there cs) (of_runs_there cs of_runs) (others cs of_runs lower) (without_all (map at_key cs) (plain_there cs plain))
+
+-- ---- one cursor moved, and then all
+
+pub map_set : (f : Standing → Standing) (cs : List Standing) (i : ℕ) (d y : Standing) → i < length cs → f y ≡ f (get_or cs i d) → map f (set cs i y) ≡ map f cs
+map_set f [] i d y lt e = absurd (omega (arith, lt))
+map_set f (x ∷ xs) zero d y lt e = ap (λ (c : Standing). c ∷ map f xs) e
+map_set f (x ∷ xs) (suc i) d y lt e = ap (λ (cs : List Standing). f x ∷ cs) (map_set f xs i d y (omega (arith, lt)) e)
+
+pub runs_passed_back : (key : List ℕ) (cs : List Standing) → runs_of (map (passed_back key) cs) ≡ runs_of cs
+runs_passed_back key [] = refl
+runs_passed_back key (c ∷ cs) = ap (λ (rs : List Contents). c.run ∷ rs) (runs_passed_back key cs)

@@ -1,10 +1,10 @@
 -- The place of a walk over the points of several runs against the order of their keys.
-use Rattle.std.specs.Prelude.{◌≡◌, ℕ, Bool, true, false, List, [], ◌∷◌, ◌++◌, Option, Some, None, min, reverse, if◌then◌else◌}
+use Rattle.std.specs.Prelude.{◌≡◌, ◌≢◌, ℕ, Bool, true, false, List, [], ◌∷◌, ◌++◌, Option, Some, None, min, reverse, if◌then◌else◌}
 use Rattle.std.specs.Ordering.{is_lt}
 use Rattle.uc_bytes.specs.Bytes.{bytes_cmp}
 use Rattle.uc_run_entry.specs.Run.{Contents}
 use Rattle.uc_run_entry.specs.Seek.{seek_place}
-use Rattle.uc_run.specs.BackCursors.{end_place}
+use Rattle.uc_run.specs.BackCursors.{end_place, last_key, IsPreviousKey}
 use Rattle.uc_run.specs.Cursors.{Standing}
 use Rattle.uc_compact.specs.Inputs.{points_of}
 use Rattle.uc_query_read.specs.Ahead.{keys_ahead}
@@ -20,6 +20,20 @@ standing_below high run = record { run = run; place = end_place run.points high 
 
 abbrev pub StandsBelow : Option (List ℕ) → Standing → Type 0
 StandsBelow high c = c.place ≡ end_place c.run.points high
+
+-- what a walk below any bound has as its last key is the run's greatest key below that
+abbrev pub HasLast : Standing → Type 0
+HasLast c = (high : Option (List ℕ)) → StandsBelow high c → IsPreviousKey c.run.points high (last_key c)
+
+-- that is this key
+pub record IsAtBefore (key : List ℕ) (c : Standing) : Type 0 where
+  pub same : last_key c ≡ Some key
+  pub last : HasLast c
+
+-- that is another
+pub record IsOtherBefore (key : List ℕ) (c : Standing) : Type 0 where
+  pub other : last_key c ≢ Some key
+  pub last : HasLast c
 
 -- before the points at and above a key, never forward
 abbrev pub passed_back : List ℕ → Standing → Standing

@@ -1,5 +1,5 @@
 -- The place of a walk over the points of several runs.
-use Rattle.std.specs.Prelude.{◌≡◌, ◌≢◌, ℕ, ◌-◌, ◌≤◌, ⊤, Bool, true, false, List, Option, Some, None, length, map, max, take}
+use Rattle.std.specs.Prelude.{◌≡◌, ◌≢◌, ℕ, ◌-◌, ◌≤◌, ⊤, Bool, true, false, ◌++◌, List, Option, Some, None, length, map, max, take, drop}
 use Rattle.std.specs.List.{AllByRecursion}
 use Rattle.std.specs.Ordering.{is_lt}
 use Rattle.uc_bytes.specs.Bytes.{bytes_cmp}
@@ -50,6 +50,10 @@ IsOfRun c = IsRun c.run.low c.run.high c.run.points c.run.fragments
 -- past the points at and below a key, never back
 abbrev pub passed : List ℕ → Standing → Standing
 passed key c = record { run = c.run; place = max c.place (seek_place c.run.points key true) }
+
+-- up to a place cursors have passed a key, and from there on they are where they were
+abbrev pub ArePassedTo : List ℕ → List Standing → List Standing → ℕ → Type 0
+ArePassedTo key old now place = now ≡ map (passed key) (take place old) ++ drop place old
 
 -- past the points below a key, never back
 abbrev pub sought : List ℕ → Standing → Standing

@@ -1,6 +1,6 @@
 //! [`BackWalk`]: a walk over the points of several runs against the order of their keys.
-ghost use Rattle.std.specs.Prelude.{◌≡◌, ℕ, true, false, All, List, Option, Some, map, option_map, if◌then◌else◌, IfNone, IfOk, IfSome, IsTrue};
-ghost use Rattle.std.specs.List.{AllByRecursion};
+ghost use Rattle.std.specs.Prelude.{◌≡◌, ◌<◌, ◌↔◌, ℕ, length, true, false, All, List, Option, Some, map, option_map, if◌then◌else◌, IfNone, IfOk, IfSome, IsTrue};
+ghost use Rattle.std.specs.List.{AllByRecursion, AllWithin, HoldsAt};
 ghost use Rattle.uc_model.specs.Meaning.{effect_on, value_of};
 ghost use Rattle.uc_run_entry.specs.Seek.{is_passed};
 ghost use Rattle.uc_run.specs.BackCursors.{IsPreviousKey};
@@ -8,7 +8,7 @@ ghost use Rattle.uc_run.specs.Cursors.{has_ranges};
 ghost use Rattle.uc_compact.specs.Inputs.{points_of, writes_of};
 ghost use Rattle.uc_version_state.specs.Versions.{contents_of};
 ghost use Rattle.uc_query_read.specs.Ahead.{Comes};
-ghost use Rattle.uc_query_read.specs.Back.{back_walk_at, bound_at, greater_of, is_above_other, passed_back, standing_below, StandsBelow};
+ghost use Rattle.uc_query_read.specs.Back.{IsAtBefore, IsOtherBefore, back_walk_at, bound_at, greater_of, is_above_other, passed_back, standing_below, StandsBelow};
 ghost use Rattle.uc_query_read.specs.Walks.{runs_of, IsOfRun, Skips};
 
 use crate::dead_below::dead_from;
@@ -229,6 +229,91 @@ fn prev_alone<'a, O: Operator>(
     Some((key, value))
 }
 
+/// Whether a key, if there is one, is this one.
+#[inline]
+fn is_key(other: Option<&[u8]>, key: &[u8]) -> bool
+    ensures { IsTrue result ↔ (option_map (λ k. k.now) other.entry ≡ Some key.now) }
+{
+    match other {
+        Some(other) => other == key,
+        None => false,
+    }
+}
+
+/// The place of the newest of the cursors that has a key as its last, if there is one.
+fn newest_at(cursors: &[BackCursor<'_>], key: &[u8]) -> Option<usize>
+    ensures within { IfSome result (λ place. place < length cursors.now) }
+    ensures there { IfSome result (λ place. HoldsAt (IsAtBefore key.now) cursors.now place) }
+    ensures before { IfSome result (λ place. AllWithin (IsOtherBefore key.now) cursors.now 0 place) }
+{
+    for place in 0..cursors.len() {
+        if is_key(cursors[place].key(), key) {
+            return Some(place);
+        }
+    }
+    None
+}
+
+/// As [`prev_alone`], where several runs have points of the last key: the row is a put of the newest of them. What the older ones say of the
+/// key is overwritten.
+fn prev_newest<'a, O: Operator>(
+    cursors: &mut [BackCursor<'a>],
+    low: &[u8],
+    at: u64,
+) -> Option<(&'a [u8], &'a [u8])>
+    requires of_runs { AllByRecursion IsOfRun cursors.old }
+    requires plain { AllByRecursion (λ c. has_ranges c ≡ false) cursors.old }
+    ensures last { IfSome result (λ row. (high : Option (List ℕ)) → AllByRecursion (StandsBelow high) cursors.old →
+        IsPreviousKey (points_of (runs_of cursors.old)) high (Some row.0.now)) }
+    ensures from { IfSome result (λ row. is_passed low.now false row.0.now ≡ false) }
+    ensures value { IfSome result (λ row. (high : Option (List ℕ)) → AllByRecursion (StandsBelow high) cursors.old →
+        value_of O.meaning (writes_of (runs_of cursors.old)) row.0.now at ≡ Some row.1.now) }
+    ensures passes { IfSome result (λ row. (high : Option (List ℕ)) → AllByRecursion (StandsBelow high) cursors.old →
+        cursors.new ≡ map (passed_back row.0.now) cursors.old) }
+    ensures stays { IfNone result (cursors.new ≡ cursors.old) }
+    ensures runs { runs_of cursors.new ≡ runs_of cursors.old }
+{
+    effect_gives_value::<O>();
+    effects_of_parts_compose::<O>();
+    other_keys_are_kept::<O>();
+    keys_at_places_are_next();
+    let key = greatest_key(cursors)?;
+    if text_order(key, low).is_lt() {
+        return None;
+    }
+    let place = newest_at(cursors, key)?;
+    let value = cursors[place].prev_put::<O>(at)?;
+    pass_each(cursors, key);
+    Some((key, value))
+}
+
+/// The last row by [`prev_alone`], or else by [`prev_newest`].
+fn prev_lone<'a, O: Operator>(
+    cursors: &mut [BackCursor<'a>],
+    low: &[u8],
+    at: u64,
+) -> Option<(&'a [u8], &'a [u8])>
+    requires of_runs { AllByRecursion IsOfRun cursors.old }
+    requires plain { AllByRecursion (λ c. has_ranges c ≡ false) cursors.old }
+    ensures last { IfSome result (λ row. (high : Option (List ℕ)) → AllByRecursion (StandsBelow high) cursors.old →
+        IsPreviousKey (points_of (runs_of cursors.old)) high (Some row.0.now)) }
+    ensures from { IfSome result (λ row. is_passed low.now false row.0.now ≡ false) }
+    ensures value { IfSome result (λ row. (high : Option (List ℕ)) → AllByRecursion (StandsBelow high) cursors.old →
+        value_of O.meaning (writes_of (runs_of cursors.old)) row.0.now at ≡ Some row.1.now) }
+    ensures passes { IfSome result (λ row. (high : Option (List ℕ)) → AllByRecursion (StandsBelow high) cursors.old →
+        cursors.new ≡ map (passed_back row.0.now) cursors.old) }
+    ensures stays { IfNone result (cursors.new ≡ cursors.old) }
+    ensures runs { runs_of cursors.new ≡ runs_of cursors.old }
+{
+    if let Some(row) = prev_alone::<O>(cursors, low, at) {
+        return Some(row);
+    }
+    if cursors.len() < 2 {
+        return None;
+    }
+    prev_newest::<O>(cursors, low, at)
+}
+
 /// A bound as a slice.
 #[inline]
 fn bound_of(high: &Option<Bytes>) -> Option<&[u8]>
@@ -261,8 +346,8 @@ impl<'a> BackWalk<'a> {
         })
     }
 
-    /// The greatest of the keys that are ahead, with its value at a sequence number, if that is one put of the oldest run, and nothing else
-    /// is said of the key. Then it passes the key; otherwise it stays where it is, and [`next`](BackWalk::next) says what comes.
+    /// The greatest of the keys that are ahead, with its value at a sequence number, if that is one put of the newest run that has the key,
+    /// and no run has range deletions. Then it passes the key; otherwise it stays where it is, and [`next`](BackWalk::next) says what comes.
     pub(crate) fn next_alone<O: Operator>(&mut self, at: u64) -> Option<(&'a [u8], &'a [u8])>
         ensures comes { IfSome result (λ row. Comes self.old.keys (Some row.0.now) self.new.keys) }
         ensures value { IfSome result (λ row. value_of O.meaning (writes_of self.old.runs) row.0.now at ≡ Some row.1.now) }
@@ -272,7 +357,7 @@ impl<'a> BackWalk<'a> {
         if !self.is_plain {
             return None;
         }
-        let Some((key, value)) = prev_alone::<O>(&mut self.cursors, self.low, at) else {
+        let Some((key, value)) = prev_lone::<O>(&mut self.cursors, self.low, at) else {
             return None;
         };
         self.high = Some(key);

@@ -91,8 +91,7 @@ impl<'a> Cursors<'a> {
         if !is_below(least.key, self.high) {
             return Ok(None);
         }
-        let value = self.walkers.value::<O>(alloc, least, at)?;
-        self.walkers.pass(least);
+        let value = self.walkers.take::<O>(alloc, least, at)?;
         self.low = least.key;
         self.strict = true;
         Ok(Some((least.key, value)))

@@ -1,15 +1,16 @@
 //! [`Walkers`]: a cursor in each of several runs; and [`Least`], their least key.
-ghost use Rattle.std.specs.Prelude.{◌≡◌, ◌≢◌, ◌↔◌, ◌<◌, ℕ, Bool, List, Some, true, false, length, map, option_map, All, IfNone, IfOk, IfSome, IsTrue};
+ghost use Rattle.std.specs.Prelude.{◌≡◌, ◌≢◌, ◌↔◌, ◌<◌, ◌≤◌, ℕ, Bool, List, Some, true, false, length, map, option_map, All, IfNone, IfOk, IfSome, IsTrue, OnErr};
 ghost use Rattle.std.specs.List.{AllByRecursion, slice_get};
 ghost use Rattle.uc_model.specs.Meaning.{effect_on, value_of};
-ghost use Rattle.uc_run.specs.Cursors.{has_ranges};
+ghost use Rattle.uc_oper.specs.declared.effect.Effect.TheVariants.{Set};
+ghost use Rattle.uc_run.specs.Cursors.{Standing, has_ranges};
 ghost use Rattle.uc_run.specs.Heads.{next_key, number_of, lesser_of, IsLeast};
 ghost use Rattle.uc_run.specs.NextKey.{IsNextKey};
 ghost use Rattle.uc_compact.specs.Inputs.{points_of, writes_of};
 ghost use Rattle.uc_version_state.specs.Versions.{contents_of};
 ghost use Rattle.uc_query_read.specs.Answers as answers;
 ghost use Rattle.uc_query_read.specs.Dead.{AreDead};
-ghost use Rattle.uc_query_read.specs.Walks.{runs_of, newer_of, standing_at, passed, sought, StandsAt, IsOfRun, IsFound, IsFoundAmong, IsFoundBeside};
+ghost use Rattle.uc_query_read.specs.Walks.{runs_of, newer_of, standing_at, passed, sought, ArePassedTo, StandsAt, IsOfRun, IsFound, IsFoundAmong, IsFoundBeside};
 
 use crate::dead_keys::dead_up_to;
 use crate::lookup::compose;
@@ -283,6 +284,26 @@ fn next_alone<'a, O: Operator>(
     Some((key, value))
 }
 
+/// Moves the cursors from a place on that are at a key past it. The others are after it already.
+fn pass_from<'a>(cursors: &mut [Cursor<'a>], heads: &mut Heads<'a>, head: Head<'_>, from: usize)
+    requires number { head.number ≡ number_of heads.old.front head.key.now }
+    requires within { from ≤ length cursors.old }
+    requires heads { heads.old.keys ≡ map next_key cursors.old }
+    ensures cursors { (all : List Standing) → AllByRecursion (StandsAt head.entry.key.now false) all → AllByRecursion IsOfRun all →
+        length cursors.old ≡ length all → ArePassedTo head.entry.key.now all cursors.old from →
+        cursors.new ≡ map (passed head.entry.key.now) all }
+    ensures heads { heads.new.keys ≡ map next_key cursors.new }
+{
+    keys_at_places_are_next();
+    let mut place = heads.next_at(from, head);
+    while place < cursors.len() {
+        let cursor = &mut cursors[place];
+        cursor.pass(head.key);
+        heads.set(place, cursor.key());
+        place = heads.next_at(place + 1, head);
+    }
+}
+
 /// Moves the cursors that are at a key past it. The others are after it already.
 fn pass_there<'a>(cursors: &mut [Cursor<'a>], heads: &mut Heads<'a>, head: Head<'_>)
     requires number { head.number ≡ number_of heads.old.front head.key.now }
@@ -292,14 +313,41 @@ fn pass_there<'a>(cursors: &mut [Cursor<'a>], heads: &mut Heads<'a>, head: Head<
     ensures cursors { cursors.new ≡ map (passed head.entry.key.now) cursors.old }
     ensures heads { heads.new.keys ≡ map next_key cursors.new }
 {
+    pass_from(cursors, heads, head, 0);
+}
+
+/// As [`pass_there`], if what the newest of these runs says of the key is one put at or below a sequence, which it returns: it overwrites
+/// what the others say. Otherwise none moves.
+fn take_there<'a, O: Operator>(
+    cursors: &mut [Cursor<'a>],
+    heads: &mut Heads<'a>,
+    head: Head<'_>,
+    at: u64,
+) -> Option<&'a [u8]>
+    requires number { head.number ≡ number_of heads.old.front head.key.now }
+    requires stand { AllByRecursion (StandsAt head.key.now false) cursors.old }
+    requires of_runs { AllByRecursion IsOfRun cursors.old }
+    requires heads { heads.old.keys ≡ map next_key cursors.old }
+    requires plain { AllByRecursion (λ c. has_ranges c ≡ false) cursors.old }
+    ensures puts { IfSome result (λ value.
+        effect_on O.meaning (writes_of (runs_of cursors.old)) head.entry.key.now at ≡ Set (Some value.now)) }
+    ensures cursors { IfSome result (λ value. cursors.new ≡ map (passed head.entry.key.now) cursors.old) }
+    ensures heads { IfSome result (λ value. heads.new.keys ≡ map next_key cursors.new) }
+    ensures stays { IfNone result (cursors.new ≡ cursors.old) }
+    ensures heads_stay { IfNone result (heads.new ≡ heads.old) }
+{
+    effects_of_parts_compose::<O>();
+    other_keys_are_kept::<O>();
     keys_at_places_are_next();
-    let mut place = heads.next_at(0, head);
-    while place < cursors.len() {
-        let cursor = &mut cursors[place];
-        cursor.pass(head.key);
-        heads.set(place, cursor.key());
-        place = heads.next_at(place + 1, head);
+    let first = heads.next_at(0, head);
+    if first >= cursors.len() {
+        return None;
     }
+    let cursor = &mut cursors[first];
+    let value = cursor.next_put::<O>(at)?;
+    heads.set(first, cursor.key());
+    pass_from(cursors, heads, head, first + 1);
+    Some(value)
 }
 
 /// As [`pass_there`], with the oldest run's cursor, whose next key isn't among the heads.
@@ -315,6 +363,33 @@ fn pass_all<'a>(cursors: &mut [Cursor<'a>], heads: &mut Heads<'a>, head: Head<'_
         pass_there(&mut cursors[..last], heads, head);
         cursors[last].pass(head.key);
     }
+}
+
+/// As [`take_there`], with the oldest run's cursor: the value of the key by all runs.
+fn take_all<'a, O: Operator>(
+    cursors: &mut [Cursor<'a>],
+    heads: &mut Heads<'a>,
+    head: Head<'_>,
+    at: u64,
+) -> Option<&'a [u8]>
+    requires number { head.number ≡ number_of heads.old.front head.key.now }
+    requires stand { AllByRecursion (StandsAt head.key.now false) cursors.old }
+    requires of_runs { AllByRecursion IsOfRun cursors.old }
+    requires heads { heads.old.keys ≡ map next_key (newer_of cursors.old) }
+    requires without { AllByRecursion (λ b. b ≡ false) (map has_ranges cursors.old) }
+    ensures value { IfSome result (λ value.
+        value_of O.meaning (writes_of (runs_of cursors.old)) head.entry.key.now at ≡ Some value.now) }
+    ensures cursors { IfSome result (λ value. cursors.new ≡ map (passed head.entry.key.now) cursors.old) }
+    ensures heads { IfSome result (λ value. heads.new.keys ≡ map next_key (newer_of cursors.new)) }
+    ensures stays { IfNone result (cursors.new ≡ cursors.old) }
+    ensures heads_stay { IfNone result (heads.new ≡ heads.old) }
+{
+    effect_gives_value::<O>();
+    effects_of_parts_compose::<O>();
+    let last = cursors.len().checked_sub(1)?;
+    let value = take_there::<O>(&mut cursors[..last], heads, head, at)?;
+    cursors[last].pass(head.key);
+    Some(value)
 }
 
 /// Moves the oldest run's cursor past a key at which no other is.
@@ -392,7 +467,7 @@ impl<'a> Walkers<'a> {
 
     /// The value at a sequence of a key whose points are the first ahead. It costs a step for each of the key's points
     /// up to the last put or delete, and for each run a comparison of numbers. One that was put stays in its run.
-    pub(crate) fn value<O: Operator>(
+    fn value<O: Operator>(
         &self,
         alloc: Global,
         least: Least<'_>,
@@ -439,8 +514,35 @@ impl<'a> Walkers<'a> {
         next_alone::<O>(&mut self.cursors, self.newer, high, at)
     }
 
+    /// The value of a key whose points are the first ahead, if the newest run that has the key is not the oldest, has one put of it at or
+    /// below a sequence, and no run has range deletions. Then it moves past the key; otherwise it doesn't move.
+    fn next_newest<O: Operator>(&mut self, least: Least<'_>, at: u64) -> Option<&'a [u8]>
+        requires found { IsFound self.old least.key.now least.number }
+        requires stand { AllByRecursion (StandsAt least.key.now false) self.old.cursors }
+        ensures value { IfSome result (λ value.
+            value_of O.meaning (writes_of (runs_of self.old.cursors)) least.entry.key.now at ≡ Some value.now) }
+        ensures passes { IfSome result (λ value. self.new.cursors ≡ map (passed least.entry.key.now) self.old.cursors) }
+        ensures stays { IfNone result (self.new ≡ self.old) }
+    {
+        if !self.is_plain {
+            return None;
+        }
+        let Some(number) = least.number else {
+            return None;
+        };
+        let head = Head {
+            key: least.key,
+            number,
+        };
+        let Some(value) = take_all::<O>(&mut self.cursors, &mut self.heads, head, at) else {
+            return None;
+        };
+        self.newer = self.heads.least();
+        Some(value)
+    }
+
     /// Moves past the points at and below a key that are the first ahead.
-    pub(crate) fn pass(&mut self, least: Least<'_>)
+    fn pass(&mut self, least: Least<'_>)
         requires found { IsFound self.old least.key.now least.number }
         requires stand { AllByRecursion (StandsAt least.key.now false) self.old.cursors }
         ensures { self.new.cursors ≡ map (passed least.entry.key.now) self.old.cursors }
@@ -456,6 +558,29 @@ impl<'a> Walkers<'a> {
                 self.newer = self.heads.least();
             }
         }
+    }
+
+    /// The value at a sequence of a key whose points are the first ahead. It moves past the key, but stays if it returns an `Err`. It costs
+    /// what [`value`](Walkers::value) and [`pass`](Walkers::pass) do, less for one put.
+    pub(crate) fn take<O: Operator>(
+        &mut self,
+        alloc: Global,
+        least: Least<'_>,
+        at: u64,
+    ) -> Result<Option<ValueRef<'a>>, AllocError>
+        requires found { IsFound self.old least.key.now least.number }
+        requires stand { AllByRecursion (StandsAt least.key.now false) self.old.cursors }
+        ensures value { IfOk result (λ value.
+            value ≡ value_of O.meaning (writes_of (runs_of self.old.cursors)) least.entry.key.now at) }
+        ensures passes { IfOk result (λ value. self.new.cursors ≡ map (passed least.entry.key.now) self.old.cursors) }
+        ensures stays { OnErr result (self.new ≡ self.old) }
+    {
+        if let Some(value) = self.next_newest::<O>(least, at) {
+            return Ok(Some(ValueRef::lent(value)));
+        }
+        let value = self.value::<O>(alloc, least, at)?;
+        self.pass(least);
+        Ok(value)
     }
 
     /// Moves past the points below a key.

@@ -28,7 +28,7 @@ invariant_of-self-2 g c =
           (c.in-Some.ensures.last bound (subst (AllByRecursion (StandsBelow bound)) (sym same) stands));
     } in
     let stand = subst (AllByRecursion (StandsBelow high)) (sym same) c.self.invariant.stand in
-    let new = c.prev_alone.new.cursors in
+    let new = c.prev_lone.new.cursors in
     let long : length cursors ≡ k.cursors.len = search rules in
     let moved = take k.cursors.len (new ++ drop (length new) cursors) in
     let back : moved ≡ map (passed_back key) cursors = come_back (passed_back key) cursors lent new k.cursors.len long same (c.in-Some.ensures.passes high stand) in
@@ -54,7 +54,7 @@ returns-clause-comes g c =
           (c.in-Some.ensures.last bound (subst (AllByRecursion (StandsBelow bound)) (sym same) stands));
     } in
     let stand = subst (AllByRecursion (StandsBelow high)) (sym same) c.self.invariant.stand in
-    let new = c.prev_alone.new.cursors in
+    let new = c.prev_lone.new.cursors in
     let long : length cursors ≡ k.cursors.len = search rules in
     let moved = take k.cursors.len (new ++ drop (length new) cursors) in
     let back : moved ≡ map (passed_back key) cursors = come_back (passed_back key) cursors lent new k.cursors.len long same (c.in-Some.ensures.passes high stand) in

@@ -19,37 +19,30 @@ returns-then-not-is_below-clause-comes g c =
     let none = too_far c.args.self.now k.walkers.cursors k.low.now k.strict k.high.now found looks c.in-Some.least.key.now (ap (option_map (λ least. least.key.now)) c.in-Some.is) (sym c.is_below.ensures ∙ c.if-not-is_below.true) in
     (none, none)
 
-pub value-requires-clause-stand : goal.value-requires-clause-stand
-value-requires-clause-stand g c =
+pub take-requires-clause-stand : goal.take-requires-clause-stand
+take-requires-clause-stand g c =
     let k = c.self.inside in
     let found = option_map (λ least. least.key.now) c.least.result in
     let looks : Looks c.args.self.now k.walkers.cursors k.low.now k.strict k.high.now found = record { is = c.self.view_is; there = c.self.invariant; least = c.least.ensures.next } in
     stand_before c.args.self.now k.walkers.cursors k.low.now k.strict k.high.now found looks c.in-Some.least.key.now (ap (option_map (λ least. least.key.now)) c.in-Some.is)
 
-pub pass-requires-clause-stand : goal.pass-requires-clause-stand
-pass-requires-clause-stand g c =
+pub invariant_of-self-2 : goal.invariant_of-self-2
+invariant_of-self-2 g c =
     let k = c.self.inside in
     let found = option_map (λ least. least.key.now) c.least.result in
     let looks : Looks c.args.self.now k.walkers.cursors k.low.now k.strict k.high.now found = record { is = c.self.view_is; there = c.self.invariant; least = c.least.ensures.next } in
-    stand_before c.args.self.now k.walkers.cursors k.low.now k.strict k.high.now found looks c.in-Some.least.key.now (ap (option_map (λ least. least.key.now)) c.in-Some.is)
-
-pub invariant_of-self : goal.invariant_of-self
-invariant_of-self g c =
-    let k = c.self.inside in
-    let found = option_map (λ least. least.key.now) c.least.result in
-    let looks : Looks c.args.self.now k.walkers.cursors k.low.now k.strict k.high.now found = record { is = c.self.view_is; there = c.self.invariant; least = c.least.ensures.next } in
-    stand_behind c.args.self.now k.walkers.cursors k.low.now k.strict k.high.now found looks c.in-Some.least.key.now (ap (option_map (λ least. least.key.now)) c.in-Some.is) _ c.pass.ensures
+    stand_behind c.args.self.now k.walkers.cursors k.low.now k.strict k.high.now found looks c.in-Some.least.key.now (ap (option_map (λ least. least.key.now)) c.in-Some.is) _ c.in_ok-value.ensures.passes
 
 pub returns-clause-comes : goal.returns-clause-comes
 returns-clause-comes g c =
     let k = c.self.inside in
     let found = option_map (λ least. least.key.now) c.least.result in
     let looks : Looks c.args.self.now k.walkers.cursors k.low.now k.strict k.high.now found = record { is = c.self.view_is; there = c.self.invariant; least = c.least.ensures.next } in
-    comes c.args.self.now k.walkers.cursors k.low.now k.strict k.high.now found looks c.in-Some.least.key.now (ap (option_map (λ least. least.key.now)) c.in-Some.is) _ c.pass.ensures (sym c.is_below.ensures ∙ c.if-not-is_below.false)
+    comes c.args.self.now k.walkers.cursors k.low.now k.strict k.high.now found looks c.in-Some.least.key.now (ap (option_map (λ least. least.key.now)) c.in-Some.is) _ c.in_ok-value.ensures.passes (sym c.is_below.ensures ∙ c.if-not-is_below.false)
 
 pub returns-clause-runs : goal.returns-clause-runs
 returns-clause-runs g c =
     let k = c.self.inside in
     let found = option_map (λ least. least.key.now) c.least.result in
     let looks : Looks c.args.self.now k.walkers.cursors k.low.now k.strict k.high.now found = record { is = c.self.view_is; there = c.self.invariant; least = c.least.ensures.next } in
-    same_runs c.args.self.now k.walkers.cursors k.low.now k.strict k.high.now found looks c.in-Some.least.key.now (ap (option_map (λ least. least.key.now)) c.in-Some.is) _ c.pass.ensures
+    same_runs c.args.self.now k.walkers.cursors k.low.now k.strict k.high.now found looks c.in-Some.least.key.now (ap (option_map (λ least. least.key.now)) c.in-Some.is) _ c.in_ok-value.ensures.passes

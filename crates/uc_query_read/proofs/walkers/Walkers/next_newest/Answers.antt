@@ -1,0 +1,24 @@
+use Rattle.std.proofs.Common.{rules, ◌≡◌, List, length, map, refl, sym, ap, ◌∙◌, subst}
+use Rattle.std.specs.List.{AllByRecursion}
+use Rattle.uc_run.specs.Cursors.{Standing, has_ranges}
+use Rattle.uc_run.specs.Heads.{next_key}
+use Rattle.uc_query_read.specs.Walks.{newer_of, passed, IsOfRun}
+use Rattle.uc_query_read.proofs.Standing.{come_back}
+use Rattle.uc_query_read.proofs.Beside.{moved_of_runs, moved_ranges}
+use Rattle.uc_query_read.proofs.walkers.Walkers.next_newest.Goals as goal
+
+pub invariant_of-self-2 : goal.invariant_of-self-2
+invariant_of-self-2 g c =
+    let w = c.self.inside in
+    let moves = passed c.args.least.key.now in
+    let long : length w.cursors.items ≡ w.cursors.len = search rules in
+    let back = come_back moves w.cursors.items c.deref_mut.result.now c.take_all.new.cursors w.cursors.len long c.deref_mut.ensures.value c.in-Some-take_all.ensures.cursors in
+    let moved = c.in-Some-take_all.ensures.cursors ∙ ap (map moves) c.deref_mut.ensures.value ∙ sym back in
+    record {
+      of_runs = subst (AllByRecursion IsOfRun) (sym back) (moved_of_runs moves (λ c is. is) w.cursors.items c.self.invariant.of_runs);
+      heads = c.in-Some-take_all.ensures.heads ∙ ap (λ (cs : List Standing). map next_key (newer_of cs)) moved;
+      least = c.least-self-inside.ensures.least;
+      number = c.least-self-inside.ensures.number;
+      ranges = c.self.invariant.ranges ∙ sym (moved_ranges moves (λ c. refl) w.cursors.items) ∙ ap (map has_ranges) (sym back);
+      plain = c.self.invariant.plain;
+    }
