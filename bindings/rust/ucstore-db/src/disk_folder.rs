@@ -19,9 +19,11 @@ pub struct DiskFolder {
     path: PathBuf,
     /// The directory itself, so that syncing its names needs no descriptor.
     directory: fs::File,
-    lock: fs::File,
+    /// There is none in a folder without the file that was opened to be read.
+    lock: Option<fs::File>,
     /// The process that has locked it.
     process: u32,
+    is_read_only: bool,
 }
 
 impl DiskFolder {
@@ -42,19 +44,34 @@ impl DiskFolder {
     ///
     /// [`Error::Missing`] if there is none, and those of [`open`](DiskFolder::open).
     pub fn open_existing(path: impl AsRef<Path>) -> Result<DiskFolder, Error> {
-        let file = path.as_ref().display().to_string();
-        let path = match fs::canonicalize(path) {
-            Ok(path) => path,
-            Err(error) if error.kind() == io::ErrorKind::NotFound => {
-                return Err(Error::Missing { file });
-            }
+        DiskFolder::lock(existing(path.as_ref())?)
+    }
+
+    /// Locks a folder in which there is a database, to read it. Others may read it meanwhile, and no owner may open it. Nothing is made,
+    /// and changes are refused. A folder without the file `LOCK` isn't locked.
+    ///
+    /// # Errors
+    ///
+    /// [`Error::Missing`] if there is no database, [`Error::Locked`], [`Error::File`].
+    pub fn open_to_read(path: impl AsRef<Path>) -> Result<DiskFolder, Error> {
+        let path = existing(path.as_ref())?;
+        let directory =
+            fs::File::open(&path).map_err(Error::of_file(&path.display().to_string()))?;
+        let file = path.join(LOCK).display().to_string();
+        let lock = match fs::File::open(path.join(LOCK)) {
+            Ok(lock) => Some(lock),
+            Err(error) if error.kind() == io::ErrorKind::NotFound => None,
             Err(error) => return Err(Error::of_file(&file)(error)),
         };
-        match names_of(&path) {
-            Ok(names) if names.iter().any(|name| is_database(name)) => DiskFolder::lock(path),
-            Ok(_) => Err(Error::Missing { file }),
-            Err(error) => Err(Error::of_file(&file)(error)),
-        }
+        let outcome = lock.as_ref().map_or(Ok(()), fs::File::try_lock_shared);
+        locked(outcome, file)?;
+        Ok(DiskFolder {
+            path,
+            directory,
+            lock,
+            process: process::id(),
+            is_read_only: true,
+        })
     }
 
     /// Locks a folder of an absolute path.
@@ -72,31 +89,63 @@ impl DiskFolder {
             .truncate(false)
             .open(path.join(LOCK))
             .map_err(Error::of_file(&file))?;
-        match lock.try_lock() {
-            Ok(()) => Ok(DiskFolder {
-                path,
-                directory,
-                lock,
-                process: process::id(),
-            }),
-            Err(TryLockError::WouldBlock) => Err(Error::Locked { file }),
-            Err(TryLockError::Error(error)) => Err(Error::of_file(&file)(error)),
+        locked(lock.try_lock(), file)?;
+        Ok(DiskFolder {
+            path,
+            directory,
+            lock: Some(lock),
+            process: process::id(),
+            is_read_only: false,
+        })
+    }
+
+    /// The path of a file that is about to be changed.
+    fn changed(&self, name: &str) -> io::Result<PathBuf> {
+        match self.is_read_only {
+            true => Err(io::ErrorKind::ReadOnlyFilesystem.into()),
+            false => Ok(self.path.join(name)),
         }
+    }
+}
+
+/// The absolute path of a directory in which there is a database.
+fn existing(path: &Path) -> Result<PathBuf, Error> {
+    let file = path.display().to_string();
+    let path = match fs::canonicalize(path) {
+        Ok(path) => path,
+        Err(error) if error.kind() == io::ErrorKind::NotFound => {
+            return Err(Error::Missing { file });
+        }
+        Err(error) => return Err(Error::of_file(&file)(error)),
+    };
+    match names_of(&path) {
+        Ok(names) if names.iter().any(|name| is_database(name)) => Ok(path),
+        Ok(_) => Err(Error::Missing { file }),
+        Err(error) => Err(Error::of_file(&file)(error)),
+    }
+}
+
+/// The outcome of locking a file.
+fn locked(outcome: Result<(), TryLockError>, file: String) -> Result<(), Error> {
+    match outcome {
+        Ok(()) => Ok(()),
+        Err(TryLockError::WouldBlock) => Err(Error::Locked { file }),
+        Err(TryLockError::Error(error)) => Err(Error::of_file(&file)(error)),
     }
 }
 
 impl Drop for DiskFolder {
     /// Unlocks it, also if a child of the process still has the file. A child doesn't unlock what is its parent's.
     fn drop(&mut self) {
-        if self.process == process::id() {
+        if let Some(lock) = self.lock.as_ref().filter(|_| self.process == process::id()) {
             // A failure here ends with the file.
-            let _ = self.lock.unlock();
+            let _ = lock.unlock();
         }
     }
 }
 
 /// Makes a directory and those above it, and waits until the names of those are on the device.
-fn make_directory(path: &Path) -> io::Result<()> {
+pub(crate) fn make_directory(path: &Path) -> io::Result<()> {
     if path.as_os_str().is_empty() || path.is_dir() {
         return Ok(());
     }
@@ -132,7 +181,7 @@ fn names_of(path: &Path) -> io::Result<Vec<String>> {
 }
 
 /// Whether a file is a log or a base.
-fn is_database(name: &str) -> bool {
+pub(crate) fn is_database(name: &str) -> bool {
     matches!(Name::of(name), Some(Name::Log(_) | Name::Base(..)))
 }
 
@@ -158,24 +207,28 @@ impl Folder for DiskFolder {
     }
 
     fn create(&self, name: &str) -> io::Result<Box<dyn File>> {
-        Ok(Box::new(fs::File::create(self.path.join(name))?))
+        Ok(Box::new(fs::File::create(self.changed(name)?)?))
     }
 
     fn open(&self, name: &str) -> io::Result<Box<dyn File>> {
-        let file = OpenOptions::new().append(true).open(self.path.join(name))?;
+        let file = OpenOptions::new().append(true).open(self.changed(name)?)?;
         Ok(Box::new(file))
     }
 
     fn rename(&self, from: &str, to: &str) -> io::Result<()> {
-        fs::rename(self.path.join(from), self.path.join(to))
+        fs::rename(self.changed(from)?, self.changed(to)?)
     }
 
     fn remove(&self, name: &str) -> io::Result<()> {
-        fs::remove_file(self.path.join(name))
+        fs::remove_file(self.changed(name)?)
     }
 
     fn sync(&self) -> io::Result<()> {
         self.directory.sync_all()
+    }
+
+    fn path(&self) -> Option<&Path> {
+        Some(&self.path)
     }
 }
 

@@ -78,6 +78,12 @@ impl Error {
         }
     }
 
+    /// The reason why a database that was opened to be read takes no writes.
+    pub(crate) fn opened_to_read() -> Error {
+        let reason = "the database was opened to be read";
+        Error::of_file("")(io::Error::new(io::ErrorKind::ReadOnlyFilesystem, reason))
+    }
+
     /// The error that later writes get after this one.
     pub(crate) fn into_cause(self) -> Error {
         match self {

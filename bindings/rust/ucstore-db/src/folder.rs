@@ -1,6 +1,7 @@
 //! [`Folder`] and [`File`]: the device below a database.
 
 use std::io;
+use std::path::Path;
 
 /// A folder of files that one database has open. [`DiskFolder`](crate::DiskFolder) is one of the file system.
 ///
@@ -35,6 +36,10 @@ pub trait Folder: Send + Sync {
     fn remove(&self, name: &str) -> io::Result<()>;
     /// Waits until the names are on the device.
     fn sync(&self) -> io::Result<()>;
+    /// The absolute path of the folder, if it is a directory of the file system. A [backup](crate::Db::backup) links its files then.
+    fn path(&self) -> Option<&Path> {
+        None
+    }
 }
 
 /// A file that is written at its end.

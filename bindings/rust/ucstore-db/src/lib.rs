@@ -49,6 +49,9 @@
 //! all of the logs before `000007.log`, and of that one what comes up to there. `000007.log.lost` has what an opening cut off that log,
 //! where a crash had left it. A [`Folder`] of another device may stand for the file system.
 //!
+//! [`Db::backup`] makes another folder of it while it is used. [`files_of`] lists what a folder has, and [`read_writes`] reads a log or a
+//! checkpoint, without opening a database.
+//!
 //! # Parts of something greater
 //!
 //! Where a batch is there only if other databases have their part of it too, their owner has a log of its own of which are. Then
@@ -58,6 +61,7 @@
 #![warn(missing_docs)]
 
 mod alone;
+mod backup;
 mod base_file;
 mod cache_padded;
 mod checkpoint;
@@ -69,6 +73,7 @@ mod disk_folder;
 mod ending;
 mod error;
 mod event;
+mod files;
 mod flushes;
 mod folder;
 mod front;
@@ -96,6 +101,7 @@ mod shared;
 mod shown;
 mod snapshot;
 mod spin_wait;
+mod staging;
 mod stalls;
 mod stats;
 mod striped;
@@ -109,7 +115,9 @@ pub use db::{Db, WeakDb};
 pub use disk_folder::DiskFolder;
 pub use error::Error;
 pub use event::{Event, Listener, Progress};
+pub use files::{files_of, read_writes, FileKind, FolderFile, WritesRead};
 pub use folder::{File, Folder};
+pub use operator_file::operator_of;
 pub use options::{Options, Sync};
 pub use snapshot::{Rows, Snapshot};
 pub use stats::Stats;

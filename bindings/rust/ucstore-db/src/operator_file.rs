@@ -33,15 +33,33 @@ fn line(operator: Operator) -> String {
 
 /// Checks that a folder's file names the operator.
 pub(crate) fn check(folder: &dyn Folder, asked: Operator) -> Result<(), Error> {
+    match read(folder)? {
+        made if made == asked => Ok(()),
+        made => Err(Error::OtherOperator { made, asked }),
+    }
+}
+
+/// The operator that a folder's file names.
+fn read(folder: &dyn Folder) -> Result<Operator, Error> {
     let found = folder.read(OPERATOR).map_err(Error::of_file(OPERATOR))?;
-    match ALL.into_iter().find(|it| line(*it).as_bytes() == found) {
-        Some(made) if made == asked => Ok(()),
-        Some(made) => Err(Error::OtherOperator { made, asked }),
-        None => Err(Error::Damaged {
-            file: OPERATOR.into(),
-            offset: 0,
-            fault: "it names no operator".into(),
-        }),
+    let made = ALL.into_iter().find(|it| line(*it).as_bytes() == found);
+    made.ok_or_else(|| Error::Damaged {
+        file: OPERATOR.into(),
+        offset: 0,
+        fault: "it names no operator".into(),
+    })
+}
+
+/// Returns the merge operator that a folder was made with, if it has the file `OPERATOR`, which names it.
+///
+/// # Errors
+///
+/// [`Error::Damaged`] if the file names none, [`Error::File`].
+pub fn operator_of(folder: &dyn Folder) -> Result<Option<Operator>, Error> {
+    let names = folder.names().map_err(Error::of_file(""))?;
+    match names.iter().any(|name| name == OPERATOR) {
+        true => read(folder).map(Some),
+        false => Ok(None),
     }
 }
 

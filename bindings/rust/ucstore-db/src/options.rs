@@ -48,6 +48,10 @@ pub struct Options {
     pub checkpoint_least: u64,
     /// Refuses to make a database: there has to be one in the folder. Nothing is made there then.
     pub must_exist: bool,
+    /// Opens a database to read it: there has to be one, nothing in its folder is changed, and writes are refused. While it opens, others
+    /// may read the folder too, and no owner may have it open; after that it needs the folder no more. What a crash left at the end of
+    /// the last log isn't read, and stays there. What is read may not be durable yet, if the process that wrote it was killed.
+    pub read_only: bool,
     /// Opens a damaged folder up to the damage. Nothing can be written then.
     pub recover_to_fault: bool,
     /// Gives up what the files have after this sequence, whatever it is: to be called when another log says which batches were
@@ -114,6 +118,7 @@ impl Default for Options {
             checkpoint_ratio: 2,
             checkpoint_least: 64 << 20,
             must_exist: false,
+            read_only: false,
             recover_to_fault: false,
             recover_to: None,
             give_up_until: u64::MAX,

@@ -45,7 +45,7 @@ pub(crate) struct Shared {
     groups: CachePadded<Groups>,
     /// Why nothing can be written any more.
     failure: OnceLock<Error>,
-    /// Whether a damaged directory was opened to be read alone.
+    /// Whether the directory was opened to be read alone, or is damaged.
     pub(crate) is_salvaged: bool,
     /// The first failure in a thread of the database's own.
     pub(crate) noted: Mutex<Option<Error>>,
@@ -82,7 +82,8 @@ impl Shared {
         };
         let counts = Arc::default();
         let mut recovery = Recovery::read(&*folder, options)?;
-        if let Some(fault) = recovery.fault.take() {
+        let fault = recovery.fault.take();
+        if let Some(fault) = fault.or_else(|| options.read_only.then(Error::opened_to_read)) {
             let (store, marks) = recovery.into_store();
             return Ok(Shared {
                 marks: Mutex::new(marks),

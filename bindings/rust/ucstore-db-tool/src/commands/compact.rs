@@ -1,0 +1,21 @@
+//! `compact`.
+
+use super::checkpoint::checkpoint;
+use crate::args::Args;
+use crate::failure::Outcome;
+
+/// Compact the runs as far as is due, and write a checkpoint, as `checkpoint` does
+#[derive(clap::Args)]
+#[command(
+    after_help = "Runs are in memory alone: the directory gets smaller by the checkpoint, which has no write that a later one \
+replaces.
+
+Example: ucstore-db visits compact"
+)]
+pub struct Compact {}
+
+impl Compact {
+    pub fn run(&self, args: &Args) -> Outcome {
+        checkpoint(args, true)
+    }
+}

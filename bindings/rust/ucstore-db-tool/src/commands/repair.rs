@@ -1,0 +1,102 @@
+//! `repair`.
+
+use crate::args::Args;
+use crate::failure::{Failure, Outcome};
+use crate::opening;
+use crate::output::Output;
+use std::path::PathBuf;
+use ucstore_db::{files_of, read_writes, Db, DiskFolder, Error, FileKind, FolderFile, Options};
+
+/// Read a damaged directory up to the fault, write that to a new one, and print what is lost
+#[derive(clap::Args)]
+#[command(after_help = "Nothing in the old directory is changed. Prints
+
+  fault FILE OFFSET: WHY        what ends the reading, if there is damage
+  lost FILE bytes SIZE          what isn't read from there on, for each file
+  kept rows R last SEQUENCE     what NEW has
+
+A log that is missing can't be repaired.
+
+Example: ucstore-db visits repair visits-repaired")]
+pub struct Repair {
+    /// Directory to make; nothing may have its name
+    new: PathBuf,
+}
+
+impl Repair {
+    pub fn run(&self, args: &Args) -> Outcome {
+        let fault = Failure::of(&args.dir);
+        let folder = opening::folder_to_read(args)?;
+        let options = Options {
+            recover_to_fault: true,
+            ..Options::default()
+        };
+        let db = opening::read_from(args, folder.clone(), &options)?;
+        let last = db.backup(&self.new).map_err(&fault)?;
+        let mut output = Output::new(args.form());
+        for line in losses(&db, &folder).map_err(&fault)? {
+            output.line(&line)?;
+        }
+        let mut rows = db.iter().map_err(&fault)?;
+        let mut count: u64 = 0;
+        while rows
+            .next_row()
+            .map_err(|error| fault(error.into()))?
+            .is_some()
+        {
+            count += 1;
+        }
+        output.line(&format!("kept rows {count} last {last}"))?;
+        output.finish()
+    }
+}
+
+/// The damage that ended the reading, and the files that weren't read from there on.
+fn losses(db: &Db, folder: &DiskFolder) -> Result<Vec<String>, Error> {
+    let Some(Error::ReadOnly { cause }) = db.failure() else {
+        return Ok(vec![]);
+    };
+    let files = files_of(folder)?;
+    let read: Vec<&FolderFile> = files.iter().filter(|file| is_read(file)).collect();
+    let Error::Damaged {
+        file: damaged,
+        offset,
+        fault,
+    } = &*cause
+    else {
+        return torn(folder, &read);
+    };
+    let mut lines = vec![format!("fault {damaged} {offset}: {fault}")];
+    let rest = read.iter().skip_while(|file| file.name != *damaged);
+    for file in rest {
+        let kept = match file.name == *damaged {
+            true => read_writes(folder, damaged, |_| Ok::<(), Error>(()))?.end,
+            false => 0,
+        };
+        if file.length > kept {
+            lines.push(lost(&file.name, file.length - kept));
+        }
+    }
+    Ok(lines)
+}
+
+/// What a crash left at the end of the last log.
+fn torn(folder: &DiskFolder, read: &[&FolderFile]) -> Result<Vec<String>, Error> {
+    let mut lines = vec![];
+    for file in read {
+        let end = read_writes(folder, &file.name, |_| Ok::<(), Error>(()))?.end;
+        if file.length > end {
+            lines.push(lost(&file.name, file.length - end));
+        }
+    }
+    Ok(lines)
+}
+
+fn lost(name: &str, bytes: u64) -> String {
+    format!("lost {name} bytes {bytes}")
+}
+
+/// Whether a checkpoint or a log is one that an opening reads.
+fn is_read(file: &FolderFile) -> bool {
+    file.is_read && matches!(file.kind, FileKind::Checkpoint | FileKind::Log)
+}

@@ -1,0 +1,121 @@
+//! [`Failure`]: why a command ends without being done, and the status that it ends with.
+
+use std::fmt;
+use std::io;
+use std::path::Path;
+use ucstore_db::Error;
+
+const NO_VALUE: u8 = 1;
+const REFUSED: u8 = 2;
+const DAMAGED: u8 = 3;
+const OUT_OF_MEMORY: u8 = 4;
+const FAULT: u8 = 5;
+
+/// Why a command isn't done.
+#[derive(Debug)]
+pub enum Failure {
+    /// The key has no value.
+    NoValue,
+    /// The words or the input are refused.
+    Refused(String),
+    /// A database says so.
+    Database {
+        /// Its directory.
+        dir: String,
+        error: Error,
+    },
+    /// A stream can't be read or written.
+    Stream {
+        /// Its name.
+        stream: &'static str,
+        error: io::Error,
+    },
+}
+
+/// The outcome of a command.
+pub type Outcome<T = ()> = Result<T, Failure>;
+
+impl Failure {
+    /// For a directory, what an error of its database says.
+    pub fn of(dir: &Path) -> impl Fn(Error) -> Failure + '_ {
+        |error| Failure::Database {
+            dir: dir.display().to_string(),
+            error,
+        }
+    }
+
+    /// The status that the program ends with.
+    pub fn status(&self) -> u8 {
+        match self {
+            Failure::NoValue => NO_VALUE,
+            Failure::Refused(_) => REFUSED,
+            Failure::Database { dir, error } => status_of(dir, error),
+            // Who reads has read enough.
+            Failure::Stream { error, .. } if error.kind() == io::ErrorKind::BrokenPipe => 0,
+            Failure::Stream { .. } => FAULT,
+        }
+    }
+
+    /// The line for standard error, if there is something to say.
+    pub fn message(&self) -> Option<String> {
+        match self {
+            Failure::NoValue => None,
+            Failure::Stream { error, .. } if error.kind() == io::ErrorKind::BrokenPipe => None,
+            failure => Some(failure.to_string()),
+        }
+    }
+}
+
+impl fmt::Display for Failure {
+    fn fmt(&self, formatter: &mut fmt::Formatter<'_>) -> fmt::Result {
+        match self {
+            Failure::NoValue => formatter.write_str("the key has no value"),
+            Failure::Refused(why) => formatter.write_str(why),
+            Failure::Database { dir, error } => match is_named(dir, error) {
+                true => write!(formatter, "{error}"),
+                false => write!(formatter, "{dir}: {error}"),
+            },
+            Failure::Stream { stream, error } => write!(formatter, "{stream}: {error}"),
+        }
+    }
+}
+
+impl std::error::Error for Failure {
+    fn source(&self) -> Option<&(dyn std::error::Error + 'static)> {
+        match self {
+            Failure::Database { error, .. } => Some(error),
+            Failure::Stream { error, .. } => Some(error),
+            Failure::NoValue | Failure::Refused(_) => None,
+        }
+    }
+}
+
+/// The file that an error names.
+fn file_of(error: &Error) -> Option<&str> {
+    match error {
+        Error::File { file, .. }
+        | Error::Locked { file }
+        | Error::Damaged { file, .. }
+        | Error::Missing { file }
+        | Error::NotRecoverable { file, .. } => Some(file),
+        Error::ReadOnly { cause } => file_of(cause),
+        _ => None,
+    }
+}
+
+/// Whether an error names its file with the directory, or the directory itself.
+fn is_named(dir: &str, error: &Error) -> bool {
+    file_of(error).is_some_and(|file| file == dir || file.contains('/'))
+}
+
+/// The status for an error of a directory's database.
+fn status_of(dir: &str, error: &Error) -> u8 {
+    match error {
+        Error::Store(ucstore_db::ucstore::Error::OutOfMemory) => OUT_OF_MEMORY,
+        Error::Missing { file } if file == dir => REFUSED,
+        Error::Damaged { .. } | Error::Missing { .. } => DAMAGED,
+        Error::File { .. } | Error::Internal { .. } => FAULT,
+        Error::ReadOnly { cause } => status_of(dir, cause),
+        _ => REFUSED,
+    }
+}
