@@ -1,5 +1,5 @@
-# Makes a manual page from what `ucstore --help` and its subcommands print. It reads their texts one behind the other, each
-# below a line `== NAME`: the program's name for the first, and a subcommand's for the others.
+# Makes a manual page from what `ucstore --help` and its subcommands print, or those of `ucstore-db`. It reads their texts one behind the
+# other, each below a line `== NAME`: the program's name for the first, and a subcommand's for the others.
 #
 #     awk -v version='ucstore 0.2.0' -f man.awk
 
@@ -38,12 +38,15 @@ function item(text) {
     print plain(substr(text, RSTART + RLENGTH - 1))
 }
 
-BEGIN { printf ".TH UCSTORE 1 \"\" \"%s\" \"User Commands\"\n", version }
-
 /^== / {
     name = $2
     first = !count++
-    if (!first) heading("\"UCSTORE " toupper(name) "\"")
+    if (first) {
+        program = name
+        printf ".TH %s 1 \"\" \"%s\" \"User Commands\"\n", toupper(plain(program)), version
+    } else {
+        heading("\"" toupper(plain(program " " name)) "\"")
+    }
     part = "about"
     next
 }
@@ -57,18 +60,21 @@ part == "about" {
 }
 
 /^Usage: / {
-    sub(/^Usage: [^ ]+/, "ucstore")
+    sub(/^Usage: [^ ]+/, program)
     if (first) heading("SYNOPSIS")
     print ".PP\n.B " plain($0)
     next
 }
 
-/^(Commands|Options):$/ {
+/^(Commands|Arguments|Options):$/ {
     sub(/:/, "")
     if (first) heading(toupper($0))
     part = "items"
     next
 }
+
+# A long meaning goes on.
+part == "items" && /^            / { sub(/^ +/, ""); print plain($0); next }
 
 part == "items" && /^ / { item($0); next }
 

@@ -64,6 +64,9 @@ run_in() { # SUITE LINE
 # What a root runs of the command, and what it must print.
 report='ucstore report --operator append --memtable 1 --trigger 2 < examples/report.log | diff - examples/report.expected'
 
+# What it runs of ucstore-db, and what it must print.
+database='ucstore-db db put colour blue --create --operator append && ucstore-db db verify && test $(ucstore-db db get colour) = blue'
+
 # Python's first program, and its short tests beside a plain model.
 python_works='
     mkdir tried && cp python/first.py python/db_first.py python/tests/test_cases.py tried
@@ -107,6 +110,7 @@ debian() {
         apt-get -qq update
         apt-get -qq install -y --reinstall ./*.deb
         $report
+        $database
         cc c/first.c \$(pkg-config --cflags --libs ucstore) -o first && ./first
         cc c/db_first.c \$(pkg-config --cflags --libs ucstore_db) -o db_first && ./db_first
         PYTHON=/usr/bin/python3; $python_works

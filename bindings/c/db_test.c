@@ -380,6 +380,25 @@ static const uint8_t *batch_at(uint8_t sequence, char key, char value) {
     return batch;
 }
 
+/* Makes a backup, which is a database of its own. */
+static void try_backup(void) {
+    struct ucstore_db *db = open_texts("origin"), *backup;
+    uint64_t sequence = 0;
+    OK(ucstore_db_put(db, "a", 1, "1", 1));
+    OK(ucstore_db_backup(db, below("backup"), &sequence));
+    CHECK(sequence == 1);
+    OK(ucstore_db_put(db, "a", 1, "2", 1));
+    CHECK(is_refused(ucstore_db_backup(db, below("backup"), &sequence), UCSTORE_DB_FILE, "backup"));
+    CHECK(ucstore_db_backup(NULL, below("other"), &sequence) == UCSTORE_DB_NULL);
+    CHECK(ucstore_db_backup(db, NULL, &sequence) == UCSTORE_DB_NULL && ucstore_db_backup(db, below("other"), NULL) == UCSTORE_DB_NULL);
+    OK(ucstore_db_end(db));
+    CHECK(ucstore_db_backup(db, below("other"), &sequence) == UCSTORE_DB_CLOSED && sequence == 1);
+    OK(ucstore_db_close(db));
+    backup = open_texts("backup");
+    CHECK(has(backup, "a", "1"));
+    OK(ucstore_db_close(backup));
+}
+
 /* Recovers a database to a sequence number, with snapshots at marks, after a checkpoint at one of them. */
 static void try_recovery(void) {
     static const uint64_t marks[] = {20, 7};
@@ -705,6 +724,7 @@ int main(int argc, char **argv) {
     try_pages(db);
     try_snapshots(db);
     try_sources();
+    try_backup();
     try_recovery();
     try_events();
     try_idle();

@@ -528,6 +528,35 @@ class Recovered(InFolder):
             Db(self.folder, marks=[4])
 
 
+class Backups(InFolder):
+    def test_a_backup_is_a_database(self):
+        backup = self.folder.parent / "backup"
+        with Db(self.folder) as db:
+            db[b"k"] = b"1"
+            db.checkpoint()
+            db[b"k"] = b"2"
+            self.assertEqual(db.backup(backup), 2)
+            db[b"k"] = b"3"
+            with self.assertRaisesRegex(FileFault, "backup"):
+                db.backup(backup)
+            with self.assertRaises(ValueError):
+                db.backup("a\0b")
+            base = "000002-1.base"
+            self.assertEqual(os.stat(backup / base).st_ino, os.stat(self.folder / base).st_ino)
+        with self.assertRaises(Closed):
+            db.backup(self.folder.parent / "late")
+        with Db(backup, must_exist=True) as db:
+            self.assertEqual((db[b"k"], db.stats().last), (b"2", 2))
+        self.assertEqual(sorted(os.listdir(self.folder.parent)), ["backup", "db"])
+
+    def test_a_database_in_memory(self):
+        with Db.in_memory(Operator.MAXIMUM) as db:
+            db.update({b"a": b"1", b"b": b"2"})
+            db.backup(self.folder)
+        with Db(self.folder, Operator.MAXIMUM) as db:
+            self.assertEqual(dict(db), {b"a": b"1", b"b": b"2"})
+
+
 class Told(InFolder):
     def test_events(self):
         told = []

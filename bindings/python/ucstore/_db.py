@@ -22,6 +22,14 @@ from ._db_types import Closed, DbOptions, DbStats, Event, Progress
 _Size, _U64 = ctypes.c_size_t, ctypes.c_uint64
 
 
+def _name(folder: Union[str, bytes, os.PathLike[str]]) -> bytes:
+    """Returns a directory's name for C. Raises `ValueError` for one with a null byte."""
+    name = os.fsencode(folder)
+    if b"\0" in name:
+        raise ValueError("directory name contains a null byte")
+    return name
+
+
 class DbBatch(Alone):
     """Operations that a database writes atomically. A batch is written when its `with` block ends without an exception.
 
@@ -172,9 +180,7 @@ class Db(Reader, MutableMapping[bytes, bytes]):
         Raises `Locked`, `Damaged`, `Missing`, `NotRecoverable`, `OtherOperator`, `FileFault`, `BadOption`, `OutOfMemory`,
         and `ValueError` for a name with a null byte.
         """
-        name = os.fsencode(folder)
-        if b"\0" in name:
-            raise ValueError("directory name contains a null byte")
+        name = _name(folder)
         given = Options.of(operator, options)
         given.recover(recover_to, give_up_until, marks)
         given.must_exist = must_exist
@@ -314,6 +320,18 @@ class Db(Reader, MutableMapping[bytes, bytes]):
         # With its own handle, other readers of the snapshot need not wait.
         with snapshot.again() as again:
             self._call("checkpoint_to", again._at)
+
+    def backup(self, folder: Union[str, bytes, os.PathLike[str]]) -> int:
+        """Writes the database as it is now to a new directory, and returns the sequence number of the last write there.
+
+        The directory is a database of its own. Writers are not stopped; checkpoints wait. Within a file system, files that
+        do not change any more are linked. The directory gets its name once it is whole and durable; a crash may leave one
+        with `.new-` after its name, which may be deleted. Raises `FileFault`, also if the name is taken, `Damaged` if a
+        copy is not read as it was written, `ReadOnly` if the log failed, and `Closed` if the database is closed meanwhile.
+        """
+        sequence = _U64()
+        self._call("backup", _name(folder), ctypes.byref(sequence))
+        return sequence.value
 
     def next_log(self) -> None:
         """Switches to a new log. A checkpoint of the present state can then delete all older logs. Optional.

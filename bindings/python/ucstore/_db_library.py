@@ -100,6 +100,7 @@ _SIGNATURES: Dict[str, Sequence[Any]] = {
     "compact": (_Pointer,),
     "checkpoint": (_Pointer,),
     "checkpoint_to": (_Pointer, _Pointer),
+    "backup": (_Pointer, ctypes.c_char_p, _Pointer),
     "next_log": (_Pointer,),
     "failure": (_Pointer,),
     "stats": (_Pointer, _Pointer),

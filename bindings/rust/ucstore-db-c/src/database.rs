@@ -319,6 +319,26 @@ pub unsafe extern "C" fn ucstore_db_checkpoint_to(
     })
 }
 
+/// Writes what a database has now to another directory.
+#[no_mangle]
+pub unsafe extern "C" fn ucstore_db_backup(
+    db: *const DbHandle,
+    folder: *const c_char,
+    sequence: *mut u64,
+) -> i32 {
+    call(|| {
+        // SAFETY: The caller guarantees the handle and the memory.
+        let (db, place) = unsafe { (Handle::get(db)?, Place::of(sequence)?) };
+        if folder.is_null() {
+            return Err(Status::Null.into());
+        }
+        // SAFETY: The caller guarantees a string that ends with a zero byte.
+        let folder = OsStr::from_bytes(unsafe { CStr::from_ptr(folder) }.to_bytes());
+        place.put(db.backup(folder)?);
+        Ok(())
+    })
+}
+
 /// Switches to a new log.
 #[no_mangle]
 pub unsafe extern "C" fn ucstore_db_next_log(db: *const DbHandle) -> i32 {

@@ -112,6 +112,7 @@ impl COptions {
             checkpoint_ratio: self.checkpoint_ratio,
             checkpoint_least: self.checkpoint_least,
             must_exist: self.must_exist != 0,
+            read_only: false,
             recover_to_fault: self.recovers_to_fault != 0,
             recover_to: (self.recover_to != TO_THE_END).then_some(self.recover_to),
             give_up_until: self.give_up_until,

@@ -36,7 +36,7 @@ pub enum Failure {
 pub type Outcome<T = ()> = Result<T, Failure>;
 
 impl Failure {
-    /// For a directory, what an error of its database says.
+    /// Returns the function that gives the errors of a directory's database its name.
     pub fn of(dir: &Path) -> impl Fn(Error) -> Failure + '_ {
         |error| Failure::Database {
             dir: dir.display().to_string(),
@@ -50,7 +50,7 @@ impl Failure {
             Failure::NoValue => NO_VALUE,
             Failure::Refused(_) => REFUSED,
             Failure::Database { dir, error } => status_of(dir, error),
-            // Who reads has read enough.
+            // The reader of the pipe has read enough.
             Failure::Stream { error, .. } if error.kind() == io::ErrorKind::BrokenPipe => 0,
             Failure::Stream { .. } => FAULT,
         }
@@ -108,12 +108,22 @@ fn is_named(dir: &str, error: &Error) -> bool {
     file_of(error).is_some_and(|file| file == dir || file.contains('/'))
 }
 
+/// Whether an error says that a name is the wrong one.
+fn is_of_name(kind: io::ErrorKind) -> bool {
+    matches!(
+        kind,
+        io::ErrorKind::AlreadyExists | io::ErrorKind::NotADirectory | io::ErrorKind::InvalidInput
+    )
+}
+
 /// The status for an error of a directory's database.
 fn status_of(dir: &str, error: &Error) -> u8 {
     match error {
         Error::Store(ucstore_db::ucstore::Error::OutOfMemory) => OUT_OF_MEMORY,
         Error::Missing { file } if file == dir => REFUSED,
         Error::Damaged { .. } | Error::Missing { .. } => DAMAGED,
+        // A name that is taken, or isn't a directory's.
+        Error::File { error, .. } if is_of_name(error.kind()) => REFUSED,
         Error::File { .. } | Error::Internal { .. } => FAULT,
         Error::ReadOnly { cause } => status_of(dir, cause),
         _ => REFUSED,

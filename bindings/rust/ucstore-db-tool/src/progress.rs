@@ -8,7 +8,7 @@ use ucstore_db::{Listener, Progress};
 /// The number of times in a second that a bar is drawn at most.
 const RATE: u8 = 10;
 
-/// How far a command is: a line of standard error if that is a terminal, or else nothing. It is gone where this is dropped.
+/// The progress of a command: a line of standard error if that is a terminal, or else nothing. It is gone where this is dropped.
 pub struct Bar(ProgressBar);
 
 impl Bar {

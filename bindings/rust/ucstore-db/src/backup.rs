@@ -124,7 +124,8 @@ impl Shared {
             }
         }
         let length = source.length(name).map_err(Error::of_file(name))?;
-        let mut copy = Partial::create(target, format!("{name}.copy")).map_err(in_target(target))?;
+        let mut copy =
+            Partial::create(target, format!("{name}.copy")).map_err(in_target(target))?;
         if let (Some(from), Some(to)) = (source.path(), target.path()) {
             narrow(&from.join(name), &to.join(format!("{name}.copy")))
                 .map_err(of_target(target, name))?;

@@ -74,7 +74,7 @@ pub fn files_of(folder: &dyn Folder) -> Result<Vec<FolderFile>, Error> {
         .into_iter()
         .map(|text| (Name::of(&text), text))
         .collect();
-    found.sort_by(|one, other| order(one, other));
+    found.sort_by(order);
     let bases = found
         .iter()
         .filter_map(|(name, _)| name.filter(|name| matches!(name, Name::Base(..))));

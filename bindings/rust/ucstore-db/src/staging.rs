@@ -45,7 +45,7 @@ impl Staging {
     /// Gives it its name, which is on the device then.
     pub(crate) fn publish(mut self) -> Result<(), Error> {
         let file = self.path.display().to_string();
-        // It is unlocked before somebody else can open it.
+        // The lock ends before somebody else can open it.
         self.folder = None;
         check_absent(&self.path)
             .and_then(|()| fs::rename(&self.temporary, &self.path))
@@ -61,7 +61,7 @@ impl Drop for Staging {
     fn drop(&mut self) {
         self.folder = None;
         if !self.temporary.as_os_str().is_empty() {
-            // What fails here was told before, by what failed first.
+            // A failure here adds nothing to the first one.
             let _ = fs::remove_dir_all(&self.temporary);
         }
     }

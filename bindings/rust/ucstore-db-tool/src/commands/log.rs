@@ -7,7 +7,7 @@ use crate::opening;
 use crate::output::Output;
 use std::path::Path;
 use ucstore_db::ucstore::{BatchFault, Ended, LogFault, Operation, Write};
-use ucstore_db::{files_of, read_writes, Error, FileKind};
+use ucstore_db::{files_of, read_writes, DiskFolder, Error, FileKind, FolderFile};
 
 /// Print the writes of the checkpoint and the logs, in order
 #[derive(clap::Args)]
@@ -38,17 +38,25 @@ impl Log {
         output.finish()
     }
 
-    /// The files to print.
-    fn names(&self, args: &Args, folder: &ucstore_db::DiskFolder) -> Outcome<Vec<String>> {
-        if !self.files.is_empty() {
-            return Ok(self.files.clone());
-        }
+    /// The names of the files to print.
+    fn names(&self, args: &Args, folder: &DiskFolder) -> Outcome<Vec<String>> {
         let files = files_of(folder).map_err(Failure::of(&args.dir))?;
-        let is_printed = |kind| matches!(kind, FileKind::Checkpoint | FileKind::Log);
-        let read = files
-            .into_iter()
-            .filter(|file| file.is_read && is_printed(file.kind));
-        Ok(read.map(|file| file.name).collect())
+        let is_printed =
+            |file: &FolderFile| matches!(file.kind, FileKind::Checkpoint | FileKind::Log);
+        let found = files.into_iter().filter(is_printed);
+        if self.files.is_empty() {
+            let read = found.filter(|file| file.is_read);
+            return Ok(read.map(|file| file.name).collect());
+        }
+        let known: Vec<String> = found.map(|file| file.name).collect();
+        match self.files.iter().find(|name| !known.contains(name)) {
+            Some(name) => {
+                let dir = args.dir.display();
+                let why = format!("{dir} has no checkpoint or log {name}");
+                Err(Failure::Refused(why))
+            }
+            None => Ok(self.files.clone()),
+        }
     }
 }
 

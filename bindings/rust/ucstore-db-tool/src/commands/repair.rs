@@ -80,7 +80,7 @@ fn losses(db: &Db, folder: &DiskFolder) -> Result<Vec<String>, Error> {
     Ok(lines)
 }
 
-/// What a crash left at the end of the last log.
+/// Lists the bytes that a crash left at the end of the last log.
 fn torn(folder: &DiskFolder, read: &[&FolderFile]) -> Result<Vec<String>, Error> {
     let mut lines = vec![];
     for file in read {

@@ -7,7 +7,9 @@ use crate::output::Output;
 use std::ffi::OsString;
 use std::ops::Bound;
 use ucstore_db::ucstore::end_of_prefix;
-use ucstore_db::{Db, Rows};
+
+/// The bounds of a range of keys.
+type Bounds = (Bound<Vec<u8>>, Bound<Vec<u8>>);
 
 /// Print the keys of a range, with their values, in the order of the keys' bytes
 #[derive(clap::Args)]
@@ -40,9 +42,11 @@ pub struct Scan {
 
 impl Scan {
     pub fn run(&self, args: &Args) -> Outcome {
-        let (low, high) = self.bounds(args)?;
+        let bounds = self.bounds(args)?;
         let db = opening::to_read(args)?;
-        let mut rows = rows(&db, low, high).map_err(Failure::of(&args.dir))?;
+        let mut rows = db
+            .range::<Vec<u8>>(bounds)
+            .map_err(Failure::of(&args.dir))?;
         let mut output = Output::new(args.form());
         let mut count = 0;
         while count < self.limit {
@@ -66,7 +70,7 @@ impl Scan {
     }
 
     /// The bounds of the range.
-    fn bounds(&self, args: &Args) -> Outcome<(Bound<Vec<u8>>, Bound<Vec<u8>>)> {
+    fn bounds(&self, args: &Args) -> Outcome<Bounds> {
         let form = args.form();
         if let Some(prefix) = &self.prefix {
             let prefix = form.word(prefix)?;
@@ -78,9 +82,4 @@ impl Scan {
         let high = read(&self.high)?.map_or(Bound::Unbounded, Bound::Excluded);
         Ok((low, high))
     }
-}
-
-/// The rows of a range: none if it ends before it begins.
-fn rows(db: &Db, low: Bound<Vec<u8>>, high: Bound<Vec<u8>>) -> Result<Rows, ucstore_db::Error> {
-    db.range::<Vec<u8>>((low, high))
 }
