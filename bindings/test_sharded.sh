@@ -7,7 +7,7 @@
 # one store. Thirty workers (KILLS) are killed meanwhile by signal 9, between batches and within them. So are writers, the scheduler,
 # and a worker of examples/sharded.py. Readers in other processes and in tasks read meanwhile (test_readers.py). Workers are stopped for
 # five seconds and continued, a disk is full, a folder may only be read, a byte of each file is damaged (test_faults.py). The full disk
-# needs a user who may mount one.
+# needs a user who may mount one. A scheduler and workers use TLS, and refuse others (test_tls.py), which needs openssl.
 #
 # It needs a python3 with distributed (Debian's python3-distributed): PYTHON may name one. UCSTORE_LIBRARY and UCSTORE_DB_LIBRARY may
 # name the shared objects; else tools/install puts them into a temporary folder. It takes four minutes.
@@ -47,7 +47,7 @@ fi
 export PYTHONPATH=$here/python PYTHONDONTWRITEBYTECODE=1 TMPDIR=$work
 cd "$work"
 run "$here/python/tests_sharded/test_shard.py" --quiet
-for name in cluster readers faults; do
+for name in tls cluster readers faults; do
     run "$here/python/tests_sharded/test_$name.py" --quiet 2> "$work/said" || { cat "$work/said" >&2; fail "seed $SEED"; }
 done
 printf 'a b a\nc a b\n%.0s' {1..3000} | run "$here/../examples/sharded.py" > "$work/counts" 2> "$work/said" ||

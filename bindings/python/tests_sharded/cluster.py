@@ -12,13 +12,15 @@ from pathlib import Path
 from typing import Dict, Iterator, Optional, Set
 
 from distributed import Client
+from distributed.security import Security
 
 
 class Cluster:
-    """Each process is ended by its id. `close` ends all that are left."""
+    """Each process is ended by its id. `close` ends all that are left. With `security`, all of them use TLS."""
 
-    def __init__(self, folder: Path, count: int, seed: int) -> None:
+    def __init__(self, folder: Path, count: int, seed: int, security: Optional[Security] = None) -> None:
         self.folder, self.count, self.random = folder, count, random.Random(seed)
+        self.security = security
         self.address = ""
         self.scheduler: Optional[subprocess.Popen] = None
         self.workers: Dict[str, subprocess.Popen] = {}
@@ -49,11 +51,14 @@ class Cluster:
 
     def _run(self, name: str, *options: str) -> subprocess.Popen:
         command = [sys.executable, "-m", f"distributed.cli.{name}", *options, "--dashboard-address", "127.0.0.1:0"]
+        if self.security:
+            files = self.security.get_tls_config_for_role(name.rpartition("_")[2])
+            command += ["--protocol", "tls", "--tls-ca-file", files["ca_file"], "--tls-cert", files["cert"], "--tls-key", files["key"]]
         return subprocess.Popen(command, stdin=subprocess.DEVNULL, stdout=self.log, stderr=self.log)
 
     def client(self, direct: bool = True) -> Client:
         """Returns a client, whose calls go to the workers directly or through the scheduler."""
-        return Client(self.address, direct_to_workers=direct, set_as_default=False, timeout=30)
+        return Client(self.address, direct_to_workers=direct, set_as_default=False, timeout=30, security=self.security)
 
     def known(self, client: Client) -> Set[str]:
         """Returns the names of the workers that the scheduler knows."""
