@@ -3,12 +3,13 @@
 #
 #     bindings/test_tool.sh [PART..]
 #
-# The parts are units, cases, damage, rows and modes, or all where none is named. `needs` alone says what is missing.
+# The parts are units, cases, damage, rows, crashes and modes, or all where none is named. `needs` alone says what is missing.
 # - units: the tests of its modules.
 # - cases: commands, what they read, what they print and how they end, also with damaged and foreign directories, locked ones, full
 #   devices, closed pipes and a terminal.
 # - damage: each byte of small directories is changed, and `verify` finds it and changes nothing.
 # - rows: drawn rows are dumped and loaded into another database, and logs are printed as `ucstore dump` prints them, if that is built.
+# - crashes: a backup is killed before each call by which it changes files.
 # - modes: files and directories have the modes of the umask.
 #
 # It needs cargo with Rust 1.89, python3, and the crates that tools/install names; no network. Where the crates are missing it is left
@@ -61,6 +62,8 @@ try_cases() { "$tool/cases/run"; }
 
 try_damage() { "$tool/cases/damage"; }
 
+try_crashes() { "$tool/cases/crashes"; }
+
 try_rows() { "$tool/cases/rows"; }
 
 # What others may do is what the umask leaves.
@@ -86,7 +89,7 @@ if ! "$tool/cargo" metadata --quiet --format-version 1 > /dev/null 2>&1; then
     echo "test_tool: left out: there are no crates clap and indicatif (Debian's librust-clap-dev and librust-indicatif-dev)"
     exit
 fi
-if [ $# -eq 0 ]; then set -- units cases damage rows modes; fi
+if [ $# -eq 0 ]; then set -- units cases damage rows crashes modes; fi
 build
 for part; do
     declare -F "try_$part" > /dev/null || fail "there is no part $part"
