@@ -46,6 +46,7 @@ build() {
     fi
     export UCSTORE_DB=$work/usr/bin/ucstore-db
     try_manual
+    try_completions
 }
 
 # Formats the manual, where there is groff, without a word of fault.
@@ -54,6 +55,12 @@ try_manual() {
     groff -man -ww -Tutf8 "$work/usr/share/man/man1/ucstore-db.1" > "$work/page" 2> "$work/said" || fail "the manual has faults"
     [ ! -s "$work/said" ] || fail "the manual has faults: $(head -3 "$work/said")"
     grep -q 'UCSTORE-DB VERIFY' "$work/page" || fail "the manual lacks a command"
+}
+
+# The completions are scripts of bash that name the commands.
+try_completions() {
+    local script=$work/usr/share/bash-completion/completions/ucstore-db
+    bash -n "$script" && grep -q delete-range "$script" || fail "the completions of bash are wrong"
 }
 
 try_units() { CARGO_TARGET_DIR="$work/target" "$tool/cargo" test --quiet -j 2; }
@@ -86,7 +93,7 @@ try_modes() {
 check_needs
 if [ "${*-}" = needs ]; then exit; fi
 if ! "$tool/cargo" metadata --quiet --format-version 1 > /dev/null 2>&1; then
-    echo "test_tool: left out: there are no crates clap and indicatif (Debian's librust-clap-dev and librust-indicatif-dev)"
+    echo "test_tool: left out: there are no crates clap, clap_complete and indicatif (Debian's librust-clap-complete-dev and librust-indicatif-dev)"
     exit
 fi
 if [ $# -eq 0 ]; then set -- units cases damage rows crashes modes; fi

@@ -19,6 +19,8 @@ it too.
 Status: 0 done, 1 the key has no value, 2 a refused command line or input, or a directory that can't be opened, 3 a file is damaged \
 or missing, 4 out of memory, 5 a read or write fault.
 
+`ucstore-db --completions SHELL` prints the completions of bash, zsh, fish or elvish.
+
 Example: ucstore-db visits scan --prefix user/ --limit 10";
 
 /// Look into the directory of a database, change it, and make backups of it

@@ -5,6 +5,7 @@
 
 mod args;
 mod commands;
+mod completions;
 mod failure;
 mod form;
 mod opening;
@@ -16,8 +17,11 @@ use clap::Parser;
 use std::process::ExitCode;
 
 fn main() -> ExitCode {
-    let args = Args::parse();
-    let failure = match commands::run(&args) {
+    let outcome = match completions::shell() {
+        Some(shell) => completions::print(shell),
+        None => commands::run(&Args::parse()),
+    };
+    let failure = match outcome {
         Ok(()) => return ExitCode::SUCCESS,
         Err(failure) => failure,
     };

@@ -69,7 +69,8 @@ impl Output {
     }
 }
 
-fn fault(error: io::Error) -> Failure {
+/// The failure of standard output.
+pub fn fault(error: io::Error) -> Failure {
     Failure::Stream {
         stream: "standard output",
         error,
