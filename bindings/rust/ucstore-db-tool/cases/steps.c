@@ -29,11 +29,16 @@ static void step(const char *call, const char *one, const char *other) {
     if (at && now == atoi(at)) kill(getpid(), SIGKILL);
 }
 
+/* Whether a path is one of a terminal, or of another device that keeps nothing. */
+static int is_terminal(const char *path) {
+    return !strncmp(path, "/dev/", 5) && strncmp(path, "/dev/shm/", 9);
+}
+
 /* The same for an open file; standard streams don't count. */
 static void step_at(const char *call, int file) {
     char link[64], path[4096] = "";
     snprintf(link, sizeof link, "/proc/self/fd/%d", file);
-    if (file > 2 && readlink(link, path, sizeof path - 1) > 0 && path[0] == '/' && strncmp(path, "/dev/", 5)) step(call, path, "");
+    if (file > 2 && readlink(link, path, sizeof path - 1) > 0 && path[0] == '/' && !is_terminal(path)) step(call, path, "");
 }
 
 int open64(const char *path, int flags, ...) {

@@ -44,6 +44,14 @@ impl Failure {
         }
     }
 
+    /// Returns the function that gives the errors of a database's copy the name of the directory that they are about.
+    pub fn of_copy<'a>(dir: &'a Path, copy: &'a Path) -> impl Fn(Error) -> Failure + 'a {
+        move |error| {
+            let is_of_copy = file_of(&error).is_some_and(|file| Path::new(file).starts_with(copy));
+            Failure::of(if is_of_copy { copy } else { dir })(error)
+        }
+    }
+
     /// The status that the program ends with.
     pub fn status(&self) -> u8 {
         match self {
@@ -71,9 +79,12 @@ impl fmt::Display for Failure {
         match self {
             Failure::NoValue => formatter.write_str("the key has no value"),
             Failure::Refused(why) => formatter.write_str(why),
-            Failure::Database { dir, error } => match is_named(dir, error) {
-                true => write!(formatter, "{error}"),
-                false => write!(formatter, "{dir}: {error}"),
+            Failure::Database { dir, error } => match error {
+                Error::Missing { file } if file == dir => {
+                    write!(formatter, "there is no database in {dir}")
+                }
+                error if is_named(dir, error) => write!(formatter, "{error}"),
+                error => write!(formatter, "{dir}: {error}"),
             },
             Failure::Stream { stream, error } => write!(formatter, "{stream}: {error}"),
         }

@@ -3,7 +3,6 @@
 use crate::args::Args;
 use crate::failure::{Failure, Outcome};
 use crate::progress::Bar;
-use std::path::Path;
 use std::sync::Arc;
 use ucstore_db::{operator_of, Db, DiskFolder, Error, Operator, Options};
 
@@ -43,7 +42,9 @@ pub fn to_write(args: &Args, may_make: bool, options: &Options) -> Outcome<Db> {
     };
     let operator = match is_there {
         Some(operator) => operator,
-        None => args.operator().ok_or_else(|| unnamed(dir, "isn't there"))?,
+        None => args
+            .operator()
+            .ok_or_else(|| unnamed(format!("there is no database in {}", dir.display())))?,
     };
     let bar = Bar::of_opening();
     let options = Options {
@@ -66,13 +67,10 @@ fn operator(args: &Args, folder: &DiskFolder) -> Outcome<Operator> {
         return Ok(operator);
     }
     let own = operator_of(folder).map_err(Failure::of(&args.dir))?;
-    own.ok_or_else(|| unnamed(&args.dir, "has no file OPERATOR"))
+    own.ok_or_else(|| unnamed(format!("{} has no file OPERATOR", args.dir.display())))
 }
 
 /// The failure that nothing names the merge operator of a directory.
-fn unnamed(dir: &Path, why: &str) -> Failure {
-    let dir = dir.display();
-    Failure::Refused(format!(
-        "{dir} {why}: --operator has to name the merge operator"
-    ))
+fn unnamed(why: String) -> Failure {
+    Failure::Refused(format!("{why}: --operator has to name the merge operator"))
 }

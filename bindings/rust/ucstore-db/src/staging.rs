@@ -78,7 +78,10 @@ fn above(path: &Path) -> &Path {
 /// Checks that nothing has a name.
 fn check_absent(path: &Path) -> io::Result<()> {
     match fs::symlink_metadata(path) {
-        Ok(_) => Err(io::ErrorKind::AlreadyExists.into()),
+        Ok(_) => Err(io::Error::new(
+            io::ErrorKind::AlreadyExists,
+            "the name is taken",
+        )),
         Err(error) if error.kind() == io::ErrorKind::NotFound => Ok(()),
         Err(error) => Err(error),
     }

@@ -90,6 +90,7 @@ fn a_call_that_fails_leaves_the_database_as_it_was() {
                     failing.fail_having_done(does, None, call, false);
                     let made = db.backup_on(&target);
                     let is_failed = failing.calls().1 > 0;
+                    failing.fail(None, u64::MAX, false);
                     // A log that can't be opened once more is synced by its own handle.
                     assert!(!is_failed || made.is_err() || is_source || does == Extent::Whole);
                     assert_eq!(map_of(&db), map);

@@ -23,7 +23,9 @@ pub struct Backup {
 impl Backup {
     pub fn run(&self, args: &Args) -> Outcome {
         let db = opening::to_write(args, false, &Options::default())?;
-        let last = db.backup(&self.dest).map_err(Failure::of(&args.dir))?;
+        let last = db
+            .backup(&self.dest)
+            .map_err(Failure::of_copy(&args.dir, &self.dest))?;
         opening::close(args, &db)?;
         let mut output = Output::new(args.form());
         output.line(&format!("sequence {last}"))?;

@@ -32,7 +32,9 @@ impl Repair {
             ..Options::default()
         };
         let db = opening::read_from(args, folder.clone(), &options)?;
-        let last = db.backup(&self.new).map_err(&fault)?;
+        let last = db
+            .backup(&self.new)
+            .map_err(Failure::of_copy(&args.dir, &self.new))?;
         let mut output = Output::new(args.form());
         for line in losses(&db, &folder).map_err(&fault)? {
             output.line(&line)?;

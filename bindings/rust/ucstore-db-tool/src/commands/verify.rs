@@ -71,7 +71,10 @@ fn line_of(
     let kind = match file.kind {
         FileKind::Checkpoint => "checkpoint",
         FileKind::Log => "log",
-        FileKind::Operator => return Ok(format!("operator {name}")),
+        FileKind::Operator => {
+            let state = damaged(file, damage).unwrap_or_else(|| "whole".into());
+            return Ok(format!("operator {name} {state}"));
+        }
         FileKind::Lock => return Ok(format!("lock {name}")),
         FileKind::SetAside => return Ok(format!("aside {name} bytes {bytes}")),
         FileKind::Unfinished => return Ok(format!("unfinished {name} bytes {bytes}")),
@@ -89,18 +92,23 @@ fn line_of(
     ))
 }
 
+/// The state of a file of which an opening says that it is damaged.
+fn damaged(file: &FolderFile, damage: Option<&Error>) -> Option<String> {
+    match damage {
+        Some(Error::Damaged {
+            file: name, offset, ..
+        }) if *name == file.name => Some(format!("damaged {offset}")),
+        _ => None,
+    }
+}
+
 /// The state of a file. An opening tells damage from what a crash leaves.
 fn state_of(file: &FolderFile, read: &WritesRead, damage: Option<&Error>) -> String {
     if !file.is_read {
         return "unneeded".into();
     }
-    if let Some(Error::Damaged {
-        file: name, offset, ..
-    }) = damage
-    {
-        if *name == file.name {
-            return format!("damaged {offset}");
-        }
+    if let Some(state) = damaged(file, damage) {
+        return state;
     }
     let place = match read.ended {
         Ended::Clean if read.end == read.length => return "whole".into(),
