@@ -54,7 +54,7 @@ try_manual() {
     if ! command -v groff > /dev/null; then return; fi
     groff -man -ww -Tutf8 "$work/usr/share/man/man1/ucstore-db.1" > "$work/page" 2> "$work/said" || fail "the manual has faults"
     [ ! -s "$work/said" ] || fail "the manual has faults: $(head -3 "$work/said")"
-    grep -q 'UCSTORE-DB VERIFY' "$work/page" || fail "the manual lacks a command"
+    grep -qF 'UCSTORE\-DB VERIFY' "$work/usr/share/man/man1/ucstore-db.1" || fail "the manual lacks a command"
 }
 
 # The completions are scripts of bash that name the commands.
