@@ -222,7 +222,7 @@ fn read(folder: &dyn Folder, name: &str) -> (Vec<Write>, ucstore_db::WritesRead)
 fn the_writes_of_a_long_file_are_read_window_by_window() {
     let folder = Temporary::new("long");
     let db = Db::open(folder.path(), &Options::default()).unwrap();
-    for number in 0..60u32 {
+    for number in 0..12u32 {
         // Some are larger than a window.
         let value = vec![number as u8; 1 << (number % 3 * 5 + 11)];
         db.put(format!("key {number}"), value).unwrap();
@@ -235,18 +235,18 @@ fn the_writes_of_a_long_file_are_read_window_by_window() {
     let bytes = fs::read(folder.path().join("000001.log")).unwrap();
     let (found, told) = read(&opened, "000001.log");
     let wanted: Vec<Write> = log_writes(&bytes).map(Result::unwrap).collect();
-    assert_eq!(found.len(), 240);
+    assert_eq!(found.len(), 48);
     assert!(found == wanted);
     assert_eq!(
         (told.batches, told.writes, told.first, told.last),
-        (240, 240, Some(1), 240)
+        (48, 48, Some(1), 48)
     );
     assert_eq!(
         (told.end, told.length, told.ended),
         (bytes.len() as u64, bytes.len() as u64, Ended::Clean)
     );
     // Cut anywhere, it has the first of them.
-    for length in (0..bytes.len()).step_by(bytes.len() / 37) {
+    for length in (0..bytes.len()).step_by(bytes.len() / 9) {
         let device = Device::of(&BTreeMap::from([(
             "000001.log".into(),
             bytes[..length].to_vec(),
