@@ -102,7 +102,7 @@ PLANTS = (
     "syncs go on after one that failed",
     "a base is named before it is synced",
     "a log goes before its base's name is synced",
-    "an opening removes before names are synced",
+    "an opening reads before names are synced",
     "logs go that no base has",
     "an opening appends after what is torn",
     "an opening cuts the log in its place",
@@ -113,6 +113,10 @@ PLANTS = (
     "a reader passes over what is torn",
     "appends go on after one that failed beside a sync",
     "a log that isn't sealed is taken for sealed",
+    "batches that are given up are copied",
+    "a log of which batches are given up isn't copied",
+    "batches that a base has are given up",
+    "batches that are given up stay acknowledged",
 )
 planted = ""
 
@@ -199,9 +203,11 @@ def synced(file: File, count: int) -> File:
     return replace(file, kept=file.records[:most], waiting=file.records[most:])
 
 
-def copied(file: Optional[File]) -> File:
+def copied(file: Optional[File], count: int) -> File:
+    """A new file with the first batches that are read of another one."""
     records = () if file is None else file.records
-    return File((), records[: len(first_whole(records))])
+    most = len(first_whole(records))
+    return File((), records[: most if is_planted("batches that are given up are copied") else min(count, most)])
 
 
 def cut(file: File, count: int) -> File:
@@ -217,6 +223,11 @@ def change_log(device: Device, number: int, change: Callable[[File], File]) -> D
     if old.now is None:
         return device
     return replace(device, logs={**device.logs, number: replace(old, now=change(old.now))})
+
+
+def names_synced(device: Device) -> Device:
+    logs = {number: Entry(entry.now) for number, entry in device.logs.items()}
+    return replace(device, logs=logs, bases={number: Entry(entry.now) for number, entry in device.bases.items()})
 
 
 def carried_out(world: World, action: Tuple) -> Device:
@@ -235,10 +246,9 @@ def carried_out(world: World, action: Tuple) -> Device:
     if kind == "sync log":
         return change_log(device, number, lambda file: synced(file, action[2]))
     if kind == "sync names":
-        logs = {number: Entry(entry.now) for number, entry in device.logs.items()}
-        return replace(device, logs=logs, bases={number: Entry(entry.now) for number, entry in device.bases.items()})
+        return names_synced(device)
     if kind == "copy log":
-        return replace(device, copy=copied(old_log.now))
+        return replace(device, copy=copied(old_log.now, action[2]))
     if kind == "sync copy":
         return replace(device, copy=synced(device.copy, len(device.copy.records)))
     if kind == "name copy":
@@ -320,11 +330,22 @@ AFTER = {"making": "founding", "founding": "ready", "setting aside": "copying", 
 def next_write(world: World) -> Tuple:
     phase, log = world.writer[0], world.log
     return {
-        "making": ("create log", log), "founding": ("sync names",), "naming": ("sync names",), "clearing": ("remove log", *world.writer[1:2]),
-        "setting aside": ("set aside", log), "copying": ("copy log", log), "sealing copy": ("sync copy",), "replacing": ("name copy", log),
+        "making": ("create log", log), "founding": ("sync names",), "clearing": ("remove log", *world.writer[1:2]),
+        "setting aside": ("set aside", log), "copying": ("copy log", log, world.count), "sealing copy": ("sync copy",), "replacing": ("name copy", log),
         "settling": ("sync names",), "cutting": ("cut log", log, world.count), "mending": ("cut log", log, world.count),
         "appending": ("append", log), "both": ("append", log), "closing": ("sync log", log, world.count),
     }.get(phase, ("nothing",))
+
+
+def clearing(log: int, top: int, is_sealed: bool) -> Tuple:
+    """The writer's phase where logs after the one that goes on are removed, up to a number."""
+    if top > log:
+        return ("clearing", top, is_sealed)
+    if is_planted("an opening appends after what is torn"):
+        return ("ready",)
+    if is_planted("an opening cuts the log in its place"):
+        return ("cutting",)
+    return ("settling",) if is_sealed else ("setting aside",)
 
 
 def told_write(world: World, is_done: bool) -> World:
@@ -337,22 +358,17 @@ def told_write(world: World, is_done: bool) -> World:
             goes_on = is_planted("appends go on after one that failed beside a sync")
             return replace(world, writer=("syncing" if goes_on else "spoiled", *numbers))
         return replace(world, writer=("mending" if phase == "appending" else "failed",))
-    if phase == "naming" or phase == "clearing":
-        top = numbers[0] if phase == "naming" else numbers[0] - 1
-        renewing = ("settling",) if numbers[1] else ("setting aside",)
-        if is_planted("an opening appends after what is torn"):
-            renewing = ("ready",)
-        if is_planted("an opening cuts the log in its place"):
-            renewing = ("cutting",)
-        world = replace(world, writer=("clearing", top, numbers[1]) if top > world.log else renewing)
-        return replace(world, checkpointer=removing(world.base)) if phase == "naming" else world
+    if phase == "clearing":
+        return replace(world, writer=clearing(world.log, numbers[0] - 1, numbers[1]))
     if phase == "appending":
         world = replace(world, count=world.count + 1, writer=("ready",))
         early = is_planted("a batch is acknowledged before its sync")
         return replace(world, acked=confirmed(world, world.count)) if early else world
-    if phase == "mending":
+    if phase in ("mending", "settling"):
         parts = {**world.parts, world.log: part(world, world.log)[: world.count]}
-        return replace(world, writer=("ready",), parts=parts)
+        world = replace(world, parts=parts)
+        if phase == "mending":
+            return replace(world, writer=("ready",))
     if phase == "both":
         return replace(world, count=world.count + 1, writer=("syncing", *numbers))
     if phase == "closing":
@@ -369,7 +385,7 @@ def told_write(world: World, is_done: bool) -> World:
 def writes(world: World, outcome: str) -> World:
     """The writer's next operation is carried out."""
     device = device_after(world, next_write(world), outcome)
-    skipped = {"closing": "a log isn't synced before the next one", "naming": "an opening removes before names are synced", "sealing copy": "a copy is named before it is synced",
+    skipped = {"closing": "a log isn't synced before the next one", "sealing copy": "a copy is named before it is synced",
                "settling": "names aren't synced after the copy has its name", "mending": "what a failed append left isn't cut off"}
     if world.writer[0] in skipped and is_planted(skipped[world.writer[0]]):
         device = world.device
@@ -441,13 +457,29 @@ def is_sealed(file: Optional[File]) -> bool:
     return file is not None and TORN not in file.kept and file.waiting == () and not file.suspect
 
 
-def opens(world: World, says: bool = False) -> World:
-    """The folder is opened: from then on what was read is what was submitted. It may be said that the log is sealed."""
+def opens(world: World, says: bool = False, keep: Optional[int] = None) -> World:
+    """The folder is opened: from then on what was read is what was submitted. It may be said that the log is sealed; and some batches of the
+    log may be given up, if as many are kept as given.
+
+    The names are synced before they are read. If that fails, nothing was opened.
+    """
     device, base, log = world.device, newest_base(world.device), last_log(world.device)
     parts = {number: part(world, number) if number < base else content(entry(device.logs, number).now) for number in range(max(log, world.log) + 1)}
     file, top = entry(device.bases, base).now, max([log] + [number for number, entry in device.logs.items() if entry.now is not None])
-    here = entry(device.logs, log).now
+    here, own = entry(device.logs, log).now, entry(device.bases, log).now
+    count = len(content(here))
     sealed = says and (is_sealed(here) or is_planted("a log that isn't sealed is taken for sealed"))
-    return replace(
-        world, log=log, count=len(content(here)), synced=0, base=base, tried=Place(base, 0 if file is None else file.past),
-        writer=("making",) if here is None else ("naming", top, sealed), checkpointer=("idle",), next_log="absent", parts=parts)
+    if here is not None and not is_planted("an opening reads before names are synced"):
+        device = names_synced(device)
+    after = replace(
+        world, device=device, log=log, count=count, synced=0, base=base, tried=Place(base, 0 if file is None else file.past),
+        writer=("making",), checkpointer=("idle",), next_log="absent", parts=parts)
+    if keep is not None:
+        past = 0 if own is None or is_planted("batches that a base has are given up") else own.past
+        after = replace(after, count=min(max(past, keep), count))
+        sealed = sealed and is_planted("a log of which batches are given up isn't copied")
+        if not is_planted("batches that are given up stay acknowledged"):
+            after = replace(after, acked=after.acked[: len(confirmed(after, after.count))])
+    if here is None:
+        return after
+    return replace(after, writer=clearing(log, top, sealed), checkpointer=removing(base))

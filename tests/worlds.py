@@ -22,8 +22,8 @@ sys.path.insert(0, str(Path(__file__).resolve().parent))
 
 import folder  # noqa: E402, after the path that it is found by
 from folder import (  # noqa: E402
-    DONE, DONE_UNTOLD, NOT_DONE, PART_DONE, Place, World, change_log, checkpoints, confirmed, crashed, crashed_file, is_damaged,
-    is_planted, is_readable, makes, opens, part, recovered, submitted, syncs, upto, writes,
+    DONE, DONE_UNTOLD, NOT_DONE, PART_DONE, Place, World, change_log, checkpoints, confirmed, content, crashed, crashed_file, entry,
+    is_damaged, is_planted, is_readable, last_log, makes, opens, part, recovered, submitted, syncs, upto, writes,
 )
 
 # The walks without a plant, the most with one, and the crashes that are tried after each event.
@@ -46,6 +46,7 @@ def broken(world: World, draw: random.Random) -> Optional[str]:
         if device is world.device:
             answered = confirmed(world, world.count)
             laws["answered"] = read[: len(answered)] == answered
+            laws["given up"] = world.writer != ("ready",) or read == told
         for law, holds in laws.items():
             if not holds:
                 return law
@@ -93,19 +94,26 @@ def step(world: World, draw: random.Random) -> World:
     return syncs(world, outcome) if phase in ("syncing", "spoiled") or phase == "both" and kind < 0.7 else writes(world, outcome)
 
 
+def opened(world: World, draw: random.Random) -> World:
+    """The folder is opened, and sometimes some of the last batches are given up."""
+    count = len(content(entry(world.device.logs, last_log(world.device)).now))
+    keep = draw.choice((None, None, None, 0, max(0, count - 1), draw.randint(0, count)))
+    return opens(world, draw.random() < 0.5, keep)
+
+
 def ends(world: World, draw: random.Random) -> World:
     """The process ends, and the folder is opened again."""
-    return opens(world, draw.random() < 0.5)
+    return opened(world, draw)
 
 
 def opens_after_a_crash(world: World, draw: random.Random) -> World:
-    return opens(replace(world, device=crashed(world.device, draw)), draw.random() < 0.5)
+    return opened(replace(world, device=crashed(world.device, draw)), draw)
 
 
 def opens_after_a_drop(world: World, draw: random.Random) -> World:
     """The process ends, and the system drops its pages of the log: the device is read."""
     device = change_log(world.device, world.log, lambda file: crashed_file(file, draw))
-    return opens(replace(world, device=device), draw.random() < 0.5)
+    return opened(replace(world, device=device), draw)
 
 
 def walk(draw: random.Random) -> Iterator[Tuple[World, Optional[str]]]:
