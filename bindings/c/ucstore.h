@@ -299,7 +299,7 @@ enum ucstore_folder_kind {
     UCSTORE_FOLDER_CUT_LOG = 4,      /* Truncate log N after C batches, and sync it. */
     UCSTORE_FOLDER_SYNC_NAMES = 5,   /* Sync the directory. */
     UCSTORE_FOLDER_SET_ASIDE = 6,    /* Keep the bytes after the batches of log N in a file that nothing reads. */
-    UCSTORE_FOLDER_COPY_LOG = 7,     /* Write the batches of log N that are read to a new file with a temporary name. */
+    UCSTORE_FOLDER_COPY_LOG = 7,     /* Write the first C batches of log N to a new file with a temporary name. */
     UCSTORE_FOLDER_SYNC_COPY = 8,    /* Sync that file. */
     UCSTORE_FOLDER_NAME_COPY = 9,    /* Rename it to log N. */
     UCSTORE_FOLDER_WRITE_BASE = 10,  /* Write the rows of the logs before N, and of C batches of log N, to a new file. */
@@ -641,8 +641,10 @@ int32_t ucstore_folder_find(const struct ucstore_folder_base *bases, size_t base
                             const struct ucstore_folder_listed *logs, size_t logs_length, struct ucstore_folder_found *found,
                             uint64_t *missing);
 
-/* Sets `state` to the machine of a folder in which `ucstore_folder_find` has found files, and `count` batches were read of the log that
- * goes on. `is_sealed`: all of them are durable, as the record says by which a log was closed; then the log is not copied.
+/* Sets `state` to the machine of a folder in which `ucstore_folder_find` has found files. `count` is the number of batches that are kept
+ * of the log that goes on, and no fewer than a base has of it. Those after them are given up: they are gone once the writer has nothing
+ * more to do. To give up batches of several logs, do this for each of them, the last log first. `is_sealed`: all batches of the log are
+ * kept and durable, as the record says by which a log was closed; then the log is not copied.
  *
  * The machine says which file operation comes next, so that a crash at any moment loses nothing that was acknowledged as synced. The
  * caller asks for the next operation (`next_*`), does it, and reports whether it was done (`told_*`), in any number of threads, one call

@@ -50,8 +50,8 @@ pub extern "C" fn ucstore_folder_find(
     }
 }
 
-/// Opens the machine of a directory in which opening found these files and `count` batches in the current log. The log is sealed if
-/// all that was read of it is durable. A sealed log isn't copied.
+/// Opens the machine of a directory in which opening found these files. It keeps `count` batches of the current log, and gives those
+/// after them up. The log is sealed if all of it is kept and durable. A sealed log isn't copied.
 #[unsafe(no_mangle)]
 pub extern "C" fn ucstore_folder_open(
     found: &Found,

@@ -9,9 +9,9 @@ use Rattle.uc_folder.specs.declared.phases.Writer.TheVariants.{Ready, Appending,
 use Rattle.uc_folder.specs.declared.phases.Checkpointer.{Checkpointer}
 use Rattle.uc_folder.specs.Device.{Batch, Record, Whole, Torn, first_whole, are_whole, File, Entry, Device, upto, appended, synced, changed, changed_name}
 use Rattle.uc_folder.specs.Worlds.{World, IsPrefixOf, Outcome, Done, NotDone, PartDone, DoneUntold, Writes, happens}
-use Rattle.uc_folder.proofs.Lists.{prefix_refl, prefix_trans, prefix_under, prefix_take}
+use Rattle.uc_folder.proofs.Lists.{prefix_refl, prefix_trans, prefix_under}
 use Rattle.uc_folder.proofs.Records.{first_append, first_prefix, whole_append, whole_length}
-use Rattle.uc_folder.proofs.Sound.{Sound, IsThere, IsLast, settled}
+use Rattle.uc_folder.proofs.Sound.{Sound, IsThere, IsLast, spared}
 use Rattle.uc_folder.proofs.Holding.{IsOpen, IsAppended, FitsWriter, Keeps, IsMendable}
 use Rattle.uc_folder.proofs.Changes.{entry_sound, submitted_sound}
 use Rattle.uc_folder.proofs.Writing.{world, inside, with_file, filed, last_of, here, here_before, take_more, most, synced_file, synced_is, synced_all, synced_first, synced_more, waits}
@@ -206,7 +206,7 @@ module _ (d : Device) (m : Machine) (c : Checkpointer) (parts : ℕ → List Bat
     synced_sound sure sound le =
         entry_sound d log sure parts firm sound (changed (synced n) (d.logs log)) d.names sound.named
         (subst (IsLast firm before part) (sym (ap (changed_name (synced n)) is.now)) (synced_last sound.last le))
-        (subst (AllByRecursion (IsLast firm before (settled (changed_name (synced n) (d.logs log).now)))) (sym is.named) tt)
+        (subst (AllByRecursion (IsLast firm before (spared (changed_name (synced n) (d.logs log).now) part))) (sym is.named) tt)
         (λ lt. (subst IsThere (sym (ap (changed_name (synced n)) is.now)) tt, (sound.begun lt).1))
 
     -- the first batches are firm now
@@ -218,7 +218,7 @@ module _ (d : Device) (m : Machine) (c : Checkpointer) (parts : ℕ → List Bat
           subst (λ l. IsPrefixOf l part) (sym synced_reads) le,
           prefix_under before (take n own) (first_whole g.kept) synced_enough,
         ))
-        (subst (AllByRecursion (IsLast (before ++ take n own) before (settled ((file' (synced n)).logs log).now))) (sym (here_before d m c parts batch acked (synced n) ∙ is.named)) tt)
+        (subst (AllByRecursion (IsLast (before ++ take n own) before (spared ((file' (synced n)).logs log).now part))) (sym (here_before d m c parts batch acked (synced n) ∙ is.named)) tt)
 
     pub synced_grows : m.synced ≤ n → IsPrefixOf firm (before ++ take n own)
     synced_grows from = prefix_trans firm (before ++ take m.synced own) (before ++ take n own) is.told (prefix_under before (take m.synced own) (take n own) (take_more m.synced n own from))

@@ -1,13 +1,12 @@
 -- Each operation leaves a folder that a crash may take.
-use Rattle.std.proofs.Common.{◌≡◌, ℕ, suc, ◌<◌, ◌≤◌, ◌⊎◌, inl, inr, ⊎_elim, List, [], ◌++◌, take, refl, sym, ◌∙◌, subst, arith}
+use Rattle.std.proofs.Common.{◌≡◌, ℕ, suc, ◌<◌, ◌≤◌, ◌⊎◌, inl, inr, ⊎_elim, List, [], ◌++◌, refl, sym, ◌∙◌, subst, arith}
 use Rattle.std.specs.Prelude.{Option, Some, None}
 use Rattle.std.specs.List.{AllByRecursion}
 use Rattle.std.proofs.lemmas.Bool.{cases_eq, cases_lt}
-use Rattle.uc_folder.specs.Device.{Batch, first_whole, left_of, File, Entry, Device, Keep, first_number, upto, at, changed, changed_name, change_log, crashed_file, stands_for, name_log, name_base, sync_names}
+use Rattle.uc_folder.specs.Device.{Batch, first_whole, File, Entry, Device, Keep, first_number, upto, at, changed, changed_name, change_log, crashed_file, stands_for, name_log, name_base, sync_names}
 use Rattle.uc_folder.specs.Worlds.{IsPrefixOf}
 use Rattle.uc_folder.proofs.Lists.{prefix_refl, prefix_trans, prefix_onto, upto_same, at_all, at_here, at_other, all_weaker, prefix_cancel}
-use Rattle.uc_folder.proofs.Records.{first_prefix}
-use Rattle.uc_folder.proofs.Sound.{IsWhole, IsBaseFile, IsBase, IsThere, IsGone, IsLog, IsUnused, IsLast, settled, Each, Sound, last_weaker, last_crashed}
+use Rattle.uc_folder.proofs.Sound.{IsWhole, IsBaseFile, IsBase, IsThere, IsGone, IsLog, IsUnused, IsLast, spared, Each, Sound, last_crashed}
 use Rattle.uc_folder.proofs.Opening.{sound_firm}
 
 -- a base stays one, where more is firm, and where a log has more
@@ -37,7 +36,7 @@ parts_grow p q log same more k le =
 module _ (d : Device) (log sure : ℕ) (parts : ℕ → List Batch) (firm : List Batch) (sound : Sound d log sure parts firm) where
   -- ---- the log that is written
 
-  pub entry_sound : (e : Entry) (top : ℕ) → log ≤ top → IsLast firm (upto parts log) (parts log) e.now → AllByRecursion (IsLast firm (upto parts log) (settled e.now)) e.before → (first_number < log → Each IsThere e) →
+  pub entry_sound : (e : Entry) (top : ℕ) → log ≤ top → IsLast firm (upto parts log) (parts log) e.now → AllByRecursion (IsLast firm (upto parts log) (spared e.now (parts log))) e.before → (first_number < log → Each IsThere e) →
       Sound (record { logs = at log e d.logs; bases = d.bases; copy = d.copy; partial = d.partial; names = top }) log sure parts firm
   entry_sound e top le last spare begun = record {
     bases = sound.bases;
@@ -47,7 +46,7 @@ module _ (d : Device) (log sure : ℕ) (parts : ℕ → List Batch) (firm : List
     reached = sound.reached;
     older = λ k l lt. subst (λ (x : Entry). IsLog (parts k) x.now × (x.before ≡ [])) (sym (at_other log e d.logs k (omega (arith, lt)))) (sound.older k l lt);
     last = subst (λ (x : Entry). IsLast firm (upto parts log) (parts log) x.now) (sym (at_here log e d.logs)) last;
-    spare = subst (λ (x : Entry). AllByRecursion (IsLast firm (upto parts log) (settled x.now)) x.before) (sym (at_here log e d.logs)) spare;
+    spare = subst (λ (x : Entry). AllByRecursion (IsLast firm (upto parts log) (spared x.now (parts log))) x.before) (sym (at_here log e d.logs)) spare;
     begun = λ lt. subst (Each IsThere) (sym (at_here log e d.logs)) (begun lt);
     later = λ k lt. subst (Each IsUnused) (sym (at_other log e d.logs k (omega (arith, lt)))) (sound.later k lt);
     named = le;
@@ -59,17 +58,16 @@ module _ (d : Device) (log sure : ℕ) (parts : ℕ → List Batch) (firm : List
   pub reread_sound : (keep : Keep) → Sound (change_log log (crashed_file keep) d) log sure parts firm
   reread_sound keep =
       entry_sound (changed (crashed_file keep) (d.logs log)) d.names sound.named (now keep (d.logs log).now sound.last)
-      (all_weaker (IsLast firm (upto parts log) (settled (d.logs log).now)) (IsLast firm (upto parts log) (settled (changed_name (crashed_file keep) (d.logs log).now)))
-      (last_weaker firm (upto parts log) (settled (d.logs log).now) (settled (changed_name (crashed_file keep) (d.logs log).now)) (more keep (d.logs log).now)) (d.logs log).before sound.spare)
+      (subst (λ own. AllByRecursion (IsLast firm (upto parts log) own) (d.logs log).before) (same keep (d.logs log).now) sound.spare)
       (λ lt. (there keep (d.logs log).now (sound.begun lt).0, (sound.begun lt).1))
     where
       now : (keep : Keep) (o : Option File) → IsLast firm (upto parts log) (parts log) o → IsLast firm (upto parts log) (parts log) (changed_name (crashed_file keep) o)
       now keep None is = is
       now keep (Some f) is = last_crashed firm (upto parts log) (parts log) keep (Some f) is
 
-      more : (keep : Keep) (o : Option File) → IsPrefixOf (settled o) (settled (changed_name (crashed_file keep) o))
-      more keep None = ([], refl)
-      more keep (Some f) = first_prefix f.kept (left_of keep.whole (take keep.count f.waiting))
+      same : (keep : Keep) (o : Option File) → spared o (parts log) ≡ spared (changed_name (crashed_file keep) o) (parts log)
+      same keep None = refl
+      same keep (Some f) = refl
 
       there : (keep : Keep) (o : Option File) → IsThere o → IsThere (changed_name (crashed_file keep) o)
       there keep None is = is
@@ -77,7 +75,7 @@ module _ (d : Device) (log sure : ℕ) (parts : ℕ → List Batch) (firm : List
 
   -- more is submitted, or acknowledged
   pub submitted_sound : (q : ℕ → List Batch) (more : List Batch) → ((k : ℕ) → k < log → q k ≡ parts k) → IsPrefixOf (parts log) (q log) → IsPrefixOf firm more → IsLast more (upto parts log) (q log) (d.logs log).now →
-      AllByRecursion (IsLast more (upto parts log) (settled (d.logs log).now)) (d.logs log).before → Sound d log sure q more
+      AllByRecursion (IsLast more (upto parts log) (spared (d.logs log).now (q log))) (d.logs log).before → Sound d log sure q more
   submitted_sound q more same part grows last spare =
       let before : (k : ℕ) → k ≤ log → upto parts k ≡ upto q k = λ k le. sym (upto_same q parts k (λ i lt. same i (omega (arith, lt, le)))) in
       record {
@@ -88,7 +86,7 @@ module _ (d : Device) (log sure : ℕ) (parts : ℕ → List Batch) (firm : List
         reached = sound.reached;
         older = λ k l lt. subst (λ part. IsLog part (d.logs k).now × ((d.logs k).before ≡ [])) (sym (same k lt)) (sound.older k l lt);
         last = subst (λ b. IsLast more b (q log) (d.logs log).now) (before log (omega arith)) last;
-        spare = subst (λ b. AllByRecursion (IsLast more b (settled (d.logs log).now)) (d.logs log).before) (before log (omega arith)) spare;
+        spare = subst (λ b. AllByRecursion (IsLast more b (spared (d.logs log).now (q log))) (d.logs log).before) (before log (omega arith)) spare;
         begun = sound.begun;
         later = sound.later;
         named = sound.named;
@@ -96,9 +94,31 @@ module _ (d : Device) (log sure : ℕ) (parts : ℕ → List Batch) (firm : List
         none = same 0 (let a = sound.first in let b = sound.reached in omega (arith, a, b)) ∙ sound.none;
       }
 
+  -- less is said to be firm
+  pub lowered_sound : (less : List Batch) → IsPrefixOf less firm → IsPrefixOf (upto parts log) less → ((k : ℕ) → Each (IsBase less parts log k) (d.bases k)) → Sound d log sure parts less
+  lowered_sound less le stands bases = record {
+    bases = bases;
+    newer = sound.newer;
+    there = sound.there;
+    first = sound.first;
+    reached = sound.reached;
+    older = sound.older;
+    last = lower (parts log) (d.logs log).now sound.last;
+    spare = all_weaker (IsLast firm (upto parts log) (spared (d.logs log).now (parts log))) (IsLast less (upto parts log) (spared (d.logs log).now (parts log))) (lower (spared (d.logs log).now (parts log))) (d.logs log).before sound.spare;
+    begun = sound.begun;
+    later = sound.later;
+    named = sound.named;
+    stands = stands;
+    none = sound.none;
+  }
+    where
+      lower : (own : List Batch) (o : Option File) → IsLast firm (upto parts log) own o → IsLast less (upto parts log) own o
+      lower own None is = prefix_trans less firm (upto parts log) le is
+      lower own (Some f) is = (is.0, prefix_trans less firm (upto parts log ++ first_whole f.kept) le is.1)
+
   -- the last batch of the log is taken back, which isn't firm
   pub shrunk_sound : (q : ℕ → List Batch) → ((k : ℕ) → k < log → q k ≡ parts k) → IsPrefixOf firm (upto parts log ++ q log) → IsLast firm (upto parts log) (q log) (d.logs log).now →
-      AllByRecursion (IsLast firm (upto parts log) (settled (d.logs log).now)) (d.logs log).before → Sound d log sure q firm
+      AllByRecursion (IsLast firm (upto parts log) (spared (d.logs log).now (q log))) (d.logs log).before → Sound d log sure q firm
   shrunk_sound q same all last spare = record {
     bases = λ k. (base k (d.bases k).now (sound.bases k).0, all_weaker (IsBase firm parts log k) (IsBase firm q log k) (base k) (d.bases k).before (sound.bases k).1);
     newer = sound.newer;
@@ -107,7 +127,7 @@ module _ (d : Device) (log sure : ℕ) (parts : ℕ → List Batch) (firm : List
     reached = sound.reached;
     older = λ k l lt. subst (λ part. IsLog part (d.logs k).now × ((d.logs k).before ≡ [])) (sym (same k lt)) (sound.older k l lt);
     last = subst (λ b. IsLast firm b (q log) (d.logs log).now) (before log (omega arith)) last;
-    spare = subst (λ b. AllByRecursion (IsLast firm b (settled (d.logs log).now)) (d.logs log).before) (before log (omega arith)) spare;
+    spare = subst (λ b. AllByRecursion (IsLast firm b (spared (d.logs log).now (q log))) (d.logs log).before) (before log (omega arith)) spare;
     begun = sound.begun;
     later = sound.later;
     named = sound.named;
@@ -152,7 +172,7 @@ module _ (d : Device) (log sure : ℕ) (parts : ℕ → List Batch) (firm : List
     reached = sound.reached;
     older = λ k l lt'. subst (λ (x : Entry). IsLog (parts k) x.now × (x.before ≡ [])) (sym (other k (omega (arith, lt, lt')))) (sound.older k l lt');
     last = subst (λ (x : Entry). IsLast firm (upto parts log) (parts log) x.now) (sym (other log (omega (arith, lt)))) sound.last;
-    spare = subst (λ (x : Entry). AllByRecursion (IsLast firm (upto parts log) (settled x.now)) x.before) (sym (other log (omega (arith, lt)))) sound.spare;
+    spare = subst (λ (x : Entry). AllByRecursion (IsLast firm (upto parts log) (spared x.now (parts log))) x.before) (sym (other log (omega (arith, lt)))) sound.spare;
     begun = λ z. subst (Each IsThere) (sym (other log (omega (arith, lt)))) (sound.begun z);
     later = λ k lt'. at_all (λ i (x : Entry). Each IsUnused x) n (stands_for o (d.logs n)) d.logs k
         (λ e. (unused, ((sound.later n lt).0, (sound.later n lt).1)))
@@ -181,7 +201,7 @@ module _ (d : Device) (log sure : ℕ) (parts : ℕ → List Batch) (firm : List
         subst (λ part. IsLog part (d.logs k).now × ((d.logs k).before ≡ [])) (sym (at_other n [] parts k (omega (arith, lt))))
         (⊎_elim (λ (s : k ≡ log). subst (λ i. IsLog (parts i) (d.logs i).now × ((d.logs i).before ≡ [])) (sym s) (whole, named)) (λ (ne : k ≡ log → ⊥). sound.older k l (omega (arith, ne, lt, e))) (cases_eq k log));
     last = unused_last (upto parts log ++ parts log) (upto (at n [] parts) n) (at n [] parts n) has (d.logs n).now (sound.later n above).0;
-    spare = all_weaker IsUnused (IsLast (upto parts log ++ parts log) (upto (at n [] parts) n) (settled (d.logs n).now)) (unused_last (upto parts log ++ parts log) (upto (at n [] parts) n) (settled (d.logs n).now) has) (d.logs n).before (sound.later n above).1;
+    spare = all_weaker IsUnused (IsLast (upto parts log ++ parts log) (upto (at n [] parts) n) (spared (d.logs n).now (at n [] parts n))) (unused_last (upto parts log ++ parts log) (upto (at n [] parts) n) (spared (d.logs n).now (at n [] parts n)) has) (d.logs n).before (sound.later n above).1;
     begun = λ z. there;
     later = λ k lt. sound.later k (omega (arith, lt, e));
     named = top;
@@ -288,7 +308,7 @@ module _ (d : Device) (log sure : ℕ) (parts : ℕ → List Batch) (firm : List
     reached = sound.reached;
     older = λ k le lt'. subst (λ (x : Entry). IsLog (parts k) x.now × (x.before ≡ [])) (sym (at_other n (stands_for None (d.logs n)) d.logs k (omega (arith, lt, le)))) (sound.older k le lt');
     last = subst (λ (x : Entry). IsLast firm (upto parts log) (parts log) x.now) (sym (at_other n (stands_for None (d.logs n)) d.logs log (let r = sound.reached in omega (arith, r, lt)))) sound.last;
-    spare = subst (λ (x : Entry). AllByRecursion (IsLast firm (upto parts log) (settled x.now)) x.before) (sym (at_other n (stands_for None (d.logs n)) d.logs log (let r = sound.reached in omega (arith, r, lt)))) sound.spare;
+    spare = subst (λ (x : Entry). AllByRecursion (IsLast firm (upto parts log) (spared x.now (parts log))) x.before) (sym (at_other n (stands_for None (d.logs n)) d.logs log (let r = sound.reached in omega (arith, r, lt)))) sound.spare;
     begun = λ z. subst (Each IsThere) (sym (at_other n (stands_for None (d.logs n)) d.logs log (let r = sound.reached in omega (arith, r, lt)))) (sound.begun z);
     later = λ k lt'. subst (Each IsUnused) (sym (at_other n (stands_for None (d.logs n)) d.logs k (let r = sound.reached in omega (arith, r, lt, lt')))) (sound.later k lt');
     named = let le = sound.named in omega (arith, le);

@@ -28,8 +28,8 @@ open_stays count synced firm before part a b same named is =
 new_stays : (a b : Entry) → b.now ≡ a.now → IsNew a.now → IsNew b.now
 new_stays a b same is = record { file = is.file; now = same ∙ is.now; kept = is.kept; waiting = is.waiting; fresh = is.fresh }
 
-opening_stays : (count : ℕ) (part : List Batch) (a b : Entry) → b.now ≡ a.now → (a.before ≡ [] → b.before ≡ []) → IsOpening count part a → IsOpening count part b
-opening_stays count part a b same named is = (subst (IsRead part) (sym same) is.0, named is.1, is.2)
+opening_stays : (count : ℕ) (firm before part : List Batch) (a b : Entry) → b.now ≡ a.now → (a.before ≡ [] → b.before ≡ []) → IsOpening count firm before part a → IsOpening count firm before part b
+opening_stays count firm before part a b same named is = record { read = subst (IsRead part) (sym same) is.read; named = named is.named; few = is.few; firmly = is.firmly }
 
 -- nothing changes for it: names that are there stay
 pub record Spares (d e : Device) (log base new : ℕ) : Type 0 where
@@ -46,8 +46,8 @@ module _ (d e : Device) (log count synced base new : ℕ) (firm before part : Li
   opened : IsOpen count synced firm before part (d.logs log) → IsOpen count synced firm before part (e.logs log)
   opened = open_stays count synced firm before part (d.logs log) (e.logs log) here s.named
 
-  opening : IsOpening count part (d.logs log) → IsOpening count part (e.logs log)
-  opening = opening_stays count part (d.logs log) (e.logs log) here s.named
+  opening : IsOpening count firm before part (d.logs log) → IsOpening count firm before part (e.logs log)
+  opening = opening_stays count firm before part (d.logs log) (e.logs log) here s.named
 
   appended : IsAppended count synced firm before part batch (d.logs log) → IsAppended count synced firm before part batch (e.logs log)
   appended is = (is.0, is.1, open_stays count synced firm before is.0 (d.logs log) (e.logs log) here s.named is.2)
@@ -75,13 +75,13 @@ module _ (d e : Device) (log count synced base new : ℕ) (firm before part : Li
   pub writer_stays : (w : Writer) → FitsWriter d log count synced base firm before part batch w → FitsWriter e log count synced new firm before part batch w
   writer_stays Making fits = (here ∙ fits.0, fits.1, fits.2, fits.3, s.stands fits.4, s.below fits.5)
   writer_stays Founding fits = (new_stays (d.logs log) (e.logs log) here fits.0, fits.1, fits.2, fits.3)
-  writer_stays (Naming top sealed) fits = (subst (IsRead part) (sym here) fits.0, fits.1, s.stands fits.2, s.below fits.3, subst (IfSealed sealed part) (sym here) fits.4)
-  writer_stays (Clearing k top sealed) fits = (opening fits.0, fits.1, subst (IfSealed sealed part) (sym here) fits.2)
+  writer_stays (Naming top sealed) fits = absurd fits
+  writer_stays (Clearing k top sealed) fits = (opening fits.0, fits.1, subst (IfSealed sealed count part) (sym here) fits.2)
   writer_stays SettingAside fits = opening fits
   writer_stays Copying fits = opening fits
-  writer_stays SealingCopy fits = (opening fits.0, subst (IsCopy part) (sym s.copy) fits.1)
-  writer_stays Replacing fits = (opening fits.0, subst (IsWhole part) (sym s.copy) fits.1, ap (λ (f : File). f.suspect) s.copy ∙ fits.2)
-  writer_stays Settling fits = (fits.0, here ∙ fits.1, fits.2, fits.3, fits.4)
+  writer_stays SealingCopy fits = (opening fits.0, subst (IsCopy (take count part)) (sym s.copy) fits.1)
+  writer_stays Replacing fits = (opening fits.0, subst (IsWhole (take count part)) (sym s.copy) fits.1, ap (λ (f : File). f.suspect) s.copy ∙ fits.2)
+  writer_stays Settling fits = record { file = fits.file; now = here ∙ fits.now; is = fits.is; fresh = fits.fresh; few = fits.few; firmly = fits.firmly }
   writer_stays Ready fits = opened fits
   writer_stays Appending fits = appended fits
   writer_stays Mending fits = spoiled fits

@@ -1,7 +1,7 @@
 -- Every list of events keeps what holds; and what openings find after it.
-use Rattle.std.proofs.Common.{◌≡◌, ℕ, ◌≤◌, Bool, false, inl, List, [], ◌∷◌, ◌++◌, length, take, refl, sym, ap, ◌∙◌, subst, arith}
-use Rattle.std.specs.Prelude.{Some}
-use Rattle.std.specs.Prelude.{Some, Result, Ok}
+use Rattle.std.proofs.Common.{◌≡◌, ℕ, ◌≤◌, Bool, true, false, ◌&&◌, inl, List, [], ◌∷◌, ◌++◌, length, take, refl, sym, ap, ◌∙◌, subst, arith}
+use Rattle.std.specs.Prelude.{Option, Some, None, Result, Ok}
+use Rattle.std.proofs.lemmas.Bool.{and_parts}
 use Rattle.std.proofs.lemmas.List.{take-append-le}
 use Rattle.uc_folder.specs.declared.machine.Machine.{Machine}
 use Rattle.uc_folder.specs.declared.phases.Writer.{Writer}
@@ -10,7 +10,7 @@ use Rattle.uc_folder.specs.declared.phases.NextLog.{NextLog}
 use Rattle.uc_folder.specs.declared.phases.NextLog.TheVariants.{Absent}
 use Rattle.uc_folder.specs.declared.phases.Checkpointer.{Checkpointer}
 use Rattle.uc_folder.specs.declared.phases.Checkpointer.TheVariants.{Idle}
-use Rattle.uc_folder.specs.Device.{Batch, first_whole, content, File, Device, Keep, first_number, upto, crashed, recovered}
+use Rattle.uc_folder.specs.Device.{Batch, first_whole, content, File, Device, Keep, first_number, upto, last_log, crashed, recovered}
 use Rattle.uc_folder.specs.Steps.{next_write, next_make, next_sync, next_checkpoint, asking_next}
 use Rattle.uc_folder.specs.declared.listing.Base.{Base}
 use Rattle.uc_folder.specs.declared.listing.Listed.{Listed}
@@ -18,15 +18,16 @@ use Rattle.uc_folder.specs.declared.listing.Found.{Found}
 use Rattle.uc_folder.specs.declared.listing.Missing.{Missing}
 use Rattle.uc_folder.specs.Listing.{IsListing, IsFoundIn}
 use Rattle.uc_folder.proofs.Names.{finds}
-use Rattle.uc_folder.specs.Worlds.{found, World, IsPrefixOf, IsReadable, Outcome, Done, NotDone, PartDone, DoneUntold, Event, Submit, AskSync, AskNext, AskSwitch, AskCheckpoint, Writes, Makes, Syncs, Checkpoints, Crash, Restart, Reread, reread, first_of, answered, acked_after, acked_then, happens, opens, start, run, submitted}
+use Rattle.uc_folder.specs.Worlds.{found, World, IsPrefixOf, IsReadable, Outcome, Done, NotDone, PartDone, DoneUntold, Event, Submit, AskSync, AskNext, AskSwitch, AskCheckpoint, Writes, Makes, Syncs, Checkpoints, Crash, Restart, Reread, reread, first_of, answered, acked_after, acked_then, is_settled, keeps_all, acked_of, names_read, parts_read, count_read, opens, happens, start, run, submitted, keeps_batches, all_keep}
 use Rattle.uc_folder.proofs.Lists.{prefix_refl, prefix_trans, prefix_under}
 use Rattle.uc_folder.proofs.Sound.{Sound, crash_sound}
-use Rattle.uc_folder.proofs.Opening.{j, read, sound_firm, opened_keeps, opened_sound, opened_reads, opened_prefix, opened_answered, opened_readable}
+use Rattle.uc_folder.proofs.Opening.{sound_firm, opened_firm, opened_reads, opened_prefix, opened_answered, opened_readable}
+use Rattle.uc_folder.proofs.Reopening.{begun_log, opened_keeps}
 use Rattle.uc_folder.proofs.Holding.{IsOpen, IsMendable, FitsWriter, Keeps}
 use Rattle.uc_folder.proofs.Changes.{reread_sound}
 use Rattle.uc_folder.proofs.Writing.{world, with_next, answered_in, take_counted, take_more}
 use Rattle.uc_folder.proofs.Adding.{marked_count}
-use Rattle.uc_folder.proofs.Marks.{IsFine, AreMarked, marked_whole, marks_after, marks_crashed, marks_reread, same_file}
+use Rattle.uc_folder.proofs.Marks.{IsFine, AreMarked, marked_whole, marks_after, marks_synced, marks_crashed, marks_reread, same_file}
 use Rattle.uc_folder.proofs.Next.{HasNext, makes_keep, next_happens}
 use Rattle.uc_folder.proofs.Switching.{syncs_keep}
 use Rattle.uc_folder.proofs.Checkpointing.{checkpoints_keep}
@@ -47,9 +48,10 @@ happens_keeps w (Writes o) fits keeps = writes_keep w.device w.machine w.parts w
 happens_keeps w (Makes o) fits keeps = makes_keep w.device w.machine w.machine.writer w.machine.checkpointer w.parts w.batch w.acked w.machine.next o keeps
 happens_keeps w (Syncs o) fits keeps = syncs_keep w.device w.machine w.machine.checkpointer w.parts w.batch w.acked w.machine.writer o keeps
 happens_keeps w (Checkpoints o) fits keeps = checkpoints_keep w.device w.machine w.machine.writer w.parts w.batch w.acked w.machine.checkpointer o keeps
-happens_keeps w (Crash logs bases least top sealed) fits keeps = opened_keeps (crashed logs bases w.device) w.machine.log keeps.sure w.parts keeps.firm (crashed_sound w keeps logs bases) w.machine w.batch w.acked least top sealed keeps.acked_is
-happens_keeps w (Restart least top sealed) fits keeps = opened_keeps w.device w.machine.log keeps.sure w.parts keeps.firm keeps.sound w.machine w.batch w.acked least top sealed keeps.acked_is
-happens_keeps w (Reread keep least top sealed) fits keeps = opened_keeps (reread keep w) w.machine.log keeps.sure w.parts keeps.firm (reread_sound w.device w.machine.log keeps.sure w.parts keeps.firm keeps.sound keep) w.machine w.batch w.acked least top sealed keeps.acked_is
+happens_keeps w (Crash logs bases least top sealed keep) fits keeps = opened_keeps (crashed logs bases w.device) w.machine.log keeps.sure w.parts keeps.firm (crashed_sound w keeps logs bases) keep w.machine w.batch w.acked least top sealed keeps.acked_is
+happens_keeps w (Restart least top sealed keep) fits keeps = opened_keeps w.device w.machine.log keeps.sure w.parts keeps.firm keeps.sound keep w.machine w.batch w.acked least top sealed keeps.acked_is
+happens_keeps w (Reread left least top sealed keep) fits keeps =
+    opened_keeps (reread left w) w.machine.log keeps.sure w.parts keeps.firm (reread_sound w.device w.machine.log keeps.sure w.parts keeps.firm keeps.sound left) keep w.machine w.batch w.acked least top sealed keeps.acked_is
 
 pub run_keeps : (es : List Event) (w : World) → HasNext w → Keeps w → Keeps (run es w) × HasNext (run es w)
 run_keeps [] w fits keeps = (keeps, fits)
@@ -108,7 +110,7 @@ module _ (d : Device) (m : Machine) (c : Checkpointer) (parts : ℕ → List Bat
   inside w = world d m w c parts batch acked
 
   acked_written : (w : Writer) (o : Outcome) → Keeps (inside w) → IsPrefixOf acked (happens (inside w) (Writes o)).acked
-  acked_written Settling Done keeps = all_counted keeps.firm (upto parts m.log) (parts m.log) acked m.count keeps.writer.4 (sound_firm d m.log keeps.sure parts keeps.firm keeps.sound) keeps.acked_is
+  acked_written Settling Done keeps = prefix_trans acked keeps.firm (first_of parts m.log m.count) keeps.acked_is keeps.writer.firmly
   acked_written Closing Done keeps = all_counted keeps.firm (upto parts m.log) (parts m.log) acked m.count keeps.writer.counted (sound_firm d m.log keeps.sure parts keeps.firm keeps.sound) keeps.acked_is
   acked_written w Done keeps = prefix_refl acked
   acked_written w NotDone keeps = none_written w (first_of parts m.log m.count) acked
@@ -142,15 +144,27 @@ module _ (d : Device) (m : Machine) (c : Checkpointer) (parts : ℕ → List Bat
   acked_synced w PartDone keeps = none_synced w parts m.log acked
   acked_synced w DoneUntold keeps = none_synced w parts m.log acked
 
-pub happens_acked : (w : World) (e : Event) → Keeps w → IsPrefixOf w.acked (happens w e).acked
-happens_acked w (Writes o) keeps = acked_written w.device w.machine w.machine.checkpointer w.parts w.batch w.acked w.machine.writer o keeps
-happens_acked w (Syncs o) keeps = acked_synced w.device w.machine w.machine.checkpointer w.parts w.batch w.acked w.machine.writer o keeps
-happens_acked w e keeps = prefix_refl w.acked
+-- what is acknowledged stays so, unless batches are given up
+kept_acked : (keep : Option ℕ) (kept acked : List Batch) → keeps_all keep ≡ true → IsPrefixOf acked (acked_of keep kept acked)
+kept_acked None kept acked e = prefix_refl acked
+kept_acked (Some k) kept acked e = absurd (cc)
 
-pub run_acked : (es : List Event) (w : World) → HasNext w → Keeps w → IsPrefixOf w.acked (run es w).acked
-run_acked [] w fits keeps = prefix_refl w.acked
-run_acked (e ∷ es) w fits keeps =
-    prefix_trans w.acked (happens w e).acked (run es (happens w e)).acked (happens_acked w e keeps) (run_acked es (happens w e) (next_happens w e keeps fits) (happens_keeps w e fits keeps))
+opens_acked : (least top : ℕ) (sealed : Bool) (keep : Option ℕ) (w : World) → keeps_all keep ≡ true → IsPrefixOf w.acked (opens least top sealed keep w).acked
+opens_acked least top sealed keep w all = kept_acked keep (first_of (parts_read w.device w.parts) (last_log w.device) (count_read w.device keep)) w.acked all
+
+pub happens_acked : (w : World) (e : Event) → keeps_batches e ≡ true → Keeps w → IsPrefixOf w.acked (happens w e).acked
+happens_acked w (Writes o) all is = acked_written w.device w.machine w.machine.checkpointer w.parts w.batch w.acked w.machine.writer o is
+happens_acked w (Syncs o) all is = acked_synced w.device w.machine w.machine.checkpointer w.parts w.batch w.acked w.machine.writer o is
+happens_acked w (Crash logs bases least top sealed keep) all is = opens_acked least top sealed keep (record w { device = crashed logs bases w.device }) all
+happens_acked w (Restart least top sealed keep) all is = opens_acked least top sealed keep w all
+happens_acked w (Reread left least top sealed keep) all is = opens_acked least top sealed keep (record w { device = reread left w }) all
+happens_acked w e all is = prefix_refl w.acked
+
+pub run_acked : (es : List Event) (w : World) → all_keep es ≡ true → HasNext w → Keeps w → IsPrefixOf w.acked (run es w).acked
+run_acked [] w all fits is = prefix_refl w.acked
+run_acked (e ∷ es) w all fits is =
+    let both = and_parts (keeps_batches e) (all_keep es) all in
+    prefix_trans w.acked (happens w e).acked (run es (happens w e)).acked (happens_acked w e both.0 is) (run_acked es (happens w e) both.1 (next_happens w e is fits) (happens_keeps w e fits is))
 
 pub run_more : (es fs : List Event) (w : World) → run (es ++ fs) w ≡ run fs (run es w)
 run_more [] fs w = refl
@@ -182,6 +196,13 @@ fine_checkpoint : (d : Device) (c : Checkpointer) → IsFine d (next_checkpoint 
 fine_checkpoint d Idle = tt
 fine_checkpoint d c = tt
 
+names_marked : (o : Option File) (d : Device) → AreMarked d → AreMarked (names_read o d)
+names_marked None d are = are
+names_marked (Some f) d are = marks_synced d are
+
+read_marked : (d : Device) → AreMarked d → AreMarked (names_read (d.logs (last_log d)).now d)
+read_marked d are = names_marked (d.logs (last_log d)).now d are
+
 pub happens_marked : (w : World) (e : Event) → Keeps w → AreMarked w.device → AreMarked (happens w e).device
 happens_marked w (Writes o) keeps are =
     marks_after o w.batch w.parts w.device (next_write w.machine.writer w.machine.log w.machine.count w.machine.synced)
@@ -189,8 +210,9 @@ happens_marked w (Writes o) keeps are =
 happens_marked w (Makes o) keeps are = marks_after o w.batch w.parts w.device (next_make w.machine.next w.machine.log) (fine_make w.device w.machine.next w.machine.log) are
 happens_marked w (Syncs o) keeps are = marks_after o w.batch w.parts w.device (next_sync w.machine.writer w.machine.log) (fine_sync w.device w.machine.writer w.machine.log) are
 happens_marked w (Checkpoints o) keeps are = marks_after o w.batch w.parts w.device (next_checkpoint w.machine.checkpointer) (fine_checkpoint w.device w.machine.checkpointer) are
-happens_marked w (Crash logs bases least top sealed) keeps are = marks_crashed w.device logs bases are
-happens_marked w (Reread keep least top sealed) keeps are = marks_reread w.machine.log keep w.device are
+happens_marked w (Crash logs bases least top sealed keep) keeps are = read_marked (crashed logs bases w.device) (marks_crashed w.device logs bases are)
+happens_marked w (Restart least top sealed keep) keeps are = read_marked w.device are
+happens_marked w (Reread left least top sealed keep) keeps are = read_marked (reread left w) (marks_reread w.machine.log left w.device are)
 happens_marked w e keeps are = are
 
 pub run_marked : (es : List Event) (w : World) → HasNext w → Keeps w → AreMarked w.device → AreMarked (run es w).device
@@ -198,19 +220,21 @@ run_marked [] w fits keeps are = are
 run_marked (e ∷ es) w fits keeps are = run_marked es (happens w e) (next_happens w e keeps fits) (happens_keeps w e fits keeps) (happens_marked w e keeps are)
 
 pub always_marked : (es : List Event) → AreMarked (run es start).device
-always_marked es = run_marked es start start_next start_keeps (record { logs = λ k. (tt, tt); copy = refl })
+always_marked es = run_marked es start start_next start_keeps (record { logs = λ k. (tt, tt); copy = refl; placed = λ k. (tt, tt); copy_placed = tt })
 
 -- ---- openings
 
 module _ (d : Device) (log sure : ℕ) (parts : ℕ → List Batch) (firm : List Batch) (sound : Sound d log sure parts firm) where
-  pub finds_reads : (m : Machine) (batch : Batch) (acked : List Batch) (least top : ℕ) (sealed : Bool) → submitted (opens least top sealed (record { device = d; machine = m; parts = parts; batch = batch; acked = acked })) ≡ recovered d
-  finds_reads m batch acked least top sealed = opened_reads d log sure parts firm sound
+  pub finds_reads : (m : Machine) (batch : Batch) (acked : List Batch) (least top : ℕ) (sealed : Bool) (keep : Option ℕ) → submitted (opens least top sealed keep (record { device = d; machine = m; parts = parts; batch = batch; acked = acked })) ≡ recovered d
+  finds_reads m batch acked least top sealed keep =
+      let here = (d.logs (last_log d)).now in
+      ap (λ i. upto (parts_read d parts) i ++ parts_read d parts i) (begun_log here (found d least top) (count_read d keep) (sealed && (is_settled here && keeps_all keep))) ∙ opened_reads d log sure parts firm sound
 
   pub finds_prefix : IsPrefixOf (recovered d) (upto parts log ++ parts log)
   finds_prefix = subst (λ xs. IsPrefixOf xs (upto parts log ++ parts log)) (opened_reads d log sure parts firm sound) (opened_prefix d log sure parts firm sound)
 
   pub finds_firm : IsPrefixOf firm (recovered d)
-  finds_firm = subst (IsPrefixOf firm) (opened_reads d log sure parts firm sound) (sound_firm d (j d log sure parts firm sound) sure (read d log sure parts firm sound) firm (opened_sound d log sure parts firm sound))
+  finds_firm = subst (IsPrefixOf firm) (opened_reads d log sure parts firm sound) (opened_firm d log sure parts firm sound)
 
   pub finds_answered : (xs : List Batch) → IsPrefixOf xs (content (d.logs log).now) → IsPrefixOf (upto parts log ++ xs) (recovered d)
   finds_answered xs has = subst (IsPrefixOf (upto parts log ++ xs)) (opened_reads d log sure parts firm sound) (opened_answered d log sure parts firm sound xs has)
@@ -223,28 +247,28 @@ module _ (es : List Event) (logs bases : ℕ → Keep) where
   abbrev w : World
   w = run es start
 
-  keeps : Keeps w
-  keeps = always_keeps es
+  held : Keeps w
+  held = always_keeps es
 
-  pub crash_reads : (least top : ℕ) (sealed : Bool) → submitted (happens w (Crash logs bases least top sealed)) ≡ recovered (crashed logs bases w.device)
-  crash_reads least top sealed = finds_reads (crashed logs bases w.device) w.machine.log keeps.sure w.parts keeps.firm (crashed_sound w keeps logs bases) w.machine w.batch w.acked least top sealed
+  pub crash_reads : (least top : ℕ) (sealed : Bool) (keep : Option ℕ) → submitted (happens w (Crash logs bases least top sealed keep)) ≡ recovered (crashed logs bases w.device)
+  crash_reads least top sealed keep = finds_reads (crashed logs bases w.device) w.machine.log held.sure w.parts held.firm (crashed_sound w held logs bases) w.machine w.batch w.acked least top sealed keep
 
   pub crash_prefix : IsPrefixOf (recovered (crashed logs bases w.device)) (submitted w)
-  crash_prefix = finds_prefix (crashed logs bases w.device) w.machine.log keeps.sure w.parts keeps.firm (crashed_sound w keeps logs bases)
+  crash_prefix = finds_prefix (crashed logs bases w.device) w.machine.log held.sure w.parts held.firm (crashed_sound w held logs bases)
 
   pub crash_acked : IsPrefixOf w.acked (recovered (crashed logs bases w.device))
-  crash_acked = prefix_trans w.acked keeps.firm (recovered (crashed logs bases w.device)) keeps.acked_is (finds_firm (crashed logs bases w.device) w.machine.log keeps.sure w.parts keeps.firm (crashed_sound w keeps logs bases))
+  crash_acked = prefix_trans w.acked held.firm (recovered (crashed logs bases w.device)) held.acked_is (finds_firm (crashed logs bases w.device) w.machine.log held.sure w.parts held.firm (crashed_sound w held logs bases))
 
   pub crash_older : IsPrefixOf (upto w.parts w.machine.log) (recovered (crashed logs bases w.device))
   crash_older =
-      prefix_trans (upto w.parts w.machine.log) keeps.firm (recovered (crashed logs bases w.device)) keeps.sound.stands
-      (finds_firm (crashed logs bases w.device) w.machine.log keeps.sure w.parts keeps.firm (crashed_sound w keeps logs bases))
+      prefix_trans (upto w.parts w.machine.log) held.firm (recovered (crashed logs bases w.device)) held.sound.stands
+      (finds_firm (crashed logs bases w.device) w.machine.log held.sure w.parts held.firm (crashed_sound w held logs bases))
 
   pub crash_readable : IsReadable (crashed logs bases w.device)
-  crash_readable = finds_readable (crashed logs bases w.device) w.machine.log keeps.sure w.parts keeps.firm (crashed_sound w keeps logs bases) (marks_crashed w.device logs bases (always_marked es))
+  crash_readable = finds_readable (crashed logs bases w.device) w.machine.log held.sure w.parts held.firm (crashed_sound w held logs bases) (marks_crashed w.device logs bases (always_marked es))
 
   pub crash_finds : (bs : List Base) (ls : List Listed) → IsListing (crashed logs bases w.device) bs ls → (r : Result Found Missing) → IsFoundIn bs ls r → (f : Found) × (r ≡ Ok f) × (f ≡ found (crashed logs bases w.device) f.least f.top)
-  crash_finds bs ls is r is_found = finds (crashed logs bases w.device) w.machine.log keeps.sure w.parts keeps.firm (crashed_sound w keeps logs bases) crash_readable bs ls is r is_found
+  crash_finds bs ls is r is_found = finds (crashed logs bases w.device) w.machine.log held.sure w.parts held.firm (crashed_sound w held logs bases) crash_readable bs ls is r is_found
 
 -- by the end of the process
 module _ (es : List Event) where
@@ -254,8 +278,8 @@ module _ (es : List Event) where
   keeps' : Keeps w'
   keeps' = always_keeps es
 
-  pub restart_reads : (least top : ℕ) (sealed : Bool) → submitted (happens w' (Restart least top sealed)) ≡ recovered w'.device
-  restart_reads least top sealed = finds_reads w'.device w'.machine.log keeps'.sure w'.parts keeps'.firm keeps'.sound w'.machine w'.batch w'.acked least top sealed
+  pub restart_reads : (least top : ℕ) (sealed : Bool) (keep : Option ℕ) → submitted (happens w' (Restart least top sealed keep)) ≡ recovered w'.device
+  restart_reads least top sealed keep = finds_reads w'.device w'.machine.log keeps'.sure w'.parts keeps'.firm keeps'.sound w'.machine w'.batch w'.acked least top sealed keep
 
   pub restart_prefix : IsPrefixOf (recovered w'.device) (submitted w')
   restart_prefix = finds_prefix w'.device w'.machine.log keeps'.sure w'.parts keeps'.firm keeps'.sound
@@ -275,8 +299,8 @@ module _ (es : List Event) where
   reread_is : (keep : Keep) → Sound (reread keep w') w'.machine.log keeps'.sure w'.parts keeps'.firm
   reread_is keep = reread_sound w'.device w'.machine.log keeps'.sure w'.parts keeps'.firm keeps'.sound keep
 
-  pub reread_reads : (keep : Keep) (least top : ℕ) (sealed : Bool) → submitted (happens w' (Reread keep least top sealed)) ≡ recovered (reread keep w')
-  reread_reads keep least top sealed = finds_reads (reread keep w') w'.machine.log keeps'.sure w'.parts keeps'.firm (reread_is keep) w'.machine w'.batch w'.acked least top sealed
+  pub reread_reads : (left : Keep) (least top : ℕ) (sealed : Bool) (keep : Option ℕ) → submitted (happens w' (Reread left least top sealed keep)) ≡ recovered (reread left w')
+  reread_reads left least top sealed keep = finds_reads (reread left w') w'.machine.log keeps'.sure w'.parts keeps'.firm (reread_is left) w'.machine w'.batch w'.acked least top sealed keep
 
   pub reread_prefix : (keep : Keep) → IsPrefixOf (recovered (reread keep w')) (submitted w')
   reread_prefix keep = finds_prefix (reread keep w') w'.machine.log keeps'.sure w'.parts keeps'.firm (reread_is keep)

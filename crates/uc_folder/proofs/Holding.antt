@@ -45,9 +45,12 @@ pub record IsCopy (part : List Batch) (f : File) : Type 0 where
   pub all : first_whole (f.kept ++ f.waiting) ≡ part
   pub fresh : f.suspect ≡ false
 
--- an opening has read the log, and nothing else has its name
-abbrev pub IsOpening : ℕ → List Batch → Entry → Type 0
-IsOpening count part e = IsRead part e.now × (e.before ≡ []) × (count ≡ length part)
+-- An opening has read the log, and nothing else has its name. Of its batches a number are kept, and all that is firm is among those.
+pub record IsOpening (count : ℕ) (firm before part : List Batch) (e : Entry) : Type 0 where
+  pub read : IsRead part e.now
+  pub named : e.before ≡ []
+  pub few : count ≤ length part
+  pub firmly : IsPrefixOf firm (before ++ take count part)
 
 -- a log that is on the device as it is, with these batches
 pub record IsSealed (part : List Batch) (o : Option File) : Type 0 where
@@ -56,9 +59,19 @@ pub record IsSealed (part : List Batch) (o : Option File) : Type 0 where
   pub is : IsWhole part file
   pub fresh : file.suspect ≡ false
 
-abbrev pub IfSealed : Bool → List Batch → Option File → Type 0
-IfSealed true part o = IsSealed part o
-IfSealed false part o = ⊤
+-- then all of it is kept
+abbrev pub IfSealed : Bool → ℕ → List Batch → Option File → Type 0
+IfSealed true count part o = IsSealed part o × (count ≡ length part)
+IfSealed false count part o = ⊤
+
+-- a copy of the batches that are kept has the name of the log, which other files may have had before
+pub record IsSettling (count : ℕ) (firm before part : List Batch) (o : Option File) : Type 0 where
+  pub file : File
+  pub now : o ≡ Some file
+  pub is : IsWhole (take count part) file
+  pub fresh : file.suspect ≡ false
+  pub few : count ≤ length part
+  pub firmly : IsPrefixOf firm (before ++ take count part)
 
 -- a batch that is appended to a log
 abbrev pub IsAppended : ℕ → ℕ → List Batch → List Batch → List Batch → Batch → Entry → Type 0
@@ -85,13 +98,13 @@ IsSpoiled count synced firm before part batch e = (front : List Batch) × (front
 abbrev pub FitsWriter : Device → ℕ → ℕ → ℕ → ℕ → List Batch → List Batch → List Batch → Batch → Writer → Type 0
 FitsWriter d log count synced base firm before part batch Making = ((d.logs log).now ≡ None) × (part ≡ []) × (count ≡ 0) × (synced ≡ 0) × Stands d base × (base ≤ log)
 FitsWriter d log count synced base firm before part batch Founding = IsNew (d.logs log).now × (part ≡ []) × (count ≡ 0) × (synced ≡ 0)
-FitsWriter d log count synced base firm before part batch (Naming top sealed) = IsRead part (d.logs log).now × (count ≡ length part) × Stands d base × (base ≤ log) × IfSealed sealed part (d.logs log).now
-FitsWriter d log count synced base firm before part batch (Clearing k top sealed) = IsOpening count part (d.logs log) × (log < k) × IfSealed sealed part (d.logs log).now
-FitsWriter d log count synced base firm before part batch SettingAside = IsOpening count part (d.logs log)
-FitsWriter d log count synced base firm before part batch Copying = IsOpening count part (d.logs log)
-FitsWriter d log count synced base firm before part batch SealingCopy = IsOpening count part (d.logs log) × IsCopy part d.copy
-FitsWriter d log count synced base firm before part batch Replacing = IsOpening count part (d.logs log) × IsWhole part d.copy × (d.copy.suspect ≡ false)
-FitsWriter d log count synced base firm before part batch Settling = (f : File) × ((d.logs log).now ≡ Some f) × IsWhole part f × (f.suspect ≡ false) × (count ≡ length part)
+FitsWriter d log count synced base firm before part batch (Naming top sealed) = ⊥
+FitsWriter d log count synced base firm before part batch (Clearing k top sealed) = IsOpening count firm before part (d.logs log) × (log < k) × IfSealed sealed count part (d.logs log).now
+FitsWriter d log count synced base firm before part batch SettingAside = IsOpening count firm before part (d.logs log)
+FitsWriter d log count synced base firm before part batch Copying = IsOpening count firm before part (d.logs log)
+FitsWriter d log count synced base firm before part batch SealingCopy = IsOpening count firm before part (d.logs log) × IsCopy (take count part) d.copy
+FitsWriter d log count synced base firm before part batch Replacing = IsOpening count firm before part (d.logs log) × IsWhole (take count part) d.copy × (d.copy.suspect ≡ false)
+FitsWriter d log count synced base firm before part batch Settling = IsSettling count firm before part (d.logs log).now
 FitsWriter d log count synced base firm before part batch Ready = IsOpen count synced firm before part (d.logs log)
 FitsWriter d log count synced base firm before part batch Appending = IsAppended count synced firm before part batch (d.logs log)
 FitsWriter d log count synced base firm before part batch Mending = IsSpoiled count synced firm before part batch (d.logs log)

@@ -6,6 +6,7 @@ mod Opening
 mod Changes
 mod Writing
 mod Renewing
+mod Reopening
 mod Adding
 mod Mending
 mod Checkpointing
@@ -15,5 +16,6 @@ mod Running
 mod Marks
 mod Names
 mod Histories
+mod Giving
 mod Saying
 mod Numbered

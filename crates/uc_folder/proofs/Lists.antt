@@ -1,8 +1,8 @@
 -- Beginnings of lists, what logs have together, maps that differ at one number, and the highest number that passes.
-use Rattle.std.proofs.Common.{◌≡◌, ℕ, zero, suc, ◌<◌, ◌≤◌, Bool, true, false, cond, eqb, eq-eqb, ◌⊎◌, inl, inr, ⊎_elim, List, [], ◌∷◌, ◌++◌, append_assoc, get_or, take, drop, refl, sym, ap, ◌∙◌, subst, arith}
+use Rattle.std.proofs.Common.{◌≡◌, ℕ, zero, suc, ◌<◌, ◌≤◌, Bool, true, false, cond, eqb, eq-eqb, ◌⊎◌, inl, inr, ⊎_elim, List, [], ◌∷◌, ◌++◌, append_assoc, length, get_or, take, drop, refl, sym, ap, ◌∙◌, subst, arith}
 use Rattle.std.specs.List.{AllByRecursion}
 use Rattle.std.proofs.lemmas.Bool.{cases_eq, eqb-true, eqb-false, ne_eqb}
-use Rattle.std.proofs.lemmas.List.{append_cancel_left, append-nil, take-append-drop}
+use Rattle.std.proofs.lemmas.List.{append_cancel_left, append-nil, length-append, take-append-drop}
 use Rattle.uc_folder.specs.Device.{Batch, at, highest, upto}
 use Rattle.uc_folder.specs.Worlds.{IsPrefixOf}
 
@@ -29,6 +29,37 @@ prefix_cancel xs ys zs p = (p.0, append_cancel_left xs (ys ++ p.0) zs (sym (appe
 pub prefix_of_nil : (xs : List Batch) → IsPrefixOf xs [] → xs ≡ []
 prefix_of_nil [] p = refl
 prefix_of_nil (x ∷ xs) p = let e = p.1 in cc
+
+pub length_prefix : (xs ys : List Batch) → IsPrefixOf xs ys → length xs ≤ length ys
+length_prefix xs ys p = let size = length-append xs p.0 in let all = ap length p.1 in omega (arith, size, all)
+
+pub take_short : (n : ℕ) (xs : List Batch) → length (take n xs) ≤ n
+take_short zero xs = omega arith
+take_short (suc n) [] = omega arith
+take_short (suc n) (x ∷ xs) = let le = take_short n xs in omega (arith, le)
+
+pub take_grows : (n : ℕ) (xs ys : List Batch) → IsPrefixOf (take n xs) (take n (xs ++ ys))
+take_grows zero xs ys = ([], refl)
+take_grows (suc n) [] ys = (take (suc n) ys, refl)
+take_grows (suc n) (x ∷ xs) ys = let p = take_grows n xs ys in (p.0, ap (λ l. x ∷ l) p.1)
+
+take_own : (xs ys : List Batch) → take (length xs) (xs ++ ys) ≡ xs
+take_own [] ys = refl
+take_own (x ∷ xs) ys = ap (λ l. x ∷ l) (take_own xs ys)
+
+taken_more : (xs ys : List Batch) (n : ℕ) → length xs ≤ n → IsPrefixOf xs (take n (xs ++ ys))
+taken_more [] ys n le = (take n ys, refl)
+taken_more (x ∷ xs) ys zero le = absurd (omega (arith, le))
+taken_more (x ∷ xs) ys (suc n) le = let p = taken_more xs ys n (omega (arith, le)) in (p.0, ap (λ l. x ∷ l) p.1)
+
+pub prefix_taken : (xs ys : List Batch) (n : ℕ) → IsPrefixOf xs ys → length xs ≤ n → IsPrefixOf xs (take n ys)
+prefix_taken xs ys n p le = subst (λ l. IsPrefixOf xs (take n l)) p.1 (taken_more xs p.0 n le)
+
+-- of two beginnings of a list one begins with the other
+pub taken_within : (xs ys zs : List Batch) → IsPrefixOf xs zs → IsPrefixOf ys zs → IsPrefixOf (take (length ys) xs) ys
+taken_within xs ys zs p q =
+    let both : take (length ys) (xs ++ p.0) ≡ ys = ap (take (length ys)) (p.1 ∙ sym q.1) ∙ take_own ys q.0 in
+    subst (IsPrefixOf (take (length ys) xs)) both (take_grows (length ys) xs p.0)
 
 -- ---- logs together
 

@@ -8,17 +8,17 @@ use Rattle.uc_folder.specs.declared.machine.Machine.{Machine}
 use Rattle.uc_folder.specs.declared.phases.Writer.{Writer}
 use Rattle.uc_folder.specs.declared.phases.Writer.TheVariants.{Mending, Spoiled, Failed}
 use Rattle.uc_folder.specs.declared.phases.Checkpointer.{Checkpointer}
-use Rattle.uc_folder.specs.Device.{Batch, Record, first_whole, are_whole, File, Device, content, upto, at, cut, synced, suspected, changed, changed_name, change_log}
+use Rattle.uc_folder.specs.Device.{Batch, Record, first_whole, are_whole, File, Device, content, upto, at, cut, synced, suspected, changed, changed_name}
 use Rattle.uc_folder.specs.Worlds.{World, IsPrefixOf, first_of, Outcome, Done, NotDone, PartDone, DoneUntold, Writes, Syncs, happens}
 use Rattle.uc_folder.proofs.Lists.{prefix_refl, prefix_trans, prefix_under, prefix_take, prefix_cancel, upto_same, at_here, at_other}
 use Rattle.uc_folder.proofs.Records.{first_take}
-use Rattle.uc_folder.proofs.Sound.{Sound, IsThere, IsLast, settled}
+use Rattle.uc_folder.proofs.Sound.{Sound, IsThere, IsLast, spared}
 use Rattle.uc_folder.proofs.Holding.{IsOpen, IsMendable, Attempt, Keeps}
 use Rattle.uc_folder.proofs.Changes.{entry_sound, submitted_sound, shrunk_sound}
 use Rattle.uc_folder.proofs.Writing.{world, inside, with_file, filed, moved, stepped, last_of, here, here_before, checkpointer_moves, answered_in, take_counted, take_more, take_twice, most, synced_file, synced_is, synced_all, synced_first, synced_more}
 
 -- a base that is under way has nothing of what isn't firm
-attempt_shrinks : (log base : ℕ) (p q : ℕ → List Batch) (firm rest : List Batch) (n past : ℕ) → ((k : ℕ) → k < log → q k ≡ p k) → q log ++ rest ≡ p log → IsPrefixOf firm (upto p log ++ q log) → Attempt log base p firm n past →
+pub attempt_shrinks : (log base : ℕ) (p q : ℕ → List Batch) (firm rest : List Batch) (n past : ℕ) → ((k : ℕ) → k < log → q k ≡ p k) → q log ++ rest ≡ p log → IsPrefixOf firm (upto p log ++ q log) → Attempt log base p firm n past →
     Attempt log base q firm n past × (first_of p n past ≡ first_of q n past)
 attempt_shrinks log base p q firm rest n past same split all is =
     let to = is.to in
@@ -98,7 +98,7 @@ module _ (d : Device) (m : Machine) (c : Checkpointer) (parts : ℕ → List Bat
     cut_sound sure sound =
         entry_sound d log sure parts firm sound (changed (cut m.count) (d.logs log)) d.names sound.named
         (subst (IsLast firm before part) (sym (ap (changed_name (cut m.count)) is.now)) (cut_last part (batch ∷ [], split)))
-        (subst (AllByRecursion (IsLast firm before (settled (changed_name (cut m.count) (d.logs log).now)))) (sym is.named) tt)
+        (subst (AllByRecursion (IsLast firm before (spared (changed_name (cut m.count) (d.logs log).now) part))) (sym is.named) tt)
         (λ lt. (subst IsThere (sym (ap (changed_name (cut m.count)) is.now)) tt, (sound.begun lt).1))
 
     cut_answered : IsPrefixOf (take m.count part) (content ((file' (cut m.count)).logs log).now)
@@ -136,7 +136,7 @@ module _ (d : Device) (m : Machine) (c : Checkpointer) (parts : ℕ → List Bat
         shrunk_sound (file' (cut m.count)) log sure parts firm (cut_sound sure sound) q (λ k lt. at_other log (take m.count part) parts k (omega (arith, lt)))
         (subst (λ l. IsPrefixOf firm (before ++ l)) (sym q_is) firmly)
         (subst (IsLast firm before (q log)) (sym (here d m c parts batch acked (cut m.count) f is.now)) (cut_last (q log) (subst (IsPrefixOf front) (sym q_is) (prefix_refl front))))
-        (subst (AllByRecursion (IsLast firm before (settled ((file' (cut m.count)).logs log).now))) (sym (here_before d m c parts batch acked (cut m.count) ∙ is.named)) tt)
+        (subst (AllByRecursion (IsLast firm before (spared ((file' (cut m.count)).logs log).now (q log)))) (sym (here_before d m c parts batch acked (cut m.count) ∙ is.named)) tt)
 
   suspects : (w : Writer) (keeps : Keeps (inside' w)) (front : List Batch) → IsMendable m.count m.synced keeps.firm before front (d.logs log) → Keeps (world (file' suspected) m Failed c parts batch acked)
   suspects w keeps front is =
@@ -238,14 +238,14 @@ module _ (d : Device) (m : Machine) (c : Checkpointer) (parts : ℕ → List Bat
         ) in
         entry_sound d log sure parts firm sound (changed (synced n) (d.logs log)) d.names sound.named
         (subst (IsLast firm before part) (sym (ap (changed_name (synced n)) is.now)) last)
-        (subst (AllByRecursion (IsLast firm before (settled (changed_name (synced n) (d.logs log).now)))) (sym is.named) tt)
+        (subst (AllByRecursion (IsLast firm before (spared (changed_name (synced n) (d.logs log).now) part))) (sym is.named) tt)
         (λ lt. (subst IsThere (sym (ap (changed_name (synced n)) is.now)) tt, (sound.begun lt).1))
 
     spoiled_firmly : (sure : ℕ) → Sound d log sure parts firm → Sound (file' (synced n)) log sure parts (before ++ take n front)
     spoiled_firmly sure sound =
         submitted_sound (file' (synced n)) log sure parts firm (spoiled_sound sure sound) parts (before ++ take n front) (λ k lt. refl) (prefix_refl part) grows
         (subst (IsLast (before ++ take n front) before part) (sym synced_now) (reads_part sure sound, prefix_under before (take n front) (first_whole synced'.kept) synced_enough))
-        (subst (AllByRecursion (IsLast (before ++ take n front) before (settled ((file' (synced n)).logs log).now))) (sym (here_before d m c parts batch acked (synced n) ∙ is.named)) tt)
+        (subst (AllByRecursion (IsLast (before ++ take n front) before (spared ((file' (synced n)).logs log).now part))) (sym (here_before d m c parts batch acked (synced n) ∙ is.named)) tt)
 
     same_read : content (d.logs log).now ≡ content ((file' (synced n)).logs log).now
     same_read = ap content is.now ∙ (ap first_whole (sym same_records) ∙ sym (ap content synced_now))

@@ -1,18 +1,19 @@
 -- The next log, from its request to the switch.
 use Rattle.std.proofs.Common.{◌≡◌, ℕ, ◌+◌, ◌<◌, ◌≤◌, Bool, true, false, cond, ltb, ◌&&◌, ◌||◌, List, [], refl, sym, ap, ◌∙◌, subst, arith}
-use Rattle.std.specs.Prelude.{⊤, Some, None}
+use Rattle.std.specs.Prelude.{⊤, Option, Some, None}
 use Rattle.uc_folder.specs.declared.machine.Machine.{Machine}
+use Rattle.uc_folder.specs.declared.listing.Found.{Found}
 use Rattle.uc_folder.specs.declared.phases.Writer.{Writer}
-use Rattle.uc_folder.specs.declared.phases.Writer.TheVariants.{Making, Founding, Naming, Clearing, SettingAside, Copying, SealingCopy, Replacing, Settling, Ready, Appending, Mending, Syncing, Both, Spoiled, Closing, Failed}
+use Rattle.uc_folder.specs.declared.phases.Writer.TheVariants.{Making, Naming, Clearing, SettingAside, Copying, SealingCopy, Replacing, Settling, Ready, Appending, Mending, Syncing, Both, Spoiled, Closing, Failed}
 use Rattle.uc_folder.specs.declared.action.Action.{Action}
 use Rattle.uc_folder.specs.declared.action.Action.TheVariants.{Nothing, Append, SyncLog, CutLog, SyncNames, WriteBase, SyncBase, NameBase, RemoveLog, RemoveBase}
 use Rattle.uc_folder.specs.declared.phases.NextLog.{NextLog}
 use Rattle.uc_folder.specs.declared.phases.NextLog.TheVariants.{Absent, Creating, Recording, Waiting}
 use Rattle.uc_folder.specs.declared.phases.Checkpointer.{Checkpointer}
-use Rattle.uc_folder.specs.declared.phases.Checkpointer.TheVariants.{Idle, Writing, Sealing, Renaming, Fixing, RemovingLog, RemovingBase}
-use Rattle.uc_folder.specs.Device.{Batch, Whole, Torn, File, Entry, Device, is_there, last_log, crashed, empty_file, appended, synced, cut, suspected, changed, change_log, stands_for, name_log, sync_names, upto}
-use Rattle.uc_folder.specs.Steps.{next_write, writer_after, next_after, next_make, made_after, writer_synced, next_checkpoint, submitting, syncing, switching, asking_next}
-use Rattle.uc_folder.specs.Worlds.{World, Outcome, Done, NotDone, PartDone, DoneUntold, is_done, carried_out, device_after, is_settled, reread, Event, Submit, AskSync, AskNext, AskSwitch, AskCheckpoint, Writes, Makes, Syncs, Checkpoints, Crash, Restart, Reread, happens}
+use Rattle.uc_folder.specs.declared.phases.Checkpointer.TheVariants.{Idle, RemovingLog}
+use Rattle.uc_folder.specs.Device.{Batch, Whole, Torn, File, Entry, Device, last_log, crashed, empty_file, appended, synced, cut, suspected, changed, change_log, stands_for, name_log, sync_names, upto}
+use Rattle.uc_folder.specs.Steps.{next_write, opened, log_after, writer_after, next_after, next_make, made_after, writer_synced, next_checkpoint, submitting, syncing, switching, asking_next}
+use Rattle.uc_folder.specs.Worlds.{World, Outcome, Done, NotDone, PartDone, DoneUntold, is_done, carried_out, device_after, is_settled, found, keeps_all, names_read, begun_by, count_read, opens, reread, Event, Submit, AskSync, AskNext, AskSwitch, AskCheckpoint, Writes, Makes, Syncs, Checkpoints, Crash, Restart, Reread, happens}
 use Rattle.uc_folder.proofs.Lists.{prefix_refl, at_here, at_other}
 use Rattle.uc_folder.proofs.Sound.{Sound}
 use Rattle.uc_folder.proofs.Holding.{IsNew, Keeps}
@@ -226,6 +227,21 @@ opened_allows : (there : Bool) (top : ℕ) (sealed : Bool) → allows (cond ther
 opened_allows true top sealed = refl
 opened_allows false top sealed = refl
 
+-- a machine that has synced the names asks for no next log
+named_next : (e : Device) (there : Bool) (top : ℕ) (sealed : Bool) (log : ℕ) → IsNext e (log_after (cond there (Naming top sealed) Making) true log) (writer_after (cond there (Naming top sealed) Making) true log) (next_after (cond there (Naming top sealed) Making) true Absent)
+named_next e true top sealed log = (cleared (ltb log top) sealed (log + 1) top Absent refl, tt)
+named_next e false top sealed log = (refl, tt)
+
+begun_next : (e : Device) (o : Option File) (f : Found) (count : ℕ) (sealed : Bool) → IsNext e (begun_by o (opened f count sealed)).log (begun_by o (opened f count sealed)).writer (begun_by o (opened f count sealed)).next
+begun_next e None f count sealed = (opened_allows f.is_there f.top sealed, tt)
+begun_next e (Some g) f count sealed = named_next e f.is_there f.top sealed f.log
+
+opens_next : (least top : ℕ) (sealed : Bool) (keep : Option ℕ) (w : World) → HasNext (opens least top sealed keep w)
+opens_next least top sealed keep w =
+    let d = w.device in
+    let here = (d.logs (last_log d)).now in
+    begun_next (names_read here d) here (found d least top) (count_read d keep) (sealed && (is_settled here && keeps_all keep))
+
 -- ---- events
 
 module _ (d : Device) (m : Machine) (c : Checkpointer) (parts : ℕ → List Batch) (batch : Batch) (acked : List Batch) where
@@ -355,9 +371,6 @@ next_happens w (Writes o) keeps fits = write_next w.device w.machine w.machine.c
 next_happens w (Makes o) keeps fits = make_next w.device w.machine w.machine.writer w.machine.checkpointer w.parts w.batch w.acked w.machine.next o fits
 next_happens w (Syncs o) keeps fits = sync_next w.device w.machine w.machine.checkpointer w.parts w.batch w.acked w.machine.writer o fits
 next_happens w (Checkpoints o) keeps fits = checkpoint_next w.device w.machine w.machine.writer w.parts w.batch w.acked w.machine.checkpointer o keeps fits
-next_happens w (Crash logs bases least top sealed) keeps fits =
-    let d = crashed logs bases w.device in (opened_allows (is_there (d.logs (last_log d)).now) top (sealed && is_settled (d.logs (last_log d)).now), tt)
-next_happens w (Restart least top sealed) keeps fits =
-    let d = w.device in (opened_allows (is_there (d.logs (last_log d)).now) top (sealed && is_settled (d.logs (last_log d)).now), tt)
-next_happens w (Reread keep least top sealed) keeps fits =
-    let d = reread keep w in (opened_allows (is_there (d.logs (last_log d)).now) top (sealed && is_settled (d.logs (last_log d)).now), tt)
+next_happens w (Crash logs bases least top sealed keep) keeps fits = opens_next least top sealed keep (record w { device = crashed logs bases w.device })
+next_happens w (Restart least top sealed keep) keeps fits = opens_next least top sealed keep w
+next_happens w (Reread left least top sealed keep) keeps fits = opens_next least top sealed keep (record w { device = reread left w })

@@ -5,14 +5,11 @@ use Rattle.std.specs.List.{AllByRecursion}
 use Rattle.std.proofs.lemmas.List.Prefix.{front_rest}
 use Rattle.std.proofs.lemmas.Bool.{and_parts, cases_eq, cases_lt, cases_Bool, ne_eqb, le-ltb, lt-ltb}
 use Rattle.std.proofs.lemmas.List.{append-nil}
-use Rattle.uc_folder.specs.declared.machine.Machine.{Machine}
-use Rattle.uc_folder.specs.declared.phases.Writer.TheVariants.{Making, Naming}
 use Rattle.uc_folder.specs.Device.{Batch, Record, first_whole, are_whole, are_damaged, records_of, File, Device, first_number, content, past_of, is_there, is_used, is_empty, highest, upto, after_base, recovered}
-use Rattle.uc_folder.specs.Worlds.{IsPrefixOf, IsReadable, is_intact, are_none, is_settled, opens}
+use Rattle.uc_folder.specs.Worlds.{IsPrefixOf, IsReadable, is_intact, are_none, is_settled}
 use Rattle.uc_folder.proofs.Lists.{prefix_refl, prefix_trans, prefix_under, prefix_onto, prefix_cancel, prefix_of_nil, upto_same, upto_more, upto_empty, highest_passes, highest_above, all_weaker}
 use Rattle.uc_folder.proofs.Records.{first_prefix}
-use Rattle.uc_folder.proofs.Sound.{IsWhole, IsBase, IsThere, IsGone, IsLog, IsUnused, IsLast, settled, Each, Sound}
-use Rattle.uc_folder.proofs.Holding.{IsRead, IfSealed, FitsWriter, Keeps}
+use Rattle.uc_folder.proofs.Sound.{IsWhole, IsBase, IsThere, IsGone, IsLog, IsUnused, IsLast, spared, Each, Sound}
 
 -- ---- files
 
@@ -31,17 +28,12 @@ not_true : (b : Bool) → not b ≡ true → b ≡ false
 not_true true e = absurd (cc)
 not_true false e = refl
 
-settled_file : (f : File) → is_settled (Some f) ≡ true → IsWhole (content (Some f)) f × (f.suspect ≡ false)
+pub settled_file : (f : File) → is_settled (Some f) ≡ true → IsWhole (content (Some f)) f × (f.suspect ≡ false)
 settled_file f e =
     let one = and_parts (are_whole f.kept) (are_none f.waiting && not f.suspect) e in
     let two = and_parts (are_none f.waiting) (not f.suspect) one.1 in
     let none : f.waiting ≡ [] = none_is f.waiting two.0 in
     (record { kept = sym (ap (λ l. first_whole (f.kept ++ l)) none ∙ ap first_whole (append-nil f.kept)); whole = one.0; waiting = none }, not_true f.suspect two.1)
-
-if_sealed : (s t : Bool) (part : List Batch) (f : File) (o : Option File) → o ≡ Some f → part ≡ content (Some f) → is_settled (Some f) ≡ t → IfSealed (s && t) part o
-if_sealed false t part f o e same is = tt
-if_sealed true false part f o e same is = tt
-if_sealed true true part f o e same is = let both = settled_file f is in record { file = f; now = e; is = subst (λ xs. IsWhole xs f) (sym same) both.0; fresh = both.1 }
 
 log_content : (part : List Batch) (o : Option File) → IsLog part o → content o ≡ part
 log_content part None is = absurd is
@@ -66,7 +58,7 @@ pub record Fronted (before part : List Batch) (o : Option File) : Type 0 where
   pub past : past_of o ≡ length front
   pub begins : IsPrefixOf front part
 
-base_fronted : (firm : List Batch) (parts : ℕ → List Batch) (log k : ℕ) (o : Option File) → IsBase firm parts log k o → parts 0 ≡ [] → (k ≡ first_number) ⊎ (is_there o ≡ true) → Fronted (upto parts k) (parts k) o
+pub base_fronted : (firm : List Batch) (parts : ℕ → List Batch) (log k : ℕ) (o : Option File) → IsBase firm parts log k o → parts 0 ≡ [] → (k ≡ first_number) ⊎ (is_there o ≡ true) → Fronted (upto parts k) (parts k) o
 base_fronted firm parts log k None is none (inl e) =
     let nothing : upto parts k ≡ [] = ap (upto parts) e ∙ none in
     record { front = []; all = sym nothing ∙ sym (append-nil (upto parts k)); past = refl; begins = (parts k, refl) }
@@ -99,15 +91,6 @@ unused_content (Some f) is = is
 
 unused_false : (o : Option File) → IsUnused o → is_used o ≡ false
 unused_false o is = ap (λ l. not (is_empty l)) (unused_content o is)
-
-pub settled_content : (o : Option File) → IsPrefixOf (settled o) (content o)
-settled_content None = ([], refl)
-settled_content (Some f) = first_prefix f.kept f.waiting
-
--- a file that stood for a log of which nothing is read
-spare_unused : (firm before own : List Batch) → own ≡ [] → (o : Option File) → IsLast firm before own o → IsUnused o
-spare_unused firm before own e None is = tt
-spare_unused firm before own e (Some f) is = prefix_of_nil (first_whole (f.kept ++ f.waiting)) (subst (IsPrefixOf (first_whole (f.kept ++ f.waiting))) e is.0)
 
 last_exact : (firm before part : List Batch) (o : Option File) → IsLast firm before part o → IsLast firm before (content o) o
 last_exact firm before part None is = is
@@ -180,7 +163,7 @@ module _ (d : Device) (log sure : ℕ) (parts : ℕ → List Batch) (firm : List
       let above : k ≤ m = highest_above has_base d.names k (omega (arith, le, top)) is in
       omega (arith, above)
 
-  sure_below : sure ≤ n
+  pub sure_below : sure ≤ n
   sure_below = ⊎_elim (λ (e : sure ≡ first_number). let a = n_first in omega (arith, e, a)) (λ (is : Each IsThere (d.bases sure)). base_above sure (there_true (d.bases sure).now is.0)) sound.there
 
   h_below : h ≤ log
@@ -208,7 +191,7 @@ module _ (d : Device) (log sure : ℕ) (parts : ℕ → List Batch) (firm : List
   pub j_below : j ≤ log
   j_below = let a = n_below in let b = h_below in omega (arith, a, b)
 
-  n_j : n ≤ j
+  pub n_j : n ≤ j
   n_j = omega arith
 
   sure_j : sure ≤ j
@@ -231,7 +214,7 @@ module _ (d : Device) (log sure : ℕ) (parts : ℕ → List Batch) (firm : List
       (λ (le : n ≤ k). read_at k le ∙ log_content (parts k) (d.logs k).now (sound.older k (let a = sure_below in omega (arith, a, le)) lt).0)
       (cases_lt k n)
 
-  read_none : read 0 ≡ []
+  pub read_none : read 0 ≡ []
   read_none = let a = n_first in ap (λ b. cond b (parts 0) (content (d.logs 0).now)) (lt-ltb 0 n (omega (arith, a))) ∙ sound.none
 
   pub upto_read : (k : ℕ) → k ≤ log → upto read k ≡ upto parts k
@@ -307,32 +290,44 @@ module _ (d : Device) (log sure : ℕ) (parts : ℕ → List Batch) (firm : List
       (cases_lt j k)
 
   abbrev SpareAt : ℕ → Type 0
-  SpareAt i = AllByRecursion (IsLast firm (upto read i) (settled (d.logs i).now)) (d.logs i).before
+  SpareAt i = AllByRecursion (IsLast firm (upto read i) (spared (d.logs i).now (read i))) (d.logs i).before
 
-  unused_settled : IsUnused (d.logs log).now → settled (d.logs log).now ≡ []
-  unused_settled unused = prefix_of_nil (settled (d.logs log).now) (subst (IsPrefixOf (settled (d.logs log).now)) (unused_content (d.logs log).now unused) (settled_content (d.logs log).now))
+  -- if a log goes on, no name stands for another file: they were synced
+  abbrev pub IsAlone : Type 0
+  IsAlone = is_there (d.logs j).now ≡ true → (k : ℕ) → (d.logs k).before ≡ []
 
-  spares_unused : IsUnused (d.logs log).now → AllByRecursion IsUnused (d.logs log).before
-  spares_unused unused =
-      all_weaker (IsLast firm (upto parts log) (settled (d.logs log).now)) IsUnused
-      (spare_unused firm (upto parts log) (settled (d.logs log).now) (unused_settled unused)) (d.logs log).before sound.spare
+  older_there : j < log → is_there (d.logs j).now ≡ true
+  older_there lt = there_true (d.logs j).now (log_there (parts j) (d.logs j).now (sound.older j sure_j lt).0)
 
-  later_at : (k : ℕ) → j < k → Each IsUnused (d.logs k)
-  later_at k lt =
+  later_at : IsAlone → (k : ℕ) → j < k → Each IsUnused (d.logs k)
+  later_at alone k lt =
       ⊎_elim (λ (above : log < k). sound.later k above)
-      (λ (le : k ≤ log). (
-        unused_above k lt le,
-        ⊎_elim
-            (λ (e : k ≡ log).
-            let here : IsUnused (d.logs log).now = subst (λ i. IsUnused (d.logs i).now) e (unused_above k lt le) in
-            subst (λ i. AllByRecursion IsUnused (d.logs i).before) (sym e) (spares_unused here))
-            (λ (ne : k ≡ log → ⊥). let a = sure_j in subst (AllByRecursion IsUnused) (sym (sound.older k (omega (arith, a, lt)) (omega (arith, le, ne))).1) tt)
-            (cases_eq k log),
-      ))
+      (λ (le : k ≤ log). (unused_above k lt le, subst (AllByRecursion IsUnused) (sym (alone (older_there (omega (arith, lt, le))) k)) tt))
       (cases_lt log k)
 
-  pub opened_sound : Sound d j sure read firm
-  opened_sound = record {
+  spare_none : (d.logs log).now ≡ None → SpareAt log
+  spare_none e =
+      subst (λ before. AllByRecursion (IsLast firm before (spared (d.logs log).now (read log))) (d.logs log).before) (sym (upto_read log (omega arith)))
+      (subst (λ own. AllByRecursion (IsLast firm (upto parts log) own) (d.logs log).before) (ap (λ o. spared o (parts log)) e ∙ sym (ap (λ o. spared o (read log)) e)) sound.spare)
+
+  spare_at : IsAlone → (o : Option File) → (d.logs j).now ≡ o → SpareAt j
+  spare_at alone (Some f) e = subst (AllByRecursion (IsLast firm (upto read j) (spared (d.logs j).now (read j)))) (sym (alone (ap is_there e) j)) tt
+  spare_at alone None e =
+      ⊎_elim (λ (lt : j < log). absurd (let x : false ≡ true = sym (ap is_there e) ∙ older_there lt in cc))
+      (λ (le : log ≤ j). let same : log ≡ j = let a = j_below in omega (arith, a, le) in subst SpareAt same (spare_none (subst (λ i. (d.logs i).now ≡ None) (sym same) e)))
+      (cases_lt j log)
+
+  begun_at : first_number < j → Each IsThere (d.logs j)
+  begun_at =
+      same_or_below (λ i. first_number < i → Each IsThere (d.logs i)) sound.begun
+      (λ lt z. let is = sound.older j sure_j lt in (log_there (parts j) (d.logs j).now is.0, subst (AllByRecursion IsThere) (sym is.1) tt))
+
+  -- all that is firm is read
+  pub opened_firm : IsPrefixOf firm (upto read j ++ read j)
+  opened_firm = last_firm firm (upto read j) (read j) (d.logs j).now (same_or_below LastAt last_same (λ lt. last_lower j sure_j lt (firm_below lt)))
+
+  pub opened_sound : IsAlone → Sound d j sure read firm
+  opened_sound alone = record {
     bases = bases_read;
     newer = sound.newer;
     there = sound.there;
@@ -340,32 +335,12 @@ module _ (d : Device) (log sure : ℕ) (parts : ℕ → List Batch) (firm : List
     reached = sure_j;
     older = λ k le lt. subst (λ part. IsLog part (d.logs k).now × ((d.logs k).before ≡ [])) (sym (read_below k (let a = j_below in omega (arith, a, lt)))) (sound.older k le (let a = j_below in omega (arith, a, lt)));
     last = same_or_below LastAt last_same (λ lt. last_lower j sure_j lt (firm_below lt));
-    spare = same_or_below SpareAt
-        (subst (λ before. AllByRecursion (IsLast firm before (settled (d.logs log).now)) (d.logs log).before) (sym (upto_read log (omega arith))) sound.spare)
-        (λ lt. subst (AllByRecursion (IsLast firm (upto read j) (settled (d.logs j).now))) (sym (sound.older j sure_j lt).1) tt);
-    begun = same_or_below (λ i. first_number < i → Each IsThere (d.logs i)) sound.begun
-        (λ lt z. let is = sound.older j sure_j lt in (log_there (parts j) (d.logs j).now is.0, subst (AllByRecursion IsThere) (sym is.1) tt));
-    later = later_at;
+    spare = spare_at alone (d.logs j).now refl;
+    begun = begun_at;
+    later = later_at alone;
     named = let a = j_below in let b = sound.named in omega (arith, a, b);
     stands = subst (λ l. IsPrefixOf l firm) (sym (upto_read j j_below)) (prefix_trans (upto parts j) (upto parts log) firm (upto_more parts j log j_below) sound.stands);
     none = read_none;
-  }
-
-  fits : (batch : Batch) (top : ℕ) (sealed : Bool) (o : Option File) → (d.logs j).now ≡ o → FitsWriter d j (length (content o)) 0 n firm (upto read j) (read j) batch (cond (is_there o) (Naming top (sealed && is_settled o)) Making)
-  fits batch top sealed None e = (e, read_at j n_j ∙ ap content e, refl, refl, n_there, n_j)
-  fits batch top sealed (Some f) e =
-      let same : read j ≡ content (Some f) = read_at j n_j ∙ ap content e in
-      (subst (IsRead (read j)) (sym e) (sym same), ap length (sym same), n_there, n_j, if_sealed sealed (is_settled (Some f)) (read j) f (d.logs j).now e same refl)
-
-  pub opened_keeps : (machine : Machine) (batch : Batch) (acked : List Batch) (least top : ℕ) (sealed : Bool) → IsPrefixOf acked firm → Keeps (opens least top sealed (record { device = d; machine = machine; parts = parts; batch = batch; acked = acked }))
-  opened_keeps machine batch acked least top sealed has = record {
-    sure = sure;
-    firm = firm;
-    sound = opened_sound;
-    acked_is = has;
-    under = sure_below;
-    writer = fits batch top sealed (d.logs j).now refl;
-    checkpointer = tt;
   }
 
   -- ---- reading
@@ -433,6 +408,6 @@ module _ (d : Device) (log sure : ℕ) (parts : ℕ → List Batch) (firm : List
   opened_readable whole = record {
     base = λ lt. base_intact firm parts log n (d.bases n).now (sound.bases n).0 (⊎_elim (λ (e : n ≡ first_number). absurd (omega (arith, e, lt))) (λ (is : has_base n ≡ true). is) n_there);
     logs = λ k le lt. log_intact (parts k) (d.logs k).now (sound.older k (let a = sure_below in omega (arith, a, le)) (let a = j_below in omega (arith, a, lt))).0;
-    last = λ lt. there_true (d.logs j).now (opened_sound.begun lt).0;
+    last = λ lt. there_true (d.logs j).now (begun_at lt).0;
     whole = whole;
   }

@@ -3,6 +3,7 @@ use Rattle.std.proofs.Common.{◌≡◌, ℕ, suc, ◌<◌, ◌≤◌, Bool, tru
 use Rattle.std.specs.Prelude.{min, nat_le}
 use Rattle.std.proofs.lemmas.List.{append-nil}
 use Rattle.std.proofs.lemmas.Bool.{ltb-true, leb-true, eqb-true, and_parts, or_cases}
+use Rattle.std.specs.List.{AllByRecursion}
 use Rattle.uc_folder.specs.declared.machine.Machine.{Machine}
 use Rattle.uc_folder.specs.declared.phases.Writer.{Writer}
 use Rattle.uc_folder.specs.declared.phases.Writer.TheVariants.{Making, Founding, Naming, Clearing, SettingAside, Copying, SealingCopy, Replacing, Settling, Ready, Appending, Mending, Syncing, Both, Closing}
@@ -14,11 +15,11 @@ use Rattle.uc_folder.specs.Device.{Batch, Device, upto, at}
 use Rattle.uc_folder.specs.Steps.{is_open, is_later, is_in_older, switching, checkpointing}
 use Rattle.uc_folder.specs.Worlds.{World, IsPrefixOf, Outcome, Done, NotDone, PartDone, DoneUntold, Submit, AskSync, AskSwitch, AskCheckpoint, Writes, first_of, happens}
 use Rattle.uc_folder.proofs.Lists.{prefix_refl, prefix_trans, prefix_under, prefix_take, upto_same, upto_more, at_here, at_other}
-use Rattle.uc_folder.proofs.Sound.{IsLast, last_weaker}
+use Rattle.uc_folder.proofs.Sound.{IsLast, spared, last_weaker}
 use Rattle.uc_folder.proofs.Holding.{IsOpen, FitsWriter, Keeps}
 use Rattle.uc_folder.proofs.Changes.{submitted_sound}
 use Rattle.uc_folder.proofs.Writing.{world, moved, waits}
-use Rattle.uc_folder.proofs.Renewing.{making_keeps, founding_keeps, naming_keeps, clearing_keeps, setting_keeps, copying_keeps, sealing_copy_keeps, replacing_keeps, settling_keeps}
+use Rattle.uc_folder.proofs.Renewing.{making_keeps, founding_keeps, clearing_keeps, setting_keeps, copying_keeps, sealing_copy_keeps, replacing_keeps, settling_keeps}
 use Rattle.uc_folder.proofs.Adding.{marked_count, appending_keeps, both_keeps}
 use Rattle.uc_folder.proofs.Mending.{mending_keeps}
 use Rattle.uc_folder.proofs.Next.{HasNext}
@@ -36,7 +37,7 @@ module _ (d : Device) (m : Machine) (parts : ℕ → List Batch) (batch : Batch)
   pub writes_keep : (c : Checkpointer) (w : Writer) (o : Outcome) → HasNext (inside w c) → Keeps (inside w c) → Keeps (happens (inside w c) (Writes o))
   writes_keep c Making o fits keeps = making_keeps d m c parts batch acked o keeps
   writes_keep c Founding o fits keeps = founding_keeps d m c parts batch acked o keeps
-  writes_keep c (Naming top sealed) o fits keeps = naming_keeps d m c parts batch acked top sealed o keeps
+  writes_keep c (Naming top sealed) o fits keeps = absurd keeps.writer
   writes_keep c (Clearing k top sealed) o fits keeps = clearing_keeps d m c parts batch acked k top sealed o keeps
   writes_keep c SettingAside o fits keeps = setting_keeps d m c parts batch acked o keeps
   writes_keep c Copying o fits keeps = copying_keeps d m c parts batch acked o keeps
@@ -55,9 +56,9 @@ module _ (d : Device) (m : Machine) (parts : ℕ → List Batch) (batch : Batch)
   -- ---- requests
 
   -- a batch is submitted
-  takes : (b : Batch) (w v : Writer) (c : Checkpointer) (keeps : Keeps (inside w c)) → FitsWriter d log m.count m.synced m.base keeps.firm (upto (at log (parts log ++ b ∷ []) parts) log) (at log (parts log ++ b ∷ []) parts log) b v →
+  takes : (b : Batch) (w v : Writer) (c : Checkpointer) (keeps : Keeps (inside w c)) → (d.logs log).before ≡ [] → FitsWriter d log m.count m.synced m.base keeps.firm (upto (at log (parts log ++ b ∷ []) parts) log) (at log (parts log ++ b ∷ []) parts log) b v →
       Keeps (world d m v c (at log (parts log ++ b ∷ []) parts) b acked)
-  takes b w v c keeps fits =
+  takes b w v c keeps named fits =
       let q = at log (parts log ++ b ∷ []) parts in
       let same : q log ≡ parts log ++ b ∷ [] = at_here log (parts log ++ b ∷ []) parts in
       let before : (k : ℕ) → k < log → q k ≡ parts k = λ k lt. at_other log (parts log ++ b ∷ []) parts k (omega (arith, lt)) in
@@ -65,7 +66,7 @@ module _ (d : Device) (m : Machine) (parts : ℕ → List Batch) (batch : Batch)
       moved d m c parts batch acked d log m.count m.synced q b acked keeps.firm w v refl (λ k. refl) (omega arith) before grows keeps (prefix_refl keeps.firm)
       (submitted_sound d log keeps.sure parts keeps.firm keeps.sound q keeps.firm before grows (prefix_refl keeps.firm)
       (subst (λ part. IsLast keeps.firm (upto parts log) part (d.logs log).now) (sym same) (last_weaker keeps.firm (upto parts log) (parts log) (parts log ++ b ∷ []) (b ∷ [], refl) (d.logs log).now keeps.sound.last))
-      keeps.sound.spare)
+      (subst (AllByRecursion (IsLast keeps.firm (upto parts log) (spared (d.logs log).now (q log)))) (sym named) tt))
       keeps.acked_is fits
 
   -- the same is known of the log where a batch was submitted
@@ -74,9 +75,9 @@ module _ (d : Device) (m : Machine) (parts : ℕ → List Batch) (batch : Batch)
       subst (λ l. IsOpen m.count m.synced firm l (parts log) (d.logs log)) (sym (upto_same (at log (parts log ++ b ∷ []) parts) parts log (λ k lt. at_other log (parts log ++ b ∷ []) parts k (omega (arith, lt))))) is
 
   pub submit_keeps : (b : Batch) (w : Writer) (c : Checkpointer) → Keeps (inside w c) → Keeps (happens (inside w c) (Submit b))
-  submit_keeps b Ready c keeps = takes b Ready Appending c keeps (parts log, sym (at_here log (parts log ++ b ∷ []) parts), open_before b keeps.firm keeps.writer)
+  submit_keeps b Ready c keeps = takes b Ready Appending c keeps keeps.writer.named (parts log, sym (at_here log (parts log ++ b ∷ []) parts), open_before b keeps.firm keeps.writer)
   submit_keeps b (Syncing n) c keeps =
-      takes b (Syncing n) (Both n) c keeps ((parts log, sym (at_here log (parts log ++ b ∷ []) parts), open_before b keeps.firm keeps.writer.0), keeps.writer.1, keeps.writer.2)
+      takes b (Syncing n) (Both n) c keeps keeps.writer.0.named ((parts log, sym (at_here log (parts log ++ b ∷ []) parts), open_before b keeps.firm keeps.writer.0), keeps.writer.1, keeps.writer.2)
   submit_keeps b w c keeps = keeps
 
   few : (firm before part : List Batch) → IsOpen m.count m.synced firm before part (d.logs log) → m.synced ≤ m.count

@@ -1,18 +1,20 @@
 -- All is acknowledged that the machine counts as synced, and a sync covers all that was appended before it.
-use Rattle.std.proofs.Common.{◌≡◌, ℕ, zero, suc, ◌+◌, ◌≤◌, true, List, [], ◌∷◌, ◌++◌, length, take, refl, sym, ap, ◌∙◌, subst, arith}
+use Rattle.std.proofs.Common.{◌≡◌, ℕ, suc, ◌+◌, ◌≤◌, Bool, true, ◌&&◌, List, [], ◌∷◌, ◌++◌, length, take, refl, sym, ap, ◌∙◌, subst, arith}
+use Rattle.std.specs.Prelude.{Option}
 use Rattle.std.proofs.lemmas.Bool.{and_parts}
 use Rattle.std.proofs.lemmas.List.{append-nil, take-append-le}
 use Rattle.uc_folder.specs.declared.machine.Machine.{Machine}
 use Rattle.uc_folder.specs.declared.phases.Writer.{Writer}
 use Rattle.uc_folder.specs.declared.phases.Writer.TheVariants.{Making, Settling, Ready, Syncing, Both, Spoiled, Closing, Failed, Mending}
 use Rattle.uc_folder.specs.declared.phases.Checkpointer.{Checkpointer}
-use Rattle.uc_folder.specs.Device.{Batch, Device, upto, at, crashed}
-use Rattle.uc_folder.specs.Steps.{is_open}
-use Rattle.uc_folder.specs.Worlds.{World, IsPrefixOf, Outcome, Done, NotDone, PartDone, DoneUntold, Event, Submit, AskSync, AskNext, AskSwitch, AskCheckpoint, Writes, Makes, Syncs, Checkpoints, Crash, Restart, Reread, reread, first_of, is_beside, are_beside, happens, run, start}
-use Rattle.uc_folder.proofs.Lists.{prefix_refl, prefix_trans, prefix_under, upto_same, upto_more, at_here, at_other}
+use Rattle.uc_folder.specs.Device.{Batch, Device, upto, at, last_log, crashed}
+use Rattle.uc_folder.specs.Steps.{is_open, opened}
+use Rattle.uc_folder.specs.Worlds.{World, IsPrefixOf, Outcome, Done, NotDone, PartDone, DoneUntold, Event, Submit, AskSync, AskNext, AskSwitch, AskCheckpoint, Writes, Makes, Syncs, Checkpoints, Crash, Restart, Reread, reread, first_of, is_beside, are_beside, found, is_settled, keeps_all, begun_by, parts_read, count_read, opens, happens, run, start}
+use Rattle.uc_folder.proofs.Lists.{take_grows, prefix_refl, prefix_trans, prefix_under, upto_same, upto_more, at_here, at_other}
 use Rattle.uc_folder.proofs.Sound.{Sound}
 use Rattle.uc_folder.proofs.Holding.{Keeps}
 use Rattle.uc_folder.proofs.Opening.{j, read, j_below, upto_read}
+use Rattle.uc_folder.proofs.Reopening.{begun_log, begun_synced, opened_says}
 use Rattle.uc_folder.proofs.Changes.{reread_sound}
 use Rattle.uc_folder.proofs.Writing.{world, take_counted, take_twice}
 use Rattle.uc_folder.proofs.Adding.{marked_count}
@@ -55,6 +57,15 @@ module _ (d : Device) (m : Machine) (c : Checkpointer) (parts : ℕ → List Bat
       ∙ ap (λ l. upto parts m.log ++ l) (ap (take m.synced) (at_here m.log own parts) ∙ take_twice m.synced m.count (parts m.log) few) in
       subst (λ l. IsPrefixOf l acked) (sym same) says
 
+  -- all that is kept is acknowledged
+  renewed : Says (happens (inside Settling) (Writes Done))
+  renewed =
+      let kept = take m.count (parts m.log) in
+      let same : first_of parts m.log m.count ≡ first_of (at m.log kept parts) m.log m.count =
+      sym (ap (λ l. l ++ take m.count (at m.log kept parts m.log)) (upto_at parts m.log kept)
+      ∙ ap (λ l. upto parts m.log ++ l) (ap (take m.count) (at_here m.log kept parts) ∙ take_twice m.count m.count (parts m.log) (omega arith))) in
+      subst (λ l. IsPrefixOf l (first_of parts m.log m.count)) same (prefix_refl (first_of parts m.log m.count))
+
   -- all of the log before is acknowledged
   entered : Keeps (inside Closing) → Says (happens (inside Closing) (Writes Done))
   entered keeps =
@@ -66,7 +77,7 @@ module _ (d : Device) (m : Machine) (c : Checkpointer) (parts : ℕ → List Bat
       subst (λ l. IsPrefixOf l (first_of parts m.log m.count)) (all ∙ (here ∙ sym (append-nil (upto q next)))) (prefix_refl (first_of parts m.log m.count))
 
   says_written : (w : Writer) (o : Outcome) → Keeps (inside w) → Says (inside w) → Says (happens (inside w) (Writes o))
-  says_written Settling Done keeps says = prefix_refl (first_of parts m.log m.count)
+  says_written Settling Done keeps says = renewed
   says_written Closing Done keeps says = entered keeps
   says_written Mending Done keeps says = cut_off keeps says
   says_written Making NotDone keeps says = says
@@ -99,14 +110,26 @@ says_opened d log sure synced parts firm acked sound says =
     (prefix_trans (upto parts i) (upto parts log) acked (upto_more parts i log le)
     (prefix_trans (upto parts log) (first_of parts log synced) acked (take synced (parts log), refl) says))
 
+opens_says : (w : World) (sure : ℕ) (firm : List Batch) → Sound w.device w.machine.log sure w.parts firm → (least top : ℕ) (sealed : Bool) (keep : Option ℕ) → Says w → Says (opens least top sealed keep w)
+opens_says w sure firm sound least top sealed keep says =
+    let d = w.device in
+    let here = (d.logs (last_log d)).now in
+    let f = found d least top in
+    let quiet = sealed && (is_settled here && keeps_all keep) in
+    let count = count_read d keep in
+    let has = opened_says d w.machine.log sure w.parts firm sound keep w.acked (says_opened d w.machine.log sure w.machine.synced w.parts firm w.acked sound says) in
+    subst (λ n. IsPrefixOf (first_of (parts_read d w.parts) n (begun_by here (opened f count quiet)).synced) (opens least top sealed keep w).acked) (sym (begun_log here f count quiet))
+    (subst (λ n. IsPrefixOf (first_of (parts_read d w.parts) f.log n) (opens least top sealed keep w).acked) (sym (begun_synced here f count quiet)) has)
+
 says_happens : (w : World) (e : Event) → Keeps w → Says w → Says (happens w e)
 says_happens w (Submit b) keeps says = says_submitted w.device w.machine w.machine.checkpointer w.parts w.batch w.acked b w.machine.writer keeps says
 says_happens w (Writes o) keeps says = says_written w.device w.machine w.machine.checkpointer w.parts w.batch w.acked w.machine.writer o keeps says
 says_happens w (Syncs o) keeps says = says_synced w.device w.machine w.machine.checkpointer w.parts w.batch w.acked w.machine.writer o says
-says_happens w (Crash logs bases least top sealed) keeps says = says_opened (crashed logs bases w.device) w.machine.log keeps.sure w.machine.synced w.parts keeps.firm w.acked (crashed_sound w keeps logs bases) says
-says_happens w (Restart least top sealed) keeps says = says_opened w.device w.machine.log keeps.sure w.machine.synced w.parts keeps.firm w.acked keeps.sound says
-says_happens w (Reread keep least top sealed) keeps says =
-    says_opened (reread keep w) w.machine.log keeps.sure w.machine.synced w.parts keeps.firm w.acked (reread_sound w.device w.machine.log keeps.sure w.parts keeps.firm keeps.sound keep) says
+says_happens w (Crash logs bases least top sealed keep) keeps says =
+    opens_says (record w { device = crashed logs bases w.device }) keeps.sure keeps.firm (crashed_sound w keeps logs bases) least top sealed keep says
+says_happens w (Restart least top sealed keep) keeps says = opens_says w keeps.sure keeps.firm keeps.sound least top sealed keep says
+says_happens w (Reread left least top sealed keep) keeps says =
+    opens_says (record w { device = reread left w }) keeps.sure keeps.firm (reread_sound w.device w.machine.log keeps.sure w.parts keeps.firm keeps.sound left) least top sealed keep says
 says_happens w e keeps says = says
 
 says_run : (es : List Event) (w : World) → HasNext w → Keeps w → Says w → Says (run es w)
@@ -128,11 +151,6 @@ IsUnderWay n xs parts log w = ⊥
 
 abbrev IsUnderWayIn : ℕ → List Batch → World → Type 0
 IsUnderWayIn n xs w = IsUnderWay n xs w.parts w.machine.log w.machine.writer
-
-take_grows : (n : ℕ) (xs ys : List Batch) → IsPrefixOf (take n xs) (take n (xs ++ ys))
-take_grows zero xs ys = ([], refl)
-take_grows (suc n) [] ys = (take (suc n) ys, refl)
-take_grows (suc n) (x ∷ xs) ys = let p = take_grows n xs ys in (p.0, ap (λ l. x ∷ l) p.1)
 
 module _ (n : ℕ) (xs : List Batch) (d : Device) (m : Machine) (c : Checkpointer) (parts : ℕ → List Batch) (batch : Batch) (acked : List Batch) where
   abbrev inside' : Writer → World
@@ -202,9 +220,9 @@ way_happens n xs w (Writes o) beside is = way_written n xs w.device w.machine w.
 way_happens n xs w (Makes o) beside is = is
 way_happens n xs w (Checkpoints o) beside is = is
 way_happens n xs w (Syncs o) beside is = absurd (cc)
-way_happens n xs w (Crash logs bases least top sealed) beside is = absurd (cc)
-way_happens n xs w (Restart least top sealed) beside is = absurd (cc)
-way_happens n xs w (Reread keep least top sealed) beside is = absurd (cc)
+way_happens n xs w (Crash logs bases least top sealed keep) beside is = absurd (cc)
+way_happens n xs w (Restart least top sealed keep) beside is = absurd (cc)
+way_happens n xs w (Reread left least top sealed keep) beside is = absurd (cc)
 
 way_run : (n : ℕ) (xs : List Batch) (es : List Event) (w : World) → are_beside es ≡ true → IsUnderWayIn n xs w → IsUnderWayIn n xs (run es w)
 way_run n xs [] w beside is = is

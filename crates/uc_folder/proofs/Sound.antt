@@ -5,7 +5,7 @@ use Rattle.std.specs.List.{AllByRecursion}
 use Rattle.std.proofs.lemmas.List.{append-nil}
 use Rattle.uc_folder.specs.Device.{Batch, first_whole, are_whole, left_of, File, Entry, Device, Keep, first_number, crashed, crashed_file, crashed_name, crashed_entry, upto}
 use Rattle.uc_folder.specs.Worlds.{IsPrefixOf}
-use Rattle.uc_folder.proofs.Lists.{prefix_trans, prefix_under, prefix_of_nil, all_at, all_weaker}
+use Rattle.uc_folder.proofs.Lists.{prefix_refl, prefix_trans, prefix_under, prefix_of_nil, all_at, all_weaker}
 use Rattle.uc_folder.proofs.Records.{first_prefix, left_prefix, take_none}
 
 -- ---- the files of a name
@@ -52,10 +52,10 @@ abbrev pub IsLast : List Batch → List Batch → List Batch → Option File →
 IsLast firm before part None = IsPrefixOf firm before
 IsLast firm before part (Some f) = IsPrefixOf (first_whole (f.kept ++ f.waiting)) part × IsPrefixOf firm (before ++ first_whole f.kept)
 
--- the batches that are read of a file after each crash
-abbrev pub settled : Option File → List Batch
-settled None = []
-settled (Some f) = first_whole f.kept
+-- the batches that may be read of a file for which the name of a log stood before: none, if the log is gone
+abbrev pub spared : Option File → List Batch → List Batch
+spared None part = []
+spared (Some f) part = part
 
 -- whatever a crash leaves of a name
 abbrev pub Each : (Option File → Type 0) → Entry → Type 0
@@ -71,7 +71,7 @@ pub record Sound (d : Device) (log sure : ℕ) (parts : ℕ → List Batch) (fir
   pub reached : sure ≤ log
   pub older : (k : ℕ) → sure ≤ k → k < log → IsLog (parts k) (d.logs k).now × ((d.logs k).before ≡ [])
   pub last : IsLast firm (upto parts log) (parts log) (d.logs log).now
-  pub spare : AllByRecursion (IsLast firm (upto parts log) (settled (d.logs log).now)) (d.logs log).before
+  pub spare : AllByRecursion (IsLast firm (upto parts log) (spared (d.logs log).now (parts log))) (d.logs log).before
   pub begun : first_number < log → Each IsThere (d.logs log)
   pub later : (k : ℕ) → log < k → Each IsUnused (d.logs k)
   pub named : log ≤ d.names
@@ -125,14 +125,14 @@ pub last_weaker : (firm before part more : List Batch) → IsPrefixOf part more 
 last_weaker firm before part more le None is = is
 last_weaker firm before part more le (Some f) is = (prefix_trans (first_whole (f.kept ++ f.waiting)) part more is.0 le, is.1)
 
-pub settled_part : (firm before part : List Batch) (o : Option File) → IsLast firm before part o → IsPrefixOf (settled o) part
-settled_part firm before part None is = (part, refl)
-settled_part firm before part (Some f) is = prefix_trans (first_whole f.kept) (first_whole (f.kept ++ f.waiting)) part (first_prefix f.kept f.waiting) is.0
+pub spared_part : (part : List Batch) (o : Option File) → IsPrefixOf (spared o part) part
+spared_part part None = (part, refl)
+spared_part part (Some f) = prefix_refl part
 
 -- a file that a log may have been before may also be the log
-pub last_each : (firm before part : List Batch) (e : Entry) → IsLast firm before part e.now → AllByRecursion (IsLast firm before (settled e.now)) e.before → Each (IsLast firm before part) e
+pub last_each : (firm before part : List Batch) (e : Entry) → IsLast firm before part e.now → AllByRecursion (IsLast firm before (spared e.now part)) e.before → Each (IsLast firm before part) e
 last_each firm before part e now spare =
-    (now, all_weaker (IsLast firm before (settled e.now)) (IsLast firm before part) (last_weaker firm before (settled e.now) part (settled_part firm before part e.now now)) e.before spare)
+    (now, all_weaker (IsLast firm before (spared e.now part)) (IsLast firm before part) (last_weaker firm before (spared e.now part) part (spared_part part e.now)) e.before spare)
 
 older_crashed : (part : List Batch) (keep : Keep) (e : Entry) → IsLog part e.now × (e.before ≡ []) → IsLog part (crashed_entry keep e).now × ((crashed_entry keep e).before ≡ [])
 older_crashed part keep e is = ((each_crashed (IsLog part) (log_crashed part) keep e (is.0, subst (AllByRecursion (IsLog part)) (sym is.1) tt)).0, refl)

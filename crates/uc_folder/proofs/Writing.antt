@@ -13,7 +13,7 @@ use Rattle.uc_folder.specs.Device.{Batch, first_whole, File, Entry, Device, firs
 use Rattle.uc_folder.specs.Worlds.{World, IsPrefixOf, first_of}
 use Rattle.uc_folder.proofs.Lists.{prefix_refl, prefix_trans, prefix_take, prefix_of_nil, upto_same, at_here}
 use Rattle.uc_folder.proofs.Records.{first_take}
-use Rattle.uc_folder.proofs.Sound.{Sound, IsWhole, IsThere, IsLast, settled, Each}
+use Rattle.uc_folder.proofs.Sound.{Sound, IsWhole, IsThere, IsLast, spared, Each}
 use Rattle.uc_folder.proofs.Holding.{IsRead, IsOpen, IsCopy, IsAppended, IsMendable, FitsWriter, Attempt, FitsCheckpointer, Keeps}
 use Rattle.uc_folder.proofs.Opening.{whole_content}
 use Rattle.uc_folder.proofs.Changes.{parts_grow, entry_sound}
@@ -124,14 +124,14 @@ mendable_answered count synced firm before part batch e front all is =
 pub answered_in : (d : Device) (log count synced base : ℕ) (firm before part : List Batch) (batch : Batch) (w : Writer) → FitsWriter d log count synced base firm before part batch w → IsPrefixOf (take count part) (content (d.logs log).now)
 answered_in d log count synced base firm before part batch Making fits = none_answered count part (content (d.logs log).now) fits.1
 answered_in d log count synced base firm before part batch Founding fits = none_answered count part (content (d.logs log).now) fits.1
-answered_in d log count synced base firm before part batch (Naming top sealed) fits = read_answered count part (d.logs log).now fits.0
-answered_in d log count synced base firm before part batch (Clearing k top sealed) fits = read_answered count part (d.logs log).now fits.0.0
-answered_in d log count synced base firm before part batch SettingAside fits = read_answered count part (d.logs log).now fits.0
-answered_in d log count synced base firm before part batch Copying fits = read_answered count part (d.logs log).now fits.0
-answered_in d log count synced base firm before part batch SealingCopy fits = read_answered count part (d.logs log).now fits.0.0
-answered_in d log count synced base firm before part batch Replacing fits = read_answered count part (d.logs log).now fits.0.0
+answered_in d log count synced base firm before part batch (Naming top sealed) fits = absurd fits
+answered_in d log count synced base firm before part batch (Clearing k top sealed) fits = read_answered count part (d.logs log).now fits.0.read
+answered_in d log count synced base firm before part batch SettingAside fits = read_answered count part (d.logs log).now fits.read
+answered_in d log count synced base firm before part batch Copying fits = read_answered count part (d.logs log).now fits.read
+answered_in d log count synced base firm before part batch SealingCopy fits = read_answered count part (d.logs log).now fits.0.read
+answered_in d log count synced base firm before part batch Replacing fits = read_answered count part (d.logs log).now fits.0.read
 answered_in d log count synced base firm before part batch Settling fits =
-    subst (IsPrefixOf (take count part)) (sym (ap content fits.1 ∙ whole_content part fits.0 fits.2)) (prefix_take count part)
+    subst (IsPrefixOf (take count part)) (sym (ap content fits.now ∙ whole_content (take count part) fits.file fits.is)) (prefix_refl (take count part))
 answered_in d log count synced base firm before part batch Ready fits = open_answered count count synced firm before part (d.logs log) fits
 answered_in d log count synced base firm before part batch Appending fits = appended_answered count synced firm before part batch (d.logs log) fits
 answered_in d log count synced base firm before part batch Mending fits = mendable_answered count synced firm before part batch (d.logs log) fits.0 fits.1 fits.2
@@ -182,7 +182,7 @@ module _ (d : Device) (m : Machine) (c : Checkpointer) (parts : ℕ → List Bat
   abbrev pub with_entry : Entry → ℕ → Device
   with_entry e top = record { logs = at m.log e d.logs; bases = d.bases; copy = d.copy; partial = d.partial; names = top }
 
-  pub edited : (count synced : ℕ) (w v : Writer) (e : Entry) (top : ℕ) (keeps : Keeps (inside w)) → m.log ≤ top → IsLast keeps.firm (upto parts m.log) (parts m.log) e.now → AllByRecursion (IsLast keeps.firm (upto parts m.log) (settled e.now)) e.before → (first_number < m.log → Each IsThere e) →
+  pub edited : (count synced : ℕ) (w v : Writer) (e : Entry) (top : ℕ) (keeps : Keeps (inside w)) → m.log ≤ top → IsLast keeps.firm (upto parts m.log) (parts m.log) e.now → AllByRecursion (IsLast keeps.firm (upto parts m.log) (spared e.now (parts m.log))) e.before → (first_number < m.log → Each IsThere e) →
       FitsWriter (with_entry e top) m.log count synced m.base keeps.firm (upto parts m.log) (parts m.log) batch v → Keeps (world (with_entry e top) (record m { count = count; synced = synced }) v c parts batch acked)
   edited count synced w v e top keeps le last spare begun fits =
       stepped (with_entry e top) count synced w v refl (λ k. refl) keeps (entry_sound d m.log keeps.sure parts keeps.firm keeps.sound e top le last spare begun) fits
@@ -196,7 +196,7 @@ module _ (d : Device) (m : Machine) (c : Checkpointer) (parts : ℕ → List Bat
   filed count synced w v change f is named keeps last fits =
       edited count synced w v (changed change (d.logs m.log)) d.names keeps keeps.sound.named
       (subst (IsLast keeps.firm (upto parts m.log) (parts m.log)) (sym (ap (changed_name change) is)) last)
-      (subst (AllByRecursion (IsLast keeps.firm (upto parts m.log) (settled (changed_name change (d.logs m.log).now)))) (sym named) tt)
+      (subst (AllByRecursion (IsLast keeps.firm (upto parts m.log) (spared (changed_name change (d.logs m.log).now) (parts m.log)))) (sym named) tt)
       (λ lt. (subst IsThere (sym (ap (changed_name change) is)) tt, (keeps.sound.begun lt).1)) fits
 
   pub last_of : (w : Writer) (f : File) → (d.logs m.log).now ≡ Some f → (keeps : Keeps (inside w)) → IsPrefixOf (first_whole (f.kept ++ f.waiting)) (parts m.log) × IsPrefixOf keeps.firm (upto parts m.log ++ first_whole f.kept)

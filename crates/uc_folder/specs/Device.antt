@@ -199,9 +199,9 @@ suspected f = record f { suspect = true }
 abbrev pub sealed : File → File
 sealed f = record f { kept = f.kept ++ f.waiting; waiting = [] }
 
--- a new file with the readable contents of another one
-abbrev pub copied : Option File → File
-copied o = record { kept = []; waiting = whole_part (records_of o); suspect = false; past = 0 }
+-- a new file with the first records of another one that can be read
+abbrev pub copied : ℕ → Option File → File
+copied n o = record { kept = []; waiting = take n (whole_part (records_of o)); suspect = false; past = 0 }
 
 -- the records of rows
 abbrev pub rows_of : List Batch → List Record

@@ -149,7 +149,7 @@ step_of (SyncLog n count) = record { number = n; count = count; kind = 3 }
 step_of (CutLog n count) = record { number = n; count = count; kind = 4 }
 step_of SyncNames = record { number = 0; count = 0; kind = 5 }
 step_of (SetAside n) = record { number = n; count = 0; kind = 6 }
-step_of (CopyLog n) = record { number = n; count = 0; kind = 7 }
+step_of (CopyLog n count) = record { number = n; count = count; kind = 7 }
 step_of SyncCopy = record { number = 0; count = 0; kind = 8 }
 step_of (NameCopy n) = record { number = n; count = 0; kind = 9 }
 step_of (WriteBase n past) = record { number = n; count = past; kind = 10 }

@@ -19,7 +19,7 @@ next_write Founding log count synced = SyncNames
 next_write (Naming top sealed) log count synced = SyncNames
 next_write (Clearing k top sealed) log count synced = RemoveLog k
 next_write SettingAside log count synced = SetAside log
-next_write Copying log count synced = CopyLog log
+next_write Copying log count synced = CopyLog log count
 next_write SealingCopy log count synced = SyncCopy
 next_write Replacing log count synced = NameCopy log
 next_write Settling log count synced = SyncNames
@@ -248,7 +248,7 @@ checkpointing c may n new = c
 
 -- ---- an opening
 
--- the machine of the files that opening found, and of a number of batches in the current log, which may be sealed
+-- the machine of the files that opening found, and of the number of batches that are kept of the current log, which may be sealed
 abbrev pub opened : Found → ℕ → Bool → Machine
 opened f count sealed = record {
   log = f.log;

@@ -1,5 +1,5 @@
 -- The machine and the device together, for every list of events.
-use Rattle.std.specs.Prelude.{not, take, min, length, ◌≡◌, ℕ, ◌+◌, ◌≤◌, ◌<◌, Bool, true, false, ◌&&◌, List, [], ◌∷◌, ◌++◌, Option, Some, None, nat_lt, if◌then◌else◌}
+use Rattle.std.specs.Prelude.{not, take, min, max, length, ◌≡◌, ℕ, ◌+◌, ◌≤◌, ◌<◌, Bool, true, false, ◌&&◌, List, [], ◌∷◌, ◌++◌, Option, Some, None, nat_lt, if◌then◌else◌}
 use Rattle.uc_folder.specs.Device.{Batch, Record, Whole, Torn, File, Device, Keep, first_number, crashed, crashed_file, empty_file, appended, synced, cut, suspected, sealed, copied, rows_of, at, change_log, name_log, name_base, sync_names, write_copy, write_partial, records_of, content, are_whole, are_damaged, is_there, past_of, newest_base, last_log, upto}
 use Rattle.uc_folder.specs.declared.machine.Machine.{Machine}
 use Rattle.uc_folder.specs.declared.listing.Found.{Found}
@@ -51,7 +51,7 @@ carried_out batch parts d (SyncLog k n) = change_log k (synced n) d
 carried_out batch parts d (CutLog k n) = change_log k (cut n) d
 carried_out batch parts d SyncNames = sync_names d
 carried_out batch parts d (SetAside k) = d
-carried_out batch parts d (CopyLog k) = write_copy (copied (d.logs k).now) d
+carried_out batch parts d (CopyLog k n) = write_copy (copied n (d.logs k).now) d
 carried_out batch parts d SyncCopy = write_copy (sealed d.copy) d
 carried_out batch parts d (NameCopy k) = name_log k (Some d.copy) d
 carried_out batch parts d (WriteBase n past) = write_partial (record { kept = []; waiting = rows_of (first_of parts n past); suspect = false; past = past }) d
@@ -104,12 +104,12 @@ pub data Event : Type 0 where
   -- the checkpointer's next operation is executed
   Checkpoints : Outcome → Event
   -- The machine crashes, and the directory is opened again: the listing has the least number, and the greatest of a log. The
-  -- current log may be called sealed.
-  Crash : (ℕ → Keep) → (ℕ → Keep) → ℕ → ℕ → Bool → Event
+  -- current log may be called sealed. And some of its batches may be given up: then as many are kept as given.
+  Crash : (ℕ → Keep) → (ℕ → Keep) → ℕ → ℕ → Bool → Option ℕ → Event
   -- the process ends, and the directory is opened again as it can be read
-  Restart : ℕ → ℕ → Bool → Event
+  Restart : ℕ → ℕ → Bool → Option ℕ → Event
   -- the same, where only the durable part of the current log can be read
-  Reread : Keep → ℕ → ℕ → Bool → Event
+  Reread : Keep → ℕ → ℕ → Bool → Option ℕ → Event
 
 -- a batch is taken if the writer may append one
 abbrev pub parts_with : Writer → ℕ → Batch → (ℕ → List Batch) → ℕ → List Batch
@@ -122,9 +122,11 @@ batch_with Ready b old = b
 batch_with (Syncing n) b old = b
 batch_with w b old = old
 
--- A batch that was cut off isn't submitted any more: it failed. And nothing was submitted for the log that is entered.
+-- A batch that was cut off isn't submitted any more: it failed. Nor are those that were given up, once that is done. And nothing
+-- was submitted for the log that is entered.
 abbrev pub parts_after : Writer → Bool → ℕ → ℕ → (ℕ → List Batch) → ℕ → List Batch
 parts_after Mending true log count parts = at log (take count (parts log)) parts
+parts_after Settling true log count parts = at log (take count (parts log)) parts
 parts_after Closing true log count parts = at (log + 1) [] parts
 parts_after w done log count parts = parts
 
@@ -163,14 +165,46 @@ abbrev pub is_settled : Option File → Bool
 is_settled None = false
 is_settled (Some f) = are_whole f.kept && (are_none f.waiting && not f.suspect)
 
+-- The number of batches that are kept of the current log: all, or as many as given, and at least those that a base has.
+abbrev pub kept_of : Option ℕ → ℕ → ℕ → ℕ
+kept_of None past count = count
+kept_of (Some keep) past count = min (max past keep) count
+
+abbrev pub keeps_all : Option ℕ → Bool
+keeps_all None = true
+keeps_all (Some keep) = false
+
+-- batches that are given up are acknowledged no longer
+abbrev pub acked_of : Option ℕ → List Batch → List Batch → List Batch
+acked_of None kept acked = acked
+acked_of (Some keep) kept acked = take (length kept) acked
+
+-- The names that opening read are durable before anything else is done: the machine asks for that first, and the event is in the list
+-- where it succeeds. If it fails, nothing was opened. In a directory without a log it isn't asked for.
+abbrev pub names_read : Option File → Device → Device
+names_read None d = d
+names_read (Some f) d = sync_names d
+
+abbrev pub begun_by : Option File → Machine → Machine
+begun_by None m = m
+begun_by (Some f) m = told_write m true
+
+abbrev pub parts_read : Device → (ℕ → List Batch) → ℕ → List Batch
+parts_read d parts k = if nat_lt k (newest_base d) then parts k else content (d.logs k).now
+
+-- the number of batches that are kept of the current log
+abbrev pub count_read : Device → Option ℕ → ℕ
+count_read d keep = kept_of keep (past_of (d.bases (last_log d)).now) (length (content (d.logs (last_log d)).now))
+
 -- the directory is opened: from then on the batches that were read are those that were submitted
-abbrev pub opens : ℕ → ℕ → Bool → World → World
-opens least top sealed w = record {
-  device = w.device;
-  machine = opened (found w.device least top) (length (content (w.device.logs (last_log w.device)).now)) (sealed && is_settled (w.device.logs (last_log w.device)).now);
-  parts = λ k. if nat_lt k (newest_base w.device) then w.parts k else content (w.device.logs k).now;
+abbrev pub opens : ℕ → ℕ → Bool → Option ℕ → World → World
+opens least top sealed keep w = record {
+  device = names_read (w.device.logs (last_log w.device)).now w.device;
+  machine = begun_by (w.device.logs (last_log w.device)).now
+      (opened (found w.device least top) (count_read w.device keep) (sealed && (is_settled (w.device.logs (last_log w.device)).now && keeps_all keep)));
+  parts = parts_read w.device w.parts;
   batch = w.batch;
-  acked = w.acked;
+  acked = acked_of keep (first_of (parts_read w.device w.parts) (last_log w.device) (count_read w.device keep)) w.acked;
 }
 
 -- the directory, where only this part of the current log is durable
@@ -211,9 +245,9 @@ happens w (Checkpoints outcome) = record w {
   device = device_after outcome w.batch w.parts w.device (next_checkpoint w.machine.checkpointer);
   machine = told_checkpoint w.machine (is_done outcome);
 }
-happens w (Crash logs bases least top sealed) = opens least top sealed (record w { device = crashed logs bases w.device })
-happens w (Restart least top sealed) = opens least top sealed w
-happens w (Reread keep least top sealed) = opens least top sealed (record w { device = reread keep w })
+happens w (Crash logs bases least top sealed keep) = opens least top sealed keep (record w { device = crashed logs bases w.device })
+happens w (Restart least top sealed keep) = opens least top sealed keep w
+happens w (Reread left least top sealed keep) = opens least top sealed keep (record w { device = reread left w })
 
 -- an empty directory, which is opened
 abbrev pub new_device : Device
@@ -247,14 +281,34 @@ pub record IsReadable (d : Device) : Type 0 where
 -- an event that may happen during a sync of the log: neither that ends nor the process
 abbrev pub is_beside : Event → Bool
 is_beside (Syncs o) = false
-is_beside (Crash logs bases least top sealed) = false
-is_beside (Restart least top sealed) = false
-is_beside (Reread keep least top sealed) = false
+is_beside (Crash logs bases least top sealed keep) = false
+is_beside (Restart least top sealed keep) = false
+is_beside (Reread left least top sealed keep) = false
 is_beside e = true
 
 abbrev pub are_beside : List Event → Bool
 are_beside [] = true
 are_beside (e ∷ es) = is_beside e && are_beside es
+
+-- an event that gives no batch up
+abbrev pub keeps_batches : Event → Bool
+keeps_batches (Crash logs bases least top sealed keep) = keeps_all keep
+keeps_batches (Restart least top sealed keep) = keeps_all keep
+keeps_batches (Reread left least top sealed keep) = keeps_all keep
+keeps_batches e = true
+
+abbrev pub all_keep : List Event → Bool
+all_keep [] = true
+all_keep (e ∷ es) = keeps_batches e && all_keep es
+
+-- only these batches are submitted, and all are acknowledged
+abbrev pub IsDone : List Batch → World → Type 0
+IsDone xs w = (submitted w ≡ xs) × (w.acked ≡ xs)
+
+-- the writer's operations alone
+abbrev pub writes : List Outcome → List Event
+writes [] = []
+writes (o ∷ os) = Writes o ∷ writes os
 
 -- One course: three batches in two logs, all synced, and a base that has the first log and one batch of the second. The first log is
 -- removed.
@@ -265,3 +319,13 @@ base_within_a_log a b c =
     Submit b ∷ Writes Done ∷ AskSync ∷ Submit c ∷ Writes Done ∷ Syncs Done ∷
     AskNext ∷ Makes Done ∷ Makes Done ∷ AskSwitch ∷ Writes Done ∷
     AskCheckpoint 2 1 ∷ Checkpoints Done ∷ Checkpoints Done ∷ Checkpoints Done ∷ Checkpoints Done ∷ Checkpoints Done ∷ Checkpoints Done ∷ []
+
+-- Another one: two batches in two logs, and the directory is opened twice. First all batches of the second log are given up, and then
+-- that is removed.
+abbrev pub batch_given_up : Batch → Batch → List Event
+batch_given_up a b =
+    Writes Done ∷ Writes Done ∷
+    Submit a ∷ AskNext ∷ Makes Done ∷ Writes Done ∷ Makes Done ∷ AskSwitch ∷ Writes Done ∷
+    Submit b ∷ Writes Done ∷ AskSync ∷ Syncs Done ∷
+    Restart 1 2 false (Some 0) ∷ Writes Done ∷ Writes Done ∷ Writes Done ∷ Writes Done ∷ Writes Done ∷
+    Restart 1 2 false None ∷ Writes Done ∷ []

@@ -17,8 +17,8 @@ pub enum Action {
     SyncNames,
     /// Keeps the bytes after the batches of a log that are read, in a file that nothing reads.
     SetAside(u64),
-    /// Writes the batches of a log that are read to a new file with a temporary name.
-    CopyLog(u64),
+    /// Writes the first batches of a log, as many as given, to a new file with a temporary name.
+    CopyLog(u64, u64),
     /// Syncs that file.
     SyncCopy,
     /// Gives it the name of the log of a number.

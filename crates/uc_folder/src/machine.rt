@@ -30,7 +30,7 @@ use crate::phases::{Checkpointer, NextLog, Writer};
 pub struct Machine {
     /// The number of the log that is written.
     pub log: u64,
-    /// The number of batches that it has.
+    /// The number of batches that it has; in an opening, of those that are kept.
     pub count: u64,
     /// The number of these that may be acknowledged as synced. All batches of older logs may.
     pub synced: u64,
@@ -51,8 +51,9 @@ pub struct Machine {
 }
 
 impl Machine {
-    /// The machine of a folder in which an opening found some files, and the number of batches that it read of the log that goes on. That
-    /// is sealed if all that was read of it is on the device, as a closed log says: then it isn't copied.
+    /// The machine of a folder in which an opening found some files, and the number of batches that are kept of the log that goes on. Those
+    /// after them are given up: the newest base has none of these. The log is sealed if all of it is kept, and is on the device, as a
+    /// closed log says: then it isn't copied.
     pub fn open(found: Found, count: u64, is_sealed: bool) -> Machine
         ensures { result ≡ opened found count is_sealed }
     {
@@ -83,7 +84,7 @@ impl Machine {
             Writer::Founding | Writer::Naming(_, _) | Writer::Settling => Action::SyncNames,
             Writer::Clearing(number, _, _) => Action::RemoveLog(number),
             Writer::SettingAside => Action::SetAside(self.log),
-            Writer::Copying => Action::CopyLog(self.log),
+            Writer::Copying => Action::CopyLog(self.log, self.count),
             Writer::SealingCopy => Action::SyncCopy,
             Writer::Replacing => Action::NameCopy(self.log),
             Writer::Appending | Writer::Both(_) => Action::Append(self.log, self.synced),

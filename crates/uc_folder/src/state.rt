@@ -289,7 +289,7 @@ impl Step {
             Action::CutLog(number, count) => (4, number, count),
             Action::SyncNames => (5, 0, 0),
             Action::SetAside(number) => (6, number, 0),
-            Action::CopyLog(number) => (7, number, 0),
+            Action::CopyLog(number, count) => (7, number, count),
             Action::SyncCopy => (8, 0, 0),
             Action::NameCopy(number) => (9, number, 0),
             Action::WriteBase(number, past) => (10, number, past),

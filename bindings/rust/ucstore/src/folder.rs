@@ -58,8 +58,8 @@ pub enum FolderAction {
     SyncNames,
     /// Keeps the bytes after the batches of a log in a file that nothing reads.
     SetAside(u64),
-    /// Writes the batches of a log that are read to a new file with a temporary name.
-    CopyLog(u64),
+    /// Writes the first batches of a log, as many as given, to a new file with a temporary name.
+    CopyLog(u64, u64),
     /// Syncs that file.
     SyncCopy,
     /// Renames it to the log of a number.
@@ -82,8 +82,8 @@ pub enum FolderAction {
 pub struct FolderMachine(sys::ucstore_folder_state);
 
 impl FolderMachine {
-    /// The machine of a folder in which some files were found, and the number of batches in the log that goes on. That is sealed if all of
-    /// them are durable: then it isn't copied.
+    /// The machine of a folder in which some files were found. Of the log that goes on it keeps a number of batches, no fewer than a base
+    /// has, and gives up those after them. That log is sealed if all of it is kept and durable: then it isn't copied.
     pub fn open(files: &FolderFiles, count: u64, is_sealed: bool) -> FolderMachine {
         let found = sys::ucstore_folder_found {
             base: files.base,
@@ -198,7 +198,7 @@ impl FolderMachine {
             4 => FolderAction::CutLog(number, count),
             5 => FolderAction::SyncNames,
             6 => FolderAction::SetAside(number),
-            7 => FolderAction::CopyLog(number),
+            7 => FolderAction::CopyLog(number, count),
             8 => FolderAction::SyncCopy,
             9 => FolderAction::NameCopy(number),
             10 => FolderAction::WriteBase(number, count),

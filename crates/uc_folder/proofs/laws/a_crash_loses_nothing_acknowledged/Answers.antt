@@ -13,8 +13,8 @@ pub returns-clause-acknowledged : goal.returns-clause-acknowledged
 returns-clause-acknowledged c = λ events logs bases. crash_acked events logs bases
 
 pub returns-clause-goes_on : goal.returns-clause-goes_on
-returns-clause-goes_on c = λ events logs bases least top sealed. crash_reads events logs bases least top sealed
+returns-clause-goes_on c = λ events logs bases least top sealed keep. crash_reads events logs bases least top sealed keep
 
 pub returns-clause-stays : goal.returns-clause-stays
-returns-clause-stays c = λ events later.
-    subst (λ (w : World). IsPrefixOf (run events start).acked w.acked) (sym (run_more events later start)) (run_acked later (run events start) (always_next events) (always_keeps events))
+returns-clause-stays c = λ events later all.
+    subst (λ (w : World). IsPrefixOf (run events start).acked w.acked) (sym (run_more events later start)) (run_acked later (run events start) all (always_next events) (always_keeps events))

@@ -11,4 +11,4 @@ pub returns-clause-acknowledged : goal.returns-clause-acknowledged
 returns-clause-acknowledged c = λ events keep. reread_acked events keep
 
 pub returns-clause-goes_on : goal.returns-clause-goes_on
-returns-clause-goes_on c = λ events keep least top sealed. reread_reads events keep least top sealed
+returns-clause-goes_on c = λ events left least top sealed keep. reread_reads events left least top sealed keep

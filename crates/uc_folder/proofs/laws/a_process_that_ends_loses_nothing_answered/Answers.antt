@@ -14,4 +14,4 @@ pub returns-clause-acknowledged : goal.returns-clause-acknowledged
 returns-clause-acknowledged c = λ events. restart_acked events
 
 pub returns-clause-goes_on : goal.returns-clause-goes_on
-returns-clause-goes_on c = λ events least top sealed. restart_reads events least top sealed
+returns-clause-goes_on c = λ events least top sealed keep. restart_reads events least top sealed keep
