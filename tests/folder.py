@@ -25,12 +25,14 @@ Records = Tuple[Optional[Record], ...]
 
 @dataclass(frozen=True)
 class File:
-    """Records that are on the device, and those that wait for a sync. A sync of a suspect file has failed: no later one does anything."""
+    """Records that are on the device, and those that wait for a sync. A sync of a suspect file has failed: no later one does anything.
+    If that was the sync of a cut, the records that are lost can't be read, but a crash may bring them back."""
 
     kept: Records = ()
     waiting: Records = ()
     suspect: bool = False
     past: int = 0
+    lost: Records = ()
 
     @property
     def records(self) -> Records:
@@ -117,6 +119,7 @@ PLANTS = (
     "a log of which batches are given up isn't copied",
     "batches that a base has are given up",
     "batches that are given up stay acknowledged",
+    "records that are lost are forgotten",
 )
 planted = ""
 
@@ -218,6 +221,14 @@ def cut(file: File, count: int) -> File:
     return replace(file, kept=file.records[:most], waiting=())
 
 
+def half_cut(file: File, count: int) -> File:
+    """A file that keeps a number of records, where only the sync has failed. If it keeps none, that is so on the device too: the premise."""
+    most = max(count, len(file.kept))
+    if file.suspect or most == 0:
+        return replace(cut(file, count), suspect=True)
+    return replace(file, waiting=file.records[len(file.kept):most], lost=file.records[most:], suspect=True)
+
+
 def change_log(device: Device, number: int, change: Callable[[File], File]) -> Device:
     old = entry(device.logs, number)
     if old.now is None:
@@ -272,6 +283,8 @@ def device_after(world: World, action: Tuple, outcome: str) -> Device:
         return device
     if action[0] == "append" and outcome == PART_DONE:
         return change_log(device, action[1], lambda file: appended(file, TORN))
+    if action[0] == "cut log" and outcome == DONE_UNTOLD:
+        return change_log(world.device, action[1], lambda file: half_cut(file, action[2]))
     if action[0] in ("sync log", "cut log"):
         return change_log(device, action[1], lambda file: replace(file, suspect=True))
     return device
@@ -284,9 +297,10 @@ def crashed_file(file: Optional[File], draw: random.Random) -> Optional[File]:
     """A file after a crash: of the records that wait any ones are there, whole, and others may be torn."""
     if file is None:
         return None
-    length = draw.choice((0, len(file.waiting), draw.randint(0, len(file.waiting))))
+    waiting = file.waiting + file.lost
+    length = draw.choice((0, len(waiting), draw.randint(0, len(waiting))))
     likely = draw.choice((0, 0.5, 1)) if length > 0 else 0
-    left = tuple(record if draw.random() < likely else TORN for record in file.waiting[:length])
+    left = tuple(record if draw.random() < likely else TORN for record in waiting[:length])
     return File(file.kept + left, past=file.past)
 
 
@@ -454,11 +468,11 @@ def checkpoints(world: World, outcome: str) -> World:
 
 def is_sealed(file: Optional[File]) -> bool:
     """Whether nothing of a log waits: a record that was written when it was closed may say so."""
-    return file is not None and TORN not in file.kept and file.waiting == () and not file.suspect
+    return file is not None and TORN not in file.kept and file.waiting == () and file.lost == () and not file.suspect
 
 
 def opens(world: World, says: bool = False, keep: Optional[int] = None) -> World:
-    """The folder is opened: from then on what was read is what was submitted. It may be said that the log is sealed; and some batches of the
+    """The folder is opened: from then on what was read is what was submitted; of a log of which records are lost, once that is renewed. It may be said that the log is sealed; and some batches of the
     log may be given up, if as many are kept as given.
 
     The names are synced before they are read. If that fails, nothing was opened.
@@ -467,6 +481,8 @@ def opens(world: World, says: bool = False, keep: Optional[int] = None) -> World
     parts = {number: part(world, number) if number < base else content(entry(device.logs, number).now) for number in range(max(log, world.log) + 1)}
     file, top = entry(device.bases, base).now, max([log] + [number for number, entry in device.logs.items() if entry.now is not None])
     here, own = entry(device.logs, log).now, entry(device.bases, log).now
+    if here is not None and here.lost != () and not is_planted("records that are lost are forgotten"):
+        parts[log] = part(world, log)
     count = len(content(here))
     sealed = says and (is_sealed(here) or is_planted("a log that isn't sealed is taken for sealed"))
     if here is not None and not is_planted("an opening reads before names are synced"):

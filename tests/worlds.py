@@ -4,7 +4,7 @@
     tests/worlds.py
 
 A walk draws events: batches, syncs, switches of the log and checkpoints are asked for, operations are done, fail, or are half done,
-processes end, machines crash. After each event come crashes that keep any part of what wasn't synced, and each one is opened. What is
+processes end, machines crash, openings give batches up. After each event come crashes that keep any part of what wasn't synced, and each one is opened. What is
 found has to be a beginning of what was submitted, with all that was acknowledged, and without damage; and the machine has to go on from
 there. These are the laws of crates/uc_folder.
 
@@ -30,6 +30,12 @@ from folder import (  # noqa: E402
 WALKS, MOST_WALKS, CRASHES = 200, 400, 3
 
 
+def goes_on(world: World, read: Tuple[int, ...]) -> bool:
+    """Whether an opening keeps what was read, and takes it for what was submitted, unless a crash may bring back what couldn't be cut off."""
+    here = entry(world.device.logs, world.log).now
+    return confirmed(world, world.count) == read and (submitted(world) == read or here is not None and here.lost != ())
+
+
 def broken(world: World, draw: random.Random) -> Optional[str]:
     """Which law a crash breaks now, or the end of the process; none if all hold."""
     told = submitted(world)
@@ -41,7 +47,7 @@ def broken(world: World, draw: random.Random) -> Optional[str]:
             "older": read[: len(upto(world, world.log))] == upto(world, world.log),
             "readable": is_readable(device),
             "damage": not any(is_damaged(entry.now) for entry in device.logs.values()),
-            "goes on": submitted(opens(replace(world, device=device))) == read,
+            "goes on": goes_on(opens(replace(world, device=device)), read),
         }
         if device is world.device:
             answered = confirmed(world, world.count)
@@ -79,8 +85,10 @@ def asked(world: World, draw: random.Random) -> World:
 
 def step(world: World, draw: random.Random) -> World:
     """The world after one event."""
-    kind, outcome = draw.random(), draw.choices((DONE, NOT_DONE, PART_DONE, DONE_UNTOLD), (12, 1, 1, 1))[0]
     phase, is_idle = world.writer[0], world.checkpointer == ("idle",)
+    # A cut of which only the sync fails matters most.
+    likely = (2, 1, 1, 4) if phase == "mending" else (12, 1, 1, 1)
+    kind, outcome = draw.random(), draw.choices((DONE, NOT_DONE, PART_DONE, DONE_UNTOLD), likely)[0]
     if kind < 0.015 or phase == "failed":
         return draw.choice((opens_after_a_crash, opens_after_a_drop, ends))(world, draw)
     if kind < 0.03:

@@ -1,9 +1,9 @@
 -- Each operation leaves a folder that a crash may take.
-use Rattle.std.proofs.Common.{◌≡◌, ℕ, suc, ◌<◌, ◌≤◌, ◌⊎◌, inl, inr, ⊎_elim, List, [], ◌++◌, refl, sym, ◌∙◌, subst, arith}
+use Rattle.std.proofs.Common.{◌≡◌, ℕ, suc, ◌<◌, ◌≤◌, true, false, ◌⊎◌, inl, inr, ⊎_elim, List, [], ◌++◌, refl, sym, ◌∙◌, subst, arith}
 use Rattle.std.specs.Prelude.{Option, Some, None}
 use Rattle.std.specs.List.{AllByRecursion}
 use Rattle.std.proofs.lemmas.Bool.{cases_eq, cases_lt}
-use Rattle.uc_folder.specs.Device.{Batch, first_whole, File, Entry, Device, Keep, first_number, upto, at, changed, changed_name, change_log, crashed_file, stands_for, name_log, name_base, sync_names}
+use Rattle.uc_folder.specs.Device.{Batch, is_cut, is_used, first_whole, File, Entry, Device, Keep, first_number, upto, at, changed, changed_name, change_log, crashed_file, stands_for, name_log, name_base, sync_names}
 use Rattle.uc_folder.specs.Worlds.{IsPrefixOf}
 use Rattle.uc_folder.proofs.Lists.{prefix_refl, prefix_trans, prefix_onto, upto_same, at_all, at_here, at_other, all_weaker, prefix_cancel}
 use Rattle.uc_folder.proofs.Sound.{IsWhole, IsBaseFile, IsBase, IsThere, IsGone, IsLog, IsUnused, IsLast, spared, Each, Sound, last_crashed}
@@ -36,9 +36,9 @@ parts_grow p q log same more k le =
 module _ (d : Device) (log sure : ℕ) (parts : ℕ → List Batch) (firm : List Batch) (sound : Sound d log sure parts firm) where
   -- ---- the log that is written
 
-  pub entry_sound : (e : Entry) (top : ℕ) → log ≤ top → IsLast firm (upto parts log) (parts log) e.now → AllByRecursion (IsLast firm (upto parts log) (spared e.now (parts log))) e.before → (first_number < log → Each IsThere e) →
+  pub entry_sound : (e : Entry) (top : ℕ) → log ≤ top → IsLast firm (upto parts log) (parts log) e.now → AllByRecursion (IsLast firm (upto parts log) (spared e.now (parts log))) e.before → (first_number < log → Each IsThere e) → (is_cut e.now ≡ true → is_used e.now ≡ true) →
       Sound (record { logs = at log e d.logs; bases = d.bases; copy = d.copy; partial = d.partial; names = top }) log sure parts firm
-  entry_sound e top le last spare begun = record {
+  entry_sound e top le last spare begun cut = record {
     bases = sound.bases;
     newer = sound.newer;
     there = sound.there;
@@ -48,6 +48,7 @@ module _ (d : Device) (log sure : ℕ) (parts : ℕ → List Batch) (firm : List
     last = subst (λ (x : Entry). IsLast firm (upto parts log) (parts log) x.now) (sym (at_here log e d.logs)) last;
     spare = subst (λ (x : Entry). AllByRecursion (IsLast firm (upto parts log) (spared x.now (parts log))) x.before) (sym (at_here log e d.logs)) spare;
     begun = λ lt. subst (Each IsThere) (sym (at_here log e d.logs)) (begun lt);
+    cut = subst (λ (x : Entry). is_cut x.now ≡ true → is_used x.now ≡ true) (sym (at_here log e d.logs)) cut;
     later = λ k lt. subst (Each IsUnused) (sym (at_other log e d.logs k (omega (arith, lt)))) (sound.later k lt);
     named = le;
     stands = sound.stands;
@@ -60,7 +61,12 @@ module _ (d : Device) (log sure : ℕ) (parts : ℕ → List Batch) (firm : List
       entry_sound (changed (crashed_file keep) (d.logs log)) d.names sound.named (now keep (d.logs log).now sound.last)
       (subst (λ own. AllByRecursion (IsLast firm (upto parts log) own) (d.logs log).before) (same keep (d.logs log).now) sound.spare)
       (λ lt. (there keep (d.logs log).now (sound.begun lt).0, (sound.begun lt).1))
+      (λ c. absurd (let x : true ≡ false = sym c ∙ whole keep (d.logs log).now in cc))
     where
+      whole : (keep : Keep) (o : Option File) → is_cut (changed_name (crashed_file keep) o) ≡ false
+      whole keep None = refl
+      whole keep (Some f) = refl
+
       now : (keep : Keep) (o : Option File) → IsLast firm (upto parts log) (parts log) o → IsLast firm (upto parts log) (parts log) (changed_name (crashed_file keep) o)
       now keep None is = is
       now keep (Some f) is = last_crashed firm (upto parts log) (parts log) keep (Some f) is
@@ -88,6 +94,7 @@ module _ (d : Device) (log sure : ℕ) (parts : ℕ → List Batch) (firm : List
         last = subst (λ b. IsLast more b (q log) (d.logs log).now) (before log (omega arith)) last;
         spare = subst (λ b. AllByRecursion (IsLast more b (spared (d.logs log).now (q log))) (d.logs log).before) (before log (omega arith)) spare;
         begun = sound.begun;
+        cut = sound.cut;
         later = sound.later;
         named = sound.named;
         stands = subst (λ l. IsPrefixOf l more) (before log (omega arith)) (prefix_trans (upto parts log) firm more sound.stands grows);
@@ -106,6 +113,7 @@ module _ (d : Device) (log sure : ℕ) (parts : ℕ → List Batch) (firm : List
     last = lower (parts log) (d.logs log).now sound.last;
     spare = all_weaker (IsLast firm (upto parts log) (spared (d.logs log).now (parts log))) (IsLast less (upto parts log) (spared (d.logs log).now (parts log))) (lower (spared (d.logs log).now (parts log))) (d.logs log).before sound.spare;
     begun = sound.begun;
+    cut = sound.cut;
     later = sound.later;
     named = sound.named;
     stands = stands;
@@ -129,6 +137,7 @@ module _ (d : Device) (log sure : ℕ) (parts : ℕ → List Batch) (firm : List
     last = subst (λ b. IsLast firm b (q log) (d.logs log).now) (before log (omega arith)) last;
     spare = subst (λ b. AllByRecursion (IsLast firm b (spared (d.logs log).now (q log))) (d.logs log).before) (before log (omega arith)) spare;
     begun = sound.begun;
+    cut = sound.cut;
     later = sound.later;
     named = sound.named;
     stands = subst (λ l. IsPrefixOf l firm) (before log (omega arith)) sound.stands;
@@ -174,6 +183,7 @@ module _ (d : Device) (log sure : ℕ) (parts : ℕ → List Batch) (firm : List
     last = subst (λ (x : Entry). IsLast firm (upto parts log) (parts log) x.now) (sym (other log (omega (arith, lt)))) sound.last;
     spare = subst (λ (x : Entry). AllByRecursion (IsLast firm (upto parts log) (spared x.now (parts log))) x.before) (sym (other log (omega (arith, lt)))) sound.spare;
     begun = λ z. subst (Each IsThere) (sym (other log (omega (arith, lt)))) (sound.begun z);
+    cut = subst (λ (x : Entry). is_cut x.now ≡ true → is_used x.now ≡ true) (sym (other log (omega (arith, lt)))) sound.cut;
     later = λ k lt'. at_all (λ i (x : Entry). Each IsUnused x) n (stands_for o (d.logs n)) d.logs k
         (λ e. (unused, ((sound.later n lt).0, (sound.later n lt).1)))
         (λ ne. sound.later k lt');
@@ -189,8 +199,8 @@ module _ (d : Device) (log sure : ℕ) (parts : ℕ → List Batch) (firm : List
   unused_last more before part has None is = has
   unused_last more before part has (Some f) is = (subst (λ l. IsPrefixOf l part) (sym is) (part, refl), prefix_onto more before (first_whole f.kept) has)
 
-  pub switched_sound : (n : ℕ) → n ≡ suc log → IsLog (parts log) (d.logs log).now → (d.logs log).before ≡ [] → Each IsThere (d.logs n) → n ≤ d.names → Sound d n sure (at n [] parts) (upto parts log ++ parts log)
-  switched_sound n e whole named there top = record {
+  pub switched_sound : (n : ℕ) → n ≡ suc log → IsLog (parts log) (d.logs log).now → (d.logs log).before ≡ [] → Each IsThere (d.logs n) → is_cut (d.logs n).now ≡ false → n ≤ d.names → Sound d n sure (at n [] parts) (upto parts log ++ parts log)
+  switched_sound n e whole named there fresh top = record {
     bases = λ k. each_moves firm (upto parts log ++ parts log) parts (at n [] parts) log n k (sound_firm d log sure parts firm sound) (λ l. omega (arith, l, e)) (λ l. before k (omega (arith, l, e)))
         (λ l. subst (IsPrefixOf (parts k)) (sym (at_other n [] parts k (omega (arith, l, e)))) (prefix_refl (parts k))) (d.bases k) (sound.bases k);
     newer = sound.newer;
@@ -203,6 +213,7 @@ module _ (d : Device) (log sure : ℕ) (parts : ℕ → List Batch) (firm : List
     last = unused_last (upto parts log ++ parts log) (upto (at n [] parts) n) (at n [] parts n) has (d.logs n).now (sound.later n above).0;
     spare = all_weaker IsUnused (IsLast (upto parts log ++ parts log) (upto (at n [] parts) n) (spared (d.logs n).now (at n [] parts n))) (unused_last (upto parts log ++ parts log) (upto (at n [] parts) n) (spared (d.logs n).now (at n [] parts n)) has) (d.logs n).before (sound.later n above).1;
     begun = λ z. there;
+    cut = λ c. absurd (let x : true ≡ false = sym c ∙ fresh in cc);
     later = λ k lt. sound.later k (omega (arith, lt, e));
     named = top;
     stands = subst (λ l. IsPrefixOf l (upto parts log ++ parts log)) (before n (omega arith)) (subst (λ i. IsPrefixOf (upto parts i) (upto parts log ++ parts log)) (sym e) (prefix_refl (upto parts log ++ parts log)));
@@ -231,6 +242,7 @@ module _ (d : Device) (log sure : ℕ) (parts : ℕ → List Batch) (firm : List
     last = sound.last;
     spare = tt;
     begun = λ lt. ((sound.begun lt).0, tt);
+    cut = sound.cut;
     later = λ k lt. ((sound.later k lt).0, tt);
     named = sound.named;
     stands = sound.stands;
@@ -249,6 +261,7 @@ module _ (d : Device) (log sure : ℕ) (parts : ℕ → List Batch) (firm : List
     last = sound.last;
     spare = sound.spare;
     begun = sound.begun;
+    cut = sound.cut;
     later = sound.later;
     named = sound.named;
     stands = sound.stands;
@@ -273,6 +286,7 @@ module _ (d : Device) (log sure : ℕ) (parts : ℕ → List Batch) (firm : List
     last = sound.last;
     spare = sound.spare;
     begun = sound.begun;
+    cut = sound.cut;
     later = sound.later;
     named = sound.named;
     stands = sound.stands;
@@ -291,6 +305,7 @@ module _ (d : Device) (log sure : ℕ) (parts : ℕ → List Batch) (firm : List
     last = sound.last;
     spare = sound.spare;
     begun = sound.begun;
+    cut = sound.cut;
     later = sound.later;
     named = sound.named;
     stands = sound.stands;
@@ -310,6 +325,7 @@ module _ (d : Device) (log sure : ℕ) (parts : ℕ → List Batch) (firm : List
     last = subst (λ (x : Entry). IsLast firm (upto parts log) (parts log) x.now) (sym (at_other n (stands_for None (d.logs n)) d.logs log (let r = sound.reached in omega (arith, r, lt)))) sound.last;
     spare = subst (λ (x : Entry). AllByRecursion (IsLast firm (upto parts log) (spared x.now (parts log))) x.before) (sym (at_other n (stands_for None (d.logs n)) d.logs log (let r = sound.reached in omega (arith, r, lt)))) sound.spare;
     begun = λ z. subst (Each IsThere) (sym (at_other n (stands_for None (d.logs n)) d.logs log (let r = sound.reached in omega (arith, r, lt)))) (sound.begun z);
+    cut = subst (λ (x : Entry). is_cut x.now ≡ true → is_used x.now ≡ true) (sym (at_other n (stands_for None (d.logs n)) d.logs log (let r = sound.reached in omega (arith, r, lt)))) sound.cut;
     later = λ k lt'. subst (Each IsUnused) (sym (at_other n (stands_for None (d.logs n)) d.logs k (let r = sound.reached in omega (arith, r, lt, lt')))) (sound.later k lt');
     named = let le = sound.named in omega (arith, le);
     stands = sound.stands;
@@ -332,6 +348,7 @@ module _ (d : Device) (log sure : ℕ) (parts : ℕ → List Batch) (firm : List
     last = sound.last;
     spare = sound.spare;
     begun = sound.begun;
+    cut = sound.cut;
     later = sound.later;
     named = sound.named;
     stands = sound.stands;

@@ -23,13 +23,13 @@ use Rattle.uc_folder.proofs.Writing.{world}
 
 open_stays : (count synced : ℕ) (firm before part : List Batch) (a b : Entry) → b.now ≡ a.now → (a.before ≡ [] → b.before ≡ []) → IsOpen count synced firm before part a → IsOpen count synced firm before part b
 open_stays count synced firm before part a b same named is =
-    record { file = is.file; now = same ∙ is.now; named = named is.named; whole = is.whole; all = is.all; fresh = is.fresh; counted = is.counted; marked = is.marked; told = is.told }
+    record { file = is.file; now = same ∙ is.now; named = named is.named; whole = is.whole; all = is.all; fresh = is.fresh; lost = is.lost; counted = is.counted; marked = is.marked; told = is.told }
 
 new_stays : (a b : Entry) → b.now ≡ a.now → IsNew a.now → IsNew b.now
-new_stays a b same is = record { file = is.file; now = same ∙ is.now; kept = is.kept; waiting = is.waiting; fresh = is.fresh }
+new_stays a b same is = record { file = is.file; now = same ∙ is.now; kept = is.kept; waiting = is.waiting; lost = is.lost; fresh = is.fresh }
 
 opening_stays : (count : ℕ) (firm before part : List Batch) (a b : Entry) → b.now ≡ a.now → (a.before ≡ [] → b.before ≡ []) → IsOpening count firm before part a → IsOpening count firm before part b
-opening_stays count firm before part a b same named is = record { read = subst (IsRead part) (sym same) is.read; named = named is.named; few = is.few; firmly = is.firmly }
+opening_stays count firm before part a b same named is = record { read = subst (IsRead count part) (sym same) is.read; named = named is.named; few = is.few; firmly = is.firmly }
 
 -- nothing changes for it: names that are there stay
 pub record Spares (d e : Device) (log base new : ℕ) : Type 0 where
@@ -62,6 +62,7 @@ module _ (d e : Device) (log count synced base new : ℕ) (firm before part : Li
           now = here ∙ is.now;
           named = s.named is.named;
           fresh = is.fresh;
+          lost = is.lost;
           whole = is.whole;
           all = is.all;
           counted = is.counted;
@@ -122,12 +123,12 @@ module _ (d : Device) (m : Machine) (w : Writer) (parts : ℕ → List Batch) (b
       (aside_sound d log keeps.sure parts keeps.firm keeps.sound d.copy p) keeps.under fits
 
   abbrev base_file : ℕ → ℕ → File
-  base_file n past = record { kept = []; waiting = rows_of (first_of parts n past); suspect = false; past = past }
+  base_file n past = record { kept = []; waiting = rows_of (first_of parts n past); lost = []; suspect = false; past = past }
 
   writing_keeps : (n past : ℕ) (o : Outcome) → Keeps (inside (Writing n past)) → Keeps (happens (inside (Writing n past)) (Checkpoints o))
   writing_keeps n past Done keeps =
       partial_steps (base_file n past) (Writing n past) (Sealing n past) keeps
-      (keeps.checkpointer, record { whole = rows_whole (first_of parts n past); all = rows_first (first_of parts n past); fresh = refl }, refl)
+      (keeps.checkpointer, record { whole = rows_whole (first_of parts n past); all = rows_first (first_of parts n past); fresh = refl; lost = refl }, refl)
   writing_keeps n past NotDone keeps = idles (Writing n past) keeps
   writing_keeps n past PartDone keeps = idles (Writing n past) keeps
   writing_keeps n past DoneUntold keeps = partial_steps (base_file n past) (Writing n past) Idle keeps tt
@@ -135,7 +136,7 @@ module _ (d : Device) (m : Machine) (w : Writer) (parts : ℕ → List Batch) (b
   sealing_keeps : (n past : ℕ) (o : Outcome) → Keeps (inside (Sealing n past)) → Keeps (happens (inside (Sealing n past)) (Checkpoints o))
   sealing_keeps n past Done keeps =
       let is = keeps.checkpointer in
-      partial_steps (sealed d.partial) (Sealing n past) (Renaming n past) keeps (is.0, record { kept = is.1.all; whole = is.1.whole; waiting = refl }, is.2)
+      partial_steps (sealed d.partial) (Sealing n past) (Renaming n past) keeps (is.0, record { kept = is.1.all; whole = is.1.whole; waiting = refl; lost = is.1.lost }, is.2)
   sealing_keeps n past NotDone keeps = idles (Sealing n past) keeps
   sealing_keeps n past PartDone keeps = idles (Sealing n past) keeps
   sealing_keeps n past DoneUntold keeps = partial_steps (sealed d.partial) (Sealing n past) Idle keeps tt

@@ -9,10 +9,10 @@ use Rattle.uc_folder.specs.declared.phases.Writer.TheVariants.{Clearing, Setting
 use Rattle.uc_folder.specs.declared.phases.Checkpointer.{Checkpointer}
 use Rattle.uc_folder.specs.Device.{Batch, File, Device, Keep, upto, at, last_log, is_there, crashed, recovered}
 use Rattle.uc_folder.specs.Steps.{opened}
-use Rattle.uc_folder.specs.Worlds.{World, IsPrefixOf, IsDone, first_of, submitted, answered, Outcome, Done, NotDone, PartDone, DoneUntold, Event, Writes, writes, found, is_settled, keeps_all, begun_by, parts_read, count_read, opens, happens, run, start}
-use Rattle.uc_folder.proofs.Lists.{prefix_under, prefix_take, at_here, at_other, upto_same}
+use Rattle.uc_folder.specs.Worlds.{World, IsPrefixOf, IsDone, submitted, answered, Outcome, Done, NotDone, PartDone, DoneUntold, Event, Writes, writes, found, is_settled, keeps_all, begun_by, count_read, opens, happens, run, start}
+use Rattle.uc_folder.proofs.Lists.{at_here, at_other, upto_same}
 use Rattle.uc_folder.proofs.Writing.{world}
-use Rattle.uc_folder.proofs.Reopening.{begun_log, begun_count}
+use Rattle.uc_folder.proofs.Reopening.{kept_is}
 use Rattle.uc_folder.proofs.Histories.{crash_acked, crash_prefix}
 
 -- ---- from an opening to the first request
@@ -109,20 +109,6 @@ opens_done w least top sealed keep os is ready =
     let v = opens least top sealed keep w in given_done (answered v) (run (writes os) v) ready (given_run (answered v) os v (opens_given w least top sealed keep is))
 
 -- ---- the batches that are kept
-
-pub kept_is : (w : World) (least top : ℕ) (sealed : Bool) (keep : Option ℕ) → answered (opens least top sealed keep w) ≡ first_of (parts_read w.device w.parts) (last_log w.device) (count_read w.device keep)
-kept_is w least top sealed keep =
-    let d = w.device in
-    let here = (d.logs (last_log d)).now in
-    let f = found d least top in
-    let quiet = sealed && (is_settled here && keeps_all keep) in
-    ap (λ i. first_of (parts_read d w.parts) i (begun_by here (opened f (count_read d keep) quiet)).count) (begun_log here f (count_read d keep) quiet)
-    ∙ ap (first_of (parts_read d w.parts) f.log) (begun_count here f (count_read d keep) quiet)
-
--- they are the first ones of those that were read
-pub kept_begins : (w : World) (least top : ℕ) (sealed : Bool) (keep : Option ℕ) → IsPrefixOf (answered (opens least top sealed keep w)) (submitted (opens least top sealed keep w))
-kept_begins w least top sealed keep =
-    let v = opens least top sealed keep w in prefix_under (upto v.parts v.machine.log) (take v.machine.count (v.parts v.machine.log)) (v.parts v.machine.log) (prefix_take v.machine.count (v.parts v.machine.log))
 
 pub acked_is : (w : World) (least top keep : ℕ) (sealed : Bool) → (opens least top sealed (Some keep) w).acked ≡ take (length (answered (opens least top sealed (Some keep) w))) w.acked
 acked_is w least top keep sealed = ap (λ l. take (length l) w.acked) (sym (kept_is w least top sealed (Some keep)))

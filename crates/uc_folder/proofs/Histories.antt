@@ -1,5 +1,5 @@
 -- Every list of events keeps what holds; and what openings find after it.
-use Rattle.std.proofs.Common.{◌≡◌, ℕ, ◌≤◌, Bool, true, false, ◌&&◌, inl, List, [], ◌∷◌, ◌++◌, length, take, refl, sym, ap, ◌∙◌, subst, arith}
+use Rattle.std.proofs.Common.{◌≡◌, ℕ, ◌≤◌, Bool, true, false, ◌&&◌, inl, List, [], ◌∷◌, ◌++◌, length, get_or, take, refl, sym, ap, ◌∙◌, subst, arith}
 use Rattle.std.specs.Prelude.{Option, Some, None, Result, Ok}
 use Rattle.std.proofs.lemmas.Bool.{and_parts}
 use Rattle.std.proofs.lemmas.List.{take-append-le}
@@ -10,7 +10,7 @@ use Rattle.uc_folder.specs.declared.phases.NextLog.{NextLog}
 use Rattle.uc_folder.specs.declared.phases.NextLog.TheVariants.{Absent}
 use Rattle.uc_folder.specs.declared.phases.Checkpointer.{Checkpointer}
 use Rattle.uc_folder.specs.declared.phases.Checkpointer.TheVariants.{Idle}
-use Rattle.uc_folder.specs.Device.{Batch, first_whole, content, File, Device, Keep, first_number, upto, last_log, crashed, recovered}
+use Rattle.uc_folder.specs.Device.{Batch, first_whole, content, is_cut, File, Entry, Device, Keep, crashed_file, changed, changed_name, first_number, upto, last_log, crashed, recovered}
 use Rattle.uc_folder.specs.Steps.{next_write, next_make, next_sync, next_checkpoint, asking_next}
 use Rattle.uc_folder.specs.declared.listing.Base.{Base}
 use Rattle.uc_folder.specs.declared.listing.Listed.{Listed}
@@ -19,10 +19,10 @@ use Rattle.uc_folder.specs.declared.listing.Missing.{Missing}
 use Rattle.uc_folder.specs.Listing.{IsListing, IsFoundIn}
 use Rattle.uc_folder.proofs.Names.{finds}
 use Rattle.uc_folder.specs.Worlds.{found, World, IsPrefixOf, IsReadable, Outcome, Done, NotDone, PartDone, DoneUntold, Event, Submit, AskSync, AskNext, AskSwitch, AskCheckpoint, Writes, Makes, Syncs, Checkpoints, Crash, Restart, Reread, reread, first_of, answered, acked_after, acked_then, is_settled, keeps_all, acked_of, names_read, parts_read, count_read, opens, happens, start, run, submitted, keeps_batches, all_keep}
-use Rattle.uc_folder.proofs.Lists.{prefix_refl, prefix_trans, prefix_under}
-use Rattle.uc_folder.proofs.Sound.{Sound, crash_sound}
-use Rattle.uc_folder.proofs.Opening.{sound_firm, opened_firm, opened_reads, opened_prefix, opened_answered, opened_readable}
-use Rattle.uc_folder.proofs.Reopening.{begun_log, opened_keeps}
+use Rattle.uc_folder.proofs.Lists.{prefix_refl, prefix_trans, prefix_under, at_here}
+use Rattle.uc_folder.proofs.Sound.{Sound, crash_sound, uncut_name}
+use Rattle.uc_folder.proofs.Opening.{read, j_below, upto_own, upto_read, own_uncut, opened_uncut, sound_firm, opened_firm, opened_reads, opened_prefix, opened_answered, opened_readable}
+use Rattle.uc_folder.proofs.Reopening.{begun_log, kept_is, kept_reads, all_reads, opened_keeps}
 use Rattle.uc_folder.proofs.Holding.{IsOpen, IsMendable, FitsWriter, Keeps}
 use Rattle.uc_folder.proofs.Changes.{reread_sound}
 use Rattle.uc_folder.proofs.Writing.{world, with_next, answered_in, take_counted, take_more}
@@ -71,6 +71,7 @@ start_keeps = record {
     last = ([], refl);
     spare = tt;
     begun = λ lt. absurd (omega (arith, lt));
+    cut = λ e. absurd (cc);
     later = λ k lt. (tt, tt);
     named = omega arith;
     stands = ([], refl);
@@ -181,7 +182,7 @@ fine_write d m firm before part batch (Both n) fits = fine_append fits.0.2
   where
     fine_append : IsOpen m.count m.synced firm before fits.0.0 (d.logs m.log) → (f : File) → (d.logs m.log).now ≡ Some f → m.synced ≤ length (first_whole f.kept)
     fine_append is f e = same_file m.synced (d.logs m.log).now is.file f is.now e is.marked
-fine_write d m firm before part batch Replacing fits = fits.1.waiting
+fine_write d m firm before part batch Replacing fits = (fits.1.waiting, fits.1.lost)
 fine_write d m firm before part batch w fits = tt
 
 fine_sync : (d : Device) (w : Writer) (log : ℕ) → IsFine d (next_sync w log)
@@ -225,10 +226,21 @@ always_marked es = run_marked es start start_next start_keeps (record { logs = �
 -- ---- openings
 
 module _ (d : Device) (log sure : ℕ) (parts : ℕ → List Batch) (firm : List Batch) (sound : Sound d log sure parts firm) where
-  pub finds_reads : (m : Machine) (batch : Batch) (acked : List Batch) (least top : ℕ) (sealed : Bool) (keep : Option ℕ) → submitted (opens least top sealed keep (record { device = d; machine = m; parts = parts; batch = batch; acked = acked })) ≡ recovered d
-  finds_reads m batch acked least top sealed keep =
+  pub finds_submitted : (m : Machine) (batch : Batch) (acked : List Batch) (least top : ℕ) (sealed : Bool) (keep : Option ℕ) → is_cut (d.logs (last_log d)).now ≡ false →
+      submitted (opens least top sealed keep (record { device = d; machine = m; parts = parts; batch = batch; acked = acked })) ≡ recovered d
+  finds_submitted m batch acked least top sealed keep whole =
       let here = (d.logs (last_log d)).now in
-      ap (λ i. upto (parts_read d parts) i ++ parts_read d parts i) (begun_log here (found d least top) (count_read d keep) (sealed && (is_settled here && keeps_all keep))) ∙ opened_reads d log sure parts firm sound
+      let le = j_below d log sure parts firm sound in
+      ap (λ i. upto (parts_read d parts) i ++ parts_read d parts i) (begun_log here (found d least top) (count_read d keep) (sealed && (is_settled here && keeps_all keep)))
+      ∙ (ap (λ l. l ++ parts_read d parts (last_log d)) (upto_own d log sure parts firm sound (last_log d) le ∙ sym (upto_read d log sure parts firm sound (last_log d) le))
+      ∙ (ap (λ l. upto (read d log sure parts firm sound) (last_log d) ++ l) (own_uncut d log sure parts firm sound (last_log d) whole) ∙ opened_reads d log sure parts firm sound))
+
+  pub finds_kept : (m : Machine) (batch : Batch) (acked : List Batch) (least top : ℕ) (sealed : Bool) (keep : Option ℕ) → IsPrefixOf (answered (opens least top sealed keep (record { device = d; machine = m; parts = parts; batch = batch; acked = acked }))) (recovered d)
+  finds_kept m batch acked least top sealed keep =
+      subst (λ l. IsPrefixOf l (recovered d)) (sym (kept_is (record { device = d; machine = m; parts = parts; batch = batch; acked = acked }) least top sealed keep)) (kept_reads d log sure parts firm sound keep)
+
+  pub finds_all : (m : Machine) (batch : Batch) (acked : List Batch) (least top : ℕ) (sealed : Bool) → answered (opens least top sealed None (record { device = d; machine = m; parts = parts; batch = batch; acked = acked })) ≡ recovered d
+  finds_all m batch acked least top sealed = kept_is (record { device = d; machine = m; parts = parts; batch = batch; acked = acked }) least top sealed None ∙ all_reads d log sure parts firm sound None refl
 
   pub finds_prefix : IsPrefixOf (recovered d) (upto parts log ++ parts log)
   finds_prefix = subst (λ xs. IsPrefixOf xs (upto parts log ++ parts log)) (opened_reads d log sure parts firm sound) (opened_prefix d log sure parts firm sound)
@@ -242,6 +254,10 @@ module _ (d : Device) (log sure : ℕ) (parts : ℕ → List Batch) (firm : List
   pub finds_readable : AreMarked d → IsReadable d
   finds_readable are = opened_readable d log sure parts firm sound (λ k. marked_whole (d.logs k).now (are.logs k).0)
 
+uncut_changed : (keep : Keep) (o : Option File) → is_cut (changed_name (crashed_file keep) o) ≡ false
+uncut_changed keep None = refl
+uncut_changed keep (Some f) = refl
+
 -- after each list of events, by the crash
 module _ (es : List Event) (logs bases : ℕ → Keep) where
   abbrev w : World
@@ -251,10 +267,17 @@ module _ (es : List Event) (logs bases : ℕ → Keep) where
   held = always_keeps es
 
   pub crash_reads : (least top : ℕ) (sealed : Bool) (keep : Option ℕ) → submitted (happens w (Crash logs bases least top sealed keep)) ≡ recovered (crashed logs bases w.device)
-  crash_reads least top sealed keep = finds_reads (crashed logs bases w.device) w.machine.log held.sure w.parts held.firm (crashed_sound w held logs bases) w.machine w.batch w.acked least top sealed keep
+  crash_reads least top sealed keep =
+      let d = crashed logs bases w.device in
+      let e = w.device.logs (last_log d) in
+      finds_submitted d w.machine.log held.sure w.parts held.firm (crashed_sound w held logs bases) w.machine w.batch w.acked least top sealed keep
+      (uncut_name (logs (last_log d)) (get_or (e.now ∷ e.before) (logs (last_log d)).which e.now))
 
   pub crash_prefix : IsPrefixOf (recovered (crashed logs bases w.device)) (submitted w)
   crash_prefix = finds_prefix (crashed logs bases w.device) w.machine.log held.sure w.parts held.firm (crashed_sound w held logs bases)
+
+  pub crash_kept : (least top : ℕ) (sealed : Bool) (keep : Option ℕ) → IsPrefixOf (answered (happens w (Crash logs bases least top sealed keep))) (recovered (crashed logs bases w.device))
+  crash_kept least top sealed keep = finds_kept (crashed logs bases w.device) w.machine.log held.sure w.parts held.firm (crashed_sound w held logs bases) w.machine w.batch w.acked least top sealed keep
 
   pub crash_acked : IsPrefixOf w.acked (recovered (crashed logs bases w.device))
   crash_acked = prefix_trans w.acked held.firm (recovered (crashed logs bases w.device)) held.acked_is (finds_firm (crashed logs bases w.device) w.machine.log held.sure w.parts held.firm (crashed_sound w held logs bases))
@@ -278,8 +301,15 @@ module _ (es : List Event) where
   keeps' : Keeps w'
   keeps' = always_keeps es
 
-  pub restart_reads : (least top : ℕ) (sealed : Bool) (keep : Option ℕ) → submitted (happens w' (Restart least top sealed keep)) ≡ recovered w'.device
-  restart_reads least top sealed keep = finds_reads w'.device w'.machine.log keeps'.sure w'.parts keeps'.firm keeps'.sound w'.machine w'.batch w'.acked least top sealed keep
+  pub restart_submitted : (least top : ℕ) (sealed : Bool) (keep : Option ℕ) → is_cut (w'.device.logs (last_log w'.device)).now ≡ false → submitted (happens w' (Restart least top sealed keep)) ≡ recovered w'.device
+  restart_submitted least top sealed keep whole =
+      finds_submitted w'.device w'.machine.log keeps'.sure w'.parts keeps'.firm keeps'.sound w'.machine w'.batch w'.acked least top sealed keep whole
+
+  pub restart_kept : (least top : ℕ) (sealed : Bool) (keep : Option ℕ) → IsPrefixOf (answered (happens w' (Restart least top sealed keep))) (recovered w'.device)
+  restart_kept least top sealed keep = finds_kept w'.device w'.machine.log keeps'.sure w'.parts keeps'.firm keeps'.sound w'.machine w'.batch w'.acked least top sealed keep
+
+  pub restart_all : (least top : ℕ) (sealed : Bool) → answered (happens w' (Restart least top sealed None)) ≡ recovered w'.device
+  restart_all least top sealed = finds_all w'.device w'.machine.log keeps'.sure w'.parts keeps'.firm keeps'.sound w'.machine w'.batch w'.acked least top sealed
 
   pub restart_prefix : IsPrefixOf (recovered w'.device) (submitted w')
   restart_prefix = finds_prefix w'.device w'.machine.log keeps'.sure w'.parts keeps'.firm keeps'.sound
@@ -300,7 +330,9 @@ module _ (es : List Event) where
   reread_is keep = reread_sound w'.device w'.machine.log keeps'.sure w'.parts keeps'.firm keeps'.sound keep
 
   pub reread_reads : (left : Keep) (least top : ℕ) (sealed : Bool) (keep : Option ℕ) → submitted (happens w' (Reread left least top sealed keep)) ≡ recovered (reread left w')
-  reread_reads left least top sealed keep = finds_reads (reread left w') w'.machine.log keeps'.sure w'.parts keeps'.firm (reread_is left) w'.machine w'.batch w'.acked least top sealed keep
+  reread_reads left least top sealed keep =
+      finds_submitted (reread left w') w'.machine.log keeps'.sure w'.parts keeps'.firm (reread_is left) w'.machine w'.batch w'.acked least top sealed keep
+      (opened_uncut (reread left w') w'.machine.log keeps'.sure w'.parts keeps'.firm (reread_is left) (ap (λ (e : Entry). is_cut e.now) (at_here w'.machine.log (changed (crashed_file left) (w'.device.logs w'.machine.log)) w'.device.logs) ∙ uncut_changed left (w'.device.logs w'.machine.log).now))
 
   pub reread_prefix : (keep : Keep) → IsPrefixOf (recovered (reread keep w')) (submitted w')
   reread_prefix keep = finds_prefix (reread keep w') w'.machine.log keeps'.sure w'.parts keeps'.firm (reread_is keep)

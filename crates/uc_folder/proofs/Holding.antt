@@ -14,10 +14,10 @@ use Rattle.uc_folder.proofs.Sound.{IsWhole, IsThere, Sound}
 abbrev pub Stands : Device → ℕ → Type 0
 Stands d base = (base ≡ first_number) ⊎ (is_there (d.bases base).now ≡ true)
 
--- a file of which these batches are read
-abbrev pub IsRead : List Batch → Option File → Type 0
-IsRead part None = ⊥
-IsRead part (Some f) = first_whole (f.kept ++ f.waiting) ≡ part
+-- a file of which a number of these batches are read
+abbrev pub IsRead : ℕ → List Batch → Option File → Type 0
+IsRead count part None = ⊥
+IsRead count part (Some f) = take count (first_whole (f.kept ++ f.waiting)) ≡ take count part
 
 -- an empty file
 pub record IsNew (o : Option File) : Type 0 where
@@ -25,6 +25,7 @@ pub record IsNew (o : Option File) : Type 0 where
   pub now : o ≡ Some file
   pub kept : file.kept ≡ []
   pub waiting : file.waiting ≡ []
+  pub lost : file.lost ≡ []
   pub fresh : file.suspect ≡ false
 
 -- A log to which may be appended, with these batches. As many are on the device as are said to be synced; of the log, no more is firm.
@@ -35,6 +36,7 @@ pub record IsOpen (count synced : ℕ) (firm before part : List Batch) (e : Entr
   pub whole : are_whole (file.kept ++ file.waiting) ≡ true
   pub all : first_whole (file.kept ++ file.waiting) ≡ part
   pub fresh : file.suspect ≡ false
+  pub lost : file.lost ≡ []
   pub counted : count ≡ length part
   pub marked : synced ≤ length (first_whole file.kept)
   pub told : IsPrefixOf firm (before ++ take synced part)
@@ -44,10 +46,11 @@ pub record IsCopy (part : List Batch) (f : File) : Type 0 where
   pub whole : are_whole (f.kept ++ f.waiting) ≡ true
   pub all : first_whole (f.kept ++ f.waiting) ≡ part
   pub fresh : f.suspect ≡ false
+  pub lost : f.lost ≡ []
 
 -- An opening has read the log, and nothing else has its name. Of its batches a number are kept, and all that is firm is among those.
 pub record IsOpening (count : ℕ) (firm before part : List Batch) (e : Entry) : Type 0 where
-  pub read : IsRead part e.now
+  pub read : IsRead count part e.now
   pub named : e.before ≡ []
   pub few : count ≤ length part
   pub firmly : IsPrefixOf firm (before ++ take count part)
@@ -83,6 +86,7 @@ pub record IsMendable (count synced : ℕ) (firm before front : List Batch) (e :
   pub now : e.now ≡ Some file
   pub named : e.before ≡ []
   pub fresh : file.suspect ≡ false
+  pub lost : file.lost ≡ []
   pub whole : are_whole (take count (file.kept ++ file.waiting)) ≡ true
   pub all : first_whole (take count (file.kept ++ file.waiting)) ≡ front
   pub counted : count ≡ length front

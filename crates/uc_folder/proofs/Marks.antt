@@ -1,16 +1,16 @@
 -- Marks never exceed what is durable: so the state after a crash is never taken for damage.
-use Rattle.std.proofs.Common.{◌≡◌, ℕ, zero, suc, ◌+◌, ◌≤◌, Bool, true, false, cond, not, ◌&&◌, ◌||◌, ltb, List, [], ◌∷◌, ◌++◌, append_assoc, length, take, refl, sym, ap, ◌∙◌, subst, arith}
+use Rattle.std.proofs.Common.{◌≡◌, ℕ, zero, suc, ◌+◌, ◌≤◌, Bool, true, false, cond, not, ◌&&◌, ◌||◌, eqb, ltb, List, [], ◌∷◌, ◌++◌, append_assoc, length, take, drop, refl, sym, ap, ◌∙◌, subst, arith}
 use Rattle.std.specs.Prelude.{⊤, Option, Some, None, max}
 use Rattle.std.proofs.lemmas.Bool.{le-ltb, ltb-false}
 use Rattle.std.proofs.lemmas.List.{append-nil, length-append}
 use Rattle.uc_folder.specs.declared.action.Action.{Action}
 use Rattle.uc_folder.specs.declared.action.Action.TheVariants.{Nothing, CreateLog, Append, SyncLog, CutLog, SyncNames, SetAside, CopyLog, SyncCopy, NameCopy, WriteBase, SyncBase, NameBase, RemoveLog, RemoveBase}
-use Rattle.uc_folder.specs.Device.{Batch, Record, Whole, Torn, first_whole, whole_part, are_whole, tell_more, are_damaged, records_of, left_of, File, Entry, Device, Keep, crashed, crashed_file, crashed_name, empty_file, appended, synced, suspected, sealed, copied, changed, changed_name, change_log, stands_for, name_log, sync_names, cut}
-use Rattle.uc_folder.specs.Worlds.{Outcome, Done, NotDone, PartDone, DoneUntold, carried_out, begun, failed, device_after}
+use Rattle.uc_folder.specs.Device.{Batch, Record, Whole, Torn, first_whole, whole_part, are_whole, tell_more, are_damaged, records_of, left_of, File, Entry, Device, Keep, crashed, crashed_file, crashed_name, empty_file, appended, synced, suspected, sealed, copied, changed, changed_name, change_log, stands_for, name_log, sync_names, cut, half_cut}
+use Rattle.uc_folder.specs.Worlds.{Outcome, Done, NotDone, PartDone, DoneUntold, carried_out, begun, failed, untold, device_after}
 use Rattle.uc_folder.proofs.Lists.{length_prefix, at_all}
 use Rattle.uc_folder.proofs.Records.{first_prefix, part_whole, whole_take, whole_length}
 use Rattle.uc_folder.proofs.Sound.{Each, each_crashed}
-use Rattle.uc_folder.proofs.Writing.{synced_file, synced_is, synced_all, synced_more}
+use Rattle.uc_folder.proofs.Writing.{all_parts, synced_file, synced_is, synced_all, synced_more}
 
 -- ---- lists of records
 
@@ -65,20 +65,33 @@ tell_left n whole (Whole b mark ∷ rs) e = by_test (or_parts (ltb n mark) (tell
 -- no mark exceeds what is durable
 abbrev pub IsMarked : Option File → Type 0
 IsMarked None = ⊤
-IsMarked (Some f) = tell_more (length (first_whole f.kept)) (f.kept ++ f.waiting) ≡ false
+IsMarked (Some f) = tell_more (length (first_whole f.kept)) (f.kept ++ (f.waiting ++ f.lost)) ≡ false
+
+-- and none of those that are read
+marked_read : (n : ℕ) (f : File) → tell_more n (f.kept ++ (f.waiting ++ f.lost)) ≡ false → tell_more n (f.kept ++ f.waiting) ≡ false
+marked_read n f is = tell_front n (f.kept ++ f.waiting) f.lost (subst (λ l. tell_more n l ≡ false) (sym (append_assoc f.kept f.waiting f.lost)) is)
 
 pub marked_crashed : (keep : Keep) (o : Option File) → IsMarked o → IsMarked (crashed_name keep o)
 marked_crashed keep None is = tt
 marked_crashed keep (Some f) is =
     let n = length (first_whole f.kept) in
     let m = length (first_whole (crashed_file keep f).kept) in
-    let le : n ≤ m = length_prefix (first_whole f.kept) (first_whole (crashed_file keep f).kept) (first_prefix f.kept (left_of keep.whole (take keep.count f.waiting))) in
-    let left = tell_left n keep.whole (take keep.count f.waiting) (tell_taken n keep.count f.waiting (tell_rest n f.kept f.waiting is)) in
-    tell_join m (crashed_file keep f).kept [] (tell_raised n m (crashed_file keep f).kept le (tell_join n f.kept (left_of keep.whole (take keep.count f.waiting)) (tell_front n f.kept f.waiting is) left)) refl
+    let le : n ≤ m = length_prefix (first_whole f.kept) (first_whole (crashed_file keep f).kept) (first_prefix f.kept (left_of keep.whole (take keep.count (f.waiting ++ f.lost)))) in
+    let left = tell_left n keep.whole (take keep.count (f.waiting ++ f.lost)) (tell_taken n keep.count (f.waiting ++ f.lost) (tell_rest n f.kept (f.waiting ++ f.lost) is)) in
+    tell_join m (crashed_file keep f).kept [] (tell_raised n m (crashed_file keep f).kept le (tell_join n f.kept (left_of keep.whole (take keep.count (f.waiting ++ f.lost))) (tell_front n f.kept (f.waiting ++ f.lost) is) left)) refl
 
 marked_appended : (r : Record) (f : File) → tell_more (length (first_whole f.kept)) (r ∷ []) ≡ false → IsMarked (Some f) → IsMarked (Some (appended r f))
 marked_appended r f fine is =
-    subst (λ rs. tell_more (length (first_whole f.kept)) rs ≡ false) (append_assoc f.kept f.waiting (r ∷ [])) (tell_join (length (first_whole f.kept)) (f.kept ++ f.waiting) (r ∷ []) is fine)
+    let n = length (first_whole f.kept) in
+    let lost = tell_rest n f.waiting f.lost (tell_rest n f.kept (f.waiting ++ f.lost) is) in
+    let waits = tell_front n f.waiting f.lost (tell_rest n f.kept (f.waiting ++ f.lost) is) in
+    tell_join n f.kept ((f.waiting ++ r ∷ []) ++ f.lost) (tell_front n f.kept (f.waiting ++ f.lost) is) (tell_join n (f.waiting ++ r ∷ []) f.lost (tell_join n f.waiting (r ∷ []) waits fine) lost)
+
+-- all records are there after a sync
+synced_parts : (n : ℕ) (f : File) (fresh : f.suspect ≡ false) → (synced_file n f fresh).kept ++ ((synced_file n f fresh).waiting ++ f.lost) ≡ f.kept ++ (f.waiting ++ f.lost)
+synced_parts n f fresh =
+    let g = synced_file n f fresh in
+    sym (append_assoc g.kept g.waiting f.lost) ∙ (ap (λ l. l ++ f.lost) (synced_all n f fresh) ∙ append_assoc f.kept f.waiting f.lost)
 
 marked_synced : (n : ℕ) (f : File) → IsMarked (Some f) → IsMarked (Some (synced n f))
 marked_synced n f is = by_test f.suspect refl
@@ -88,20 +101,20 @@ marked_synced n f is = by_test f.suspect refl
     by_test false fresh =
         subst (λ g. IsMarked (Some g)) (sym (synced_is n f fresh))
         (let g = synced_file n f fresh in
-        subst (λ rs. tell_more (length (first_whole g.kept)) rs ≡ false) (sym (synced_all n f fresh))
-        (tell_raised (length (first_whole f.kept)) (length (first_whole g.kept)) (f.kept ++ f.waiting) (length_prefix (first_whole f.kept) (first_whole g.kept) (synced_more n f fresh)) is))
+        subst (λ rs. tell_more (length (first_whole g.kept)) rs ≡ false) (sym (synced_parts n f fresh))
+        (tell_raised (length (first_whole f.kept)) (length (first_whole g.kept)) (f.kept ++ (f.waiting ++ f.lost)) (length_prefix (first_whole f.kept) (first_whole g.kept) (synced_more n f fresh)) is))
 
 marked_cut : (n : ℕ) (f : File) → IsMarked (Some f) → IsMarked (Some (cut n f))
 marked_cut n f is = by_test f.suspect refl
   where
     by_test : (b : Bool) → f.suspect ≡ b → IsMarked (Some (cut n f))
-    by_test true e = subst (λ (t : Bool). IsMarked (Some (cond t f (record f { kept = (cut n (record f { suspect = false })).kept; waiting = [] })))) (sym e) is
+    by_test true e = subst (λ (t : Bool). IsMarked (Some (cond t f (record f { kept = (cut n (record f { suspect = false })).kept; waiting = []; lost = [] })))) (sym e) is
     by_test false fresh =
         let g = synced_file n f fresh in
         let m = length (first_whole g.kept) in
-        let h : File = record { kept = g.kept; waiting = []; suspect = f.suspect; past = f.past } in
+        let h : File = record { kept = g.kept; waiting = []; lost = []; suspect = f.suspect; past = f.past } in
         let same : cut n f ≡ h = ap (λ (t : Bool). cond t f h) fresh in
-        let all = tell_raised (length (first_whole f.kept)) m (f.kept ++ f.waiting) (length_prefix (first_whole f.kept) (first_whole g.kept) (synced_more n f fresh)) is in
+        let all = tell_raised (length (first_whole f.kept)) m (f.kept ++ f.waiting) (length_prefix (first_whole f.kept) (first_whole g.kept) (synced_more n f fresh)) (marked_read (length (first_whole f.kept)) f is) in
         subst (λ x. IsMarked (Some x)) (sym same) (tell_join m g.kept [] (tell_taken m (max n (length f.kept)) (f.kept ++ f.waiting) all) refl)
 
 -- ---- places
@@ -164,38 +177,72 @@ first_short (Torn ∷ rs) = omega arith
 
 abbrev pub IsPlaced : Option File → Type 0
 IsPlaced None = ⊤
-IsPlaced (Some f) = ArePlaced 0 (f.kept ++ f.waiting)
+IsPlaced (Some f) = ArePlaced 0 (f.kept ++ (f.waiting ++ f.lost))
+
+placed_raised : (i k : ℕ) (rs : List Record) → i ≤ k → ArePlaced i rs → ArePlaced k rs
+placed_raised i k [] le is = tt
+placed_raised i k (Whole b mark ∷ rs) le is = (let few = is.0 in omega (arith, few, le), placed_raised (suc i) (suc k) rs (omega (arith, le)) is.1)
+placed_raised i k (Torn ∷ rs) le is = placed_raised (suc i) (suc k) rs (omega (arith, le)) is
+
+placed_read : (f : File) → IsPlaced (Some f) → ArePlaced 0 (f.kept ++ f.waiting)
+placed_read f is = placed_front 0 (f.kept ++ f.waiting) f.lost (subst (ArePlaced 0) (sym (append_assoc f.kept f.waiting f.lost)) is)
+
+placed_lost : (f : File) → IsPlaced (Some f) → ArePlaced (length (f.kept ++ f.waiting)) f.lost
+placed_lost f is = placed_rest 0 (length (f.kept ++ f.waiting)) (f.kept ++ f.waiting) f.lost (omega arith) (subst (ArePlaced 0) (sym (append_assoc f.kept f.waiting f.lost)) is)
 
 placed_crashed : (keep : Keep) (o : Option File) → IsPlaced o → IsPlaced (crashed_name keep o)
 placed_crashed keep None is = tt
 placed_crashed keep (Some f) is =
-    let left = placed_left (length f.kept) keep.whole (take keep.count f.waiting) (placed_taken (length f.kept) keep.count f.waiting (placed_rest 0 (length f.kept) f.kept f.waiting (omega arith) is)) in
-    subst (ArePlaced 0) (sym (append-nil (crashed_file keep f).kept)) (placed_join 0 (length f.kept) f.kept (left_of keep.whole (take keep.count f.waiting)) (omega arith) (placed_front 0 f.kept f.waiting is) left)
+    let left = placed_left (length f.kept) keep.whole (take keep.count (f.waiting ++ f.lost)) (placed_taken (length f.kept) keep.count (f.waiting ++ f.lost) (placed_rest 0 (length f.kept) f.kept (f.waiting ++ f.lost) (omega arith) is)) in
+    subst (ArePlaced 0) (sym (append-nil (crashed_file keep f).kept)) (placed_join 0 (length f.kept) f.kept (left_of keep.whole (take keep.count (f.waiting ++ f.lost))) (omega arith) (placed_front 0 f.kept (f.waiting ++ f.lost) is) left)
 
 placed_appended : (r : Record) (f : File) → ArePlaced (length (f.kept ++ f.waiting)) (r ∷ []) → IsPlaced (Some f) → IsPlaced (Some (appended r f))
-placed_appended r f fine is = subst (ArePlaced 0) (append_assoc f.kept f.waiting (r ∷ [])) (placed_join 0 (length (f.kept ++ f.waiting)) (f.kept ++ f.waiting) (r ∷ []) (omega arith) is fine)
+placed_appended r f fine is =
+    let all = f.kept ++ f.waiting in
+    let more = placed_join 0 (length all) all (r ∷ []) (omega arith) (placed_read f is) fine in
+    let size = length-append all (r ∷ []) in
+    let whole = placed_join 0 (length (all ++ r ∷ [])) (all ++ r ∷ []) f.lost (omega arith) more (placed_raised (length all) (length (all ++ r ∷ [])) f.lost (omega (arith, size)) (placed_lost f is)) in
+    subst (ArePlaced 0) (append_assoc f.kept (f.waiting ++ r ∷ []) f.lost) (subst (λ l. ArePlaced 0 (l ++ f.lost)) (append_assoc f.kept f.waiting (r ∷ [])) whole)
 
 placed_synced : (n : ℕ) (f : File) → IsPlaced (Some f) → IsPlaced (Some (synced n f))
 placed_synced n f is = by_test f.suspect refl
   where
     by_test : (b : Bool) → f.suspect ≡ b → IsPlaced (Some (synced n f))
     by_test true e = subst (λ (t : Bool). IsPlaced (Some (cond t f (record f { kept = (synced n (record f { suspect = false })).kept; waiting = (synced n (record f { suspect = false })).waiting })))) (sym e) is
-    by_test false fresh = subst (λ g. IsPlaced (Some g)) (sym (synced_is n f fresh)) (subst (ArePlaced 0) (sym (synced_all n f fresh)) is)
+    by_test false fresh = subst (λ g. IsPlaced (Some g)) (sym (synced_is n f fresh)) (subst (ArePlaced 0) (sym (synced_parts n f fresh)) is)
 
 placed_cut : (n : ℕ) (f : File) → IsPlaced (Some f) → IsPlaced (Some (cut n f))
 placed_cut n f is = by_test f.suspect refl
   where
     by_test : (b : Bool) → f.suspect ≡ b → IsPlaced (Some (cut n f))
-    by_test true e = subst (λ (t : Bool). IsPlaced (Some (cond t f (record f { kept = (cut n (record f { suspect = false })).kept; waiting = [] })))) (sym e) is
+    by_test true e = subst (λ (t : Bool). IsPlaced (Some (cond t f (record f { kept = (cut n (record f { suspect = false })).kept; waiting = []; lost = [] })))) (sym e) is
     by_test false fresh =
         let g = synced_file n f fresh in
-        let h : File = record { kept = g.kept; waiting = []; suspect = f.suspect; past = f.past } in
+        let h : File = record { kept = g.kept; waiting = []; lost = []; suspect = f.suspect; past = f.past } in
         let same : cut n f ≡ h = ap (λ (t : Bool). cond t f h) fresh in
-        subst (λ x. IsPlaced (Some x)) (sym same) (subst (ArePlaced 0) (sym (append-nil g.kept)) (placed_taken 0 (max n (length f.kept)) (f.kept ++ f.waiting) is))
+        subst (λ x. IsPlaced (Some x)) (sym same) (subst (ArePlaced 0) (sym (append-nil g.kept)) (placed_taken 0 (max n (length f.kept)) (f.kept ++ f.waiting) (placed_read f is)))
+
+-- a cut of which only the sync fails takes no record from the device
+half_cut_is : (P : Option File → Type 0) (n : ℕ) (f : File) → P (Some (suspected (cut n f))) →
+    P (Some (record f { waiting = drop (length f.kept) (take (max n (length f.kept)) (f.kept ++ f.waiting)); lost = drop (max n (length f.kept)) (f.kept ++ f.waiting); suspect = true })) → P (Some (half_cut n f))
+half_cut_is P n f whole half = by_test (f.suspect || eqb n 0)
+  where
+    by_test : (b : Bool) → P (Some (cond b (suspected (cut n f)) (record f { waiting = drop (length f.kept) (take (max n (length f.kept)) (f.kept ++ f.waiting)); lost = drop (max n (length f.kept)) (f.kept ++ f.waiting); suspect = true })))
+    by_test true = whole
+    by_test false = half
+
+marked_half : (n : ℕ) (f : File) → IsMarked (Some f) → IsMarked (Some (half_cut n f))
+marked_half n f is =
+    half_cut_is IsMarked n f (marked_cut n f is)
+    (subst (λ l. tell_more (length (first_whole f.kept)) l ≡ false) (sym (all_parts (max n (length f.kept)) f.kept f.waiting (omega arith))) (marked_read (length (first_whole f.kept)) f is))
+
+placed_half : (n : ℕ) (f : File) → IsPlaced (Some f) → IsPlaced (Some (half_cut n f))
+placed_half n f is =
+    half_cut_is IsPlaced n f (placed_cut n f is) (subst (ArePlaced 0) (sym (all_parts (max n (length f.kept)) f.kept f.waiting (omega arith))) (placed_read f is))
 
 placed_copied : (n : ℕ) (o : Option File) → IsPlaced o → ArePlaced 0 (take n (whole_part (records_of o)))
 placed_copied n None is = placed_taken 0 n [] tt
-placed_copied n (Some f) is = placed_taken 0 n (whole_part (f.kept ++ f.waiting)) (placed_part 0 (f.kept ++ f.waiting) is)
+placed_copied n (Some f) is = placed_taken 0 n (whole_part (f.kept ++ f.waiting)) (placed_part 0 (f.kept ++ f.waiting) (placed_read f is))
 
 -- so no file is taken for a damaged one
 pub marked_whole : (o : Option File) → IsMarked o → are_damaged (records_of o) ≡ false
@@ -203,7 +250,7 @@ marked_whole None is = refl
 marked_whole (Some f) is =
     let n = length (first_whole f.kept) in
     let m = length (first_whole (f.kept ++ f.waiting)) in
-    none (not (are_whole (f.kept ++ f.waiting))) (tell_more m (f.kept ++ f.waiting)) (tell_raised n m (f.kept ++ f.waiting) (length_prefix (first_whole f.kept) (first_whole (f.kept ++ f.waiting)) (first_prefix f.kept f.waiting)) is)
+    none (not (are_whole (f.kept ++ f.waiting))) (tell_more m (f.kept ++ f.waiting)) (tell_raised n m (f.kept ++ f.waiting) (length_prefix (first_whole f.kept) (first_whole (f.kept ++ f.waiting)) (first_prefix f.kept f.waiting)) (marked_read n f is))
   where
     none : (a b : Bool) → b ≡ false → (a && b) ≡ false
     none true b e = e
@@ -261,7 +308,7 @@ sealed_marked f is = subst (λ rs. tell_more (length (first_whole rs)) rs ≡ fa
 -- the condition of an operation
 abbrev pub IsFine : Device → Action → Type 0
 IsFine d (Append k mark) = (f : File) → (d.logs k).now ≡ Some f → mark ≤ length (first_whole f.kept)
-IsFine d (NameCopy k) = d.copy.waiting ≡ []
+IsFine d (NameCopy k) = (d.copy.waiting ≡ []) × (d.copy.lost ≡ [])
 IsFine d a = ⊤
 
 pub marks_synced : (d : Device) → AreMarked d → AreMarked (sync_names d)
@@ -281,8 +328,12 @@ done_marked batch parts d (CopyLog k n) fine are = record { logs = are.logs; cop
 done_marked batch parts d SyncCopy fine are =
     record { logs = are.logs; copy = sealed_marked d.copy are.copy; placed = are.placed; copy_placed = subst (ArePlaced 0) (sym (append-nil (d.copy.kept ++ d.copy.waiting))) are.copy_placed }
 done_marked batch parts d (NameCopy k) fine are =
-    let none : d.copy.kept ++ d.copy.waiting ≡ d.copy.kept = ap (λ l. d.copy.kept ++ l) fine ∙ append-nil d.copy.kept in
-    marks_named k (Some d.copy) d (subst (λ rs. tell_more (length (first_whole rs)) (d.copy.kept ++ d.copy.waiting) ≡ false) none are.copy) are.copy_placed are
+    let none : d.copy.kept ++ d.copy.waiting ≡ d.copy.kept = ap (λ l. d.copy.kept ++ l) fine.0 ∙ append-nil d.copy.kept in
+    let same : d.copy.kept ++ d.copy.waiting ≡ d.copy.kept ++ (d.copy.waiting ++ d.copy.lost) =
+    sym (append-nil (d.copy.kept ++ d.copy.waiting)) ∙ (ap (λ l. (d.copy.kept ++ d.copy.waiting) ++ l) (sym fine.1) ∙ append_assoc d.copy.kept d.copy.waiting d.copy.lost) in
+    marks_named k (Some d.copy) d
+    (subst (λ rs. tell_more (length (first_whole d.copy.kept)) rs ≡ false) same (subst (λ rs. tell_more (length (first_whole rs)) (d.copy.kept ++ d.copy.waiting) ≡ false) none are.copy))
+    (subst (ArePlaced 0) same are.copy_placed) are
 done_marked batch parts d (WriteBase n past) fine are = record { logs = are.logs; copy = are.copy; placed = are.placed; copy_placed = are.copy_placed }
 done_marked batch parts d SyncBase fine are = record { logs = are.logs; copy = are.copy; placed = are.placed; copy_placed = are.copy_placed }
 done_marked batch parts d (NameBase n past) fine are = record { logs = are.logs; copy = are.copy; placed = are.placed; copy_placed = are.copy_placed }
@@ -300,11 +351,16 @@ begun_marked d (SyncLog k n) are = marks_changed k suspected d (λ f e is. is) (
 begun_marked d (CutLog k n) are = marks_changed k suspected d (λ f e is. is) (λ f e is. is) are
 begun_marked d a are = are
 
+untold_marked : (batch : Batch) (parts : ℕ → List Batch) (d : Device) (a : Action) → IsFine d a → AreMarked d → AreMarked (untold batch parts d a)
+untold_marked batch parts d (CutLog k n) fine are = marks_changed k (half_cut n) d (λ f e is. marked_half n f is) (λ f e is. placed_half n f is) are
+untold_marked batch parts d (SyncLog k n) fine are = failed_marked (carried_out batch parts d (SyncLog k n)) (SyncLog k n) (done_marked batch parts d (SyncLog k n) fine are)
+untold_marked batch parts d a fine are = failed_marked (carried_out batch parts d a) a (done_marked batch parts d a fine are)
+
 pub marks_after : (o : Outcome) (batch : Batch) (parts : ℕ → List Batch) (d : Device) (a : Action) → IsFine d a → AreMarked d → AreMarked (device_after o batch parts d a)
 marks_after Done batch parts d a fine are = done_marked batch parts d a fine are
 marks_after NotDone batch parts d a fine are = failed_marked d a are
 marks_after PartDone batch parts d a fine are = begun_marked d a are
-marks_after DoneUntold batch parts d a fine are = failed_marked (carried_out batch parts d a) a (done_marked batch parts d a fine are)
+marks_after DoneUntold batch parts d a fine are = untold_marked batch parts d a fine are
 
 pub marks_reread : (n : ℕ) (keep : Keep) (d : Device) → AreMarked d → AreMarked (change_log n (crashed_file keep) d)
 marks_reread n keep d are = marks_changed n (crashed_file keep) d (λ f e is. marked_crashed keep (Some f) is) (λ f e is. placed_crashed keep (Some f) is) are

@@ -1,21 +1,22 @@
 -- Cutting off the rest of a failed append keeps the invariant, and so does a sync during which it failed.
-use Rattle.std.proofs.Common.{◌≡◌, ℕ, ◌<◌, ◌≤◌, Bool, cond, ⊎_elim, List, [], ◌∷◌, ◌++◌, length, take, refl, sym, ap, ◌∙◌, subst, arith}
-use Rattle.std.specs.Prelude.{Some}
+use Rattle.std.proofs.Common.{◌≡◌, ℕ, ◌<◌, ◌≤◌, Bool, true, false, cond, not, eqb, ◌||◌, ⊎_elim, List, [], ◌∷◌, ◌++◌, length, take, drop, refl, sym, ap, ◌∙◌, subst, arith}
+use Rattle.std.specs.Prelude.{Option, Some, max}
 use Rattle.std.specs.List.{AllByRecursion}
-use Rattle.std.proofs.lemmas.Bool.{cases_lt}
+use Rattle.std.proofs.lemmas.Bool.{cases_lt, eqb-false}
 use Rattle.std.proofs.lemmas.List.{append-nil, take-append-le, length-append, length-take, length-take-le}
 use Rattle.uc_folder.specs.declared.machine.Machine.{Machine}
 use Rattle.uc_folder.specs.declared.phases.Writer.{Writer}
 use Rattle.uc_folder.specs.declared.phases.Writer.TheVariants.{Mending, Spoiled, Failed}
 use Rattle.uc_folder.specs.declared.phases.Checkpointer.{Checkpointer}
-use Rattle.uc_folder.specs.Device.{Batch, Record, first_whole, are_whole, File, Device, content, upto, at, cut, synced, suspected, changed, changed_name}
+use Rattle.uc_folder.specs.Device.{Batch, Record, first_whole, are_whole, File, Device, content, is_cut, is_used, is_empty, half_cut, upto, at, cut, synced, suspected, changed, changed_name}
 use Rattle.uc_folder.specs.Worlds.{World, IsPrefixOf, first_of, Outcome, Done, NotDone, PartDone, DoneUntold, Writes, Syncs, happens}
 use Rattle.uc_folder.proofs.Lists.{prefix_refl, prefix_trans, prefix_under, prefix_take, prefix_cancel, upto_same, at_here, at_other}
 use Rattle.uc_folder.proofs.Records.{first_take}
 use Rattle.uc_folder.proofs.Sound.{Sound, IsThere, IsLast, spared}
 use Rattle.uc_folder.proofs.Holding.{IsOpen, IsMendable, Attempt, Keeps}
+use Rattle.uc_folder.proofs.Opening.{plain_last}
 use Rattle.uc_folder.proofs.Changes.{entry_sound, submitted_sound, shrunk_sound}
-use Rattle.uc_folder.proofs.Writing.{world, inside, with_file, filed, moved, stepped, last_of, here, here_before, checkpointer_moves, answered_in, take_counted, take_more, take_twice, most, synced_file, synced_is, synced_all, synced_first, synced_more}
+use Rattle.uc_folder.proofs.Writing.{world, inside, plain, none_lost, taken_parts, all_parts, with_file, filed, moved, stepped, last_of, here, here_before, checkpointer_moves, answered_in, take_counted, take_more, take_twice, most, synced_file, synced_is, synced_all, synced_first, synced_more}
 
 -- a base that is under way has nothing of what isn't firm
 pub attempt_shrinks : (log base : ℕ) (p q : ℕ → List Batch) (firm rest : List Batch) (n past : ℕ) → ((k : ℕ) → k < log → q k ≡ p k) → q log ++ rest ≡ p log → IsPrefixOf firm (upto p log ++ q log) → Attempt log base p firm n past →
@@ -65,7 +66,7 @@ module _ (d : Device) (m : Machine) (c : Checkpointer) (parts : ℕ → List Bat
     records = f.kept ++ f.waiting
 
     abbrev g : File
-    g = record { kept = take (most m.count f is.fresh) records; waiting = []; suspect = f.suspect; past = f.past }
+    g = record { kept = take (most m.count f is.fresh) records; waiting = []; lost = []; suspect = f.suspect; past = f.past }
 
     cut_is : cut m.count f ≡ g
     cut_is = ap (λ (b : Bool). cond b f g) is.fresh
@@ -92,7 +93,57 @@ module _ (d : Device) (m : Machine) (c : Checkpointer) (parts : ℕ → List Bat
     cut_last : (own : List Batch) → IsPrefixOf front own → IsLast firm before own (Some (cut m.count f))
     cut_last own le =
         subst (λ x. IsLast firm before own (Some x)) (sym cut_is)
-        (subst (λ l. IsPrefixOf l own) (sym all_reads) le, subst (λ l. IsPrefixOf firm (before ++ l)) (sym reads) firmly)
+        (plain firm before own g refl (subst (λ l. IsPrefixOf l own) (sym all_reads) le) (subst (λ l. IsPrefixOf firm (before ++ l)) (sym reads) firmly))
+
+    -- a cut of which only the sync fails, by whether it leaves no record
+    abbrev half : Bool → File
+    half b =
+        cond b (suspected g) (record f {
+          waiting = drop (length f.kept) (take (max m.count (length f.kept)) records);
+          lost = drop (max m.count (length f.kept)) records;
+          suspect = true;
+        })
+
+    half_is : half_cut m.count f ≡ half (eqb m.count 0)
+    half_is = ap (λ (t : Bool). cond (t || eqb m.count 0) (suspected (cut m.count f)) (half false)) is.fresh ∙ ap (λ x. cond (eqb m.count 0) (suspected x) (half false)) cut_is
+
+    most_is : max m.count (length f.kept) ≡ m.count
+    most_is = let le = is.enough in omega (arith, le)
+
+    half_kept : f.kept ++ drop (length f.kept) (take (max m.count (length f.kept)) records) ≡ take m.count records
+    half_kept = taken_parts (max m.count (length f.kept)) f.kept f.waiting (omega arith) ∙ ap (λ i. take i records) most_is
+
+    half_all : f.kept ++ (drop (length f.kept) (take (max m.count (length f.kept)) records) ++ drop (max m.count (length f.kept)) records) ≡ records
+    half_all = all_parts (max m.count (length f.kept)) f.kept f.waiting (omega arith)
+
+    half_reads : content (Some (half_cut m.count f)) ≡ front
+    half_reads = ap (λ x. content (Some x)) half_is ∙ by_test (eqb m.count 0)
+      where
+        by_test : (b : Bool) → content (Some (half b)) ≡ front
+        by_test true = all_reads
+        by_test false = ap first_whole half_kept ∙ is.all
+
+    half_last : IsLast firm before part (Some f) → IsLast firm before part (Some (half_cut m.count f))
+    half_last last = subst (λ x. IsLast firm before part (Some x)) (sym half_is) (by_test (eqb m.count 0))
+      where
+        by_test : (b : Bool) → IsLast firm before part (Some (half b))
+        by_test true = subst (λ x. IsLast firm before part (Some x)) cut_is (cut_last part (batch ∷ [], split))
+        by_test false = (subst (λ l. IsPrefixOf (first_whole l) part) (sym half_all) (subst (λ l. IsPrefixOf l part) (plain_last f is.lost) last.0), last.1)
+
+    half_used : is_cut (Some (half_cut m.count f)) ≡ true → is_used (Some (half_cut m.count f)) ≡ true
+    half_used = subst (λ x. is_cut (Some x) ≡ true → is_used (Some x) ≡ true) (sym half_is) (by_test (eqb m.count 0) refl)
+      where
+        used : (xs : List Batch) → (length xs ≡ 0 → ⊥) → not (is_empty xs) ≡ true
+        used [] ne = absurd (ne refl)
+        used (x ∷ xs) ne = refl
+
+        by_test : (b : Bool) → eqb m.count 0 ≡ b → is_cut (Some (half b)) ≡ true → is_used (Some (half b)) ≡ true
+        by_test true e = none_lost (suspected g) refl
+        by_test false e = λ c.
+            let size = ap length (ap first_whole half_kept ∙ is.all) in
+            let counted = is.counted in
+            let ne : m.count ≡ 0 → ⊥ = eqb-false m.count 0 e in
+            used (first_whole (f.kept ++ drop (length f.kept) (take (max m.count (length f.kept)) records))) (λ z. ne (omega (arith, z, size, counted)))
 
     cut_sound : (sure : ℕ) → Sound d log sure parts firm → Sound (file' (cut m.count)) log sure parts firm
     cut_sound sure sound =
@@ -100,6 +151,7 @@ module _ (d : Device) (m : Machine) (c : Checkpointer) (parts : ℕ → List Bat
         (subst (IsLast firm before part) (sym (ap (changed_name (cut m.count)) is.now)) (cut_last part (batch ∷ [], split)))
         (subst (AllByRecursion (IsLast firm before (spared (changed_name (cut m.count) (d.logs log).now) part))) (sym is.named) tt)
         (λ lt. (subst IsThere (sym (ap (changed_name (cut m.count)) is.now)) tt, (sound.begun lt).1))
+        (subst (λ (o : Option File). is_cut o ≡ true → is_used o ≡ true) (sym (ap (changed_name (cut m.count)) is.now ∙ ap (λ x. Some x) cut_is)) (none_lost g refl))
 
     cut_answered : IsPrefixOf (take m.count part) (content ((file' (cut m.count)).logs log).now)
     cut_answered = subst (λ l. IsPrefixOf l (content ((file' (cut m.count)).logs log).now)) (sym first) (subst (IsPrefixOf front) (sym (ap content now_is ∙ all_reads)) (prefix_refl front))
@@ -126,6 +178,7 @@ module _ (d : Device) (m : Machine) (c : Checkpointer) (parts : ℕ → List Bat
           whole = ap are_whole (append-nil g.kept ∙ kept_is) ∙ is.whole;
           all = all_reads ∙ sym q_is;
           fresh = is.fresh;
+          lost = refl;
           counted = counted ∙ ap length (sym q_is);
           marked = omega (arith, few, counted, size);
           told = subst (λ l. IsPrefixOf firm (l ++ take m.synced (q log))) (sym q_before) (subst (λ l. IsPrefixOf firm (before ++ take m.synced l)) (sym q_is) is.told);
@@ -140,7 +193,7 @@ module _ (d : Device) (m : Machine) (c : Checkpointer) (parts : ℕ → List Bat
 
   suspects : (w : Writer) (keeps : Keeps (inside' w)) (front : List Batch) → IsMendable m.count m.synced keeps.firm before front (d.logs log) → Keeps (world (file' suspected) m Failed c parts batch acked)
   suspects w keeps front is =
-      filed d m c parts batch acked m.count m.synced w Failed suspected is.file is.now is.named keeps (last_of d m c parts batch acked w is.file is.now keeps)
+      filed d m c parts batch acked m.count m.synced w Failed suspected is.file is.now is.named keeps (last_of d m c parts batch acked w is.file is.now keeps) (none_lost (suspected is.file) is.lost)
       (subst (IsPrefixOf (take m.count part)) (ap content is.now ∙ sym (ap content (here d m c parts batch acked suspected is.file is.now)))
       (answered_in d log m.count m.synced m.base keeps.firm before part batch w keeps.writer))
 
@@ -169,13 +222,12 @@ module _ (d : Device) (m : Machine) (c : Checkpointer) (parts : ℕ → List Bat
       let front : List Batch = keeps.writer.0 in
       let split = keeps.writer.1 in
       let is = keeps.writer.2 in
-      let done : Keeps (world (file' (cut m.count)) m Failed c parts batch acked) =
-      stepped d m c parts batch acked (file' (cut m.count)) m.count m.synced Mending Failed refl (λ k. refl) keeps (cut_sound keeps.firm front split is keeps.sure keeps.sound) (cut_answered keeps.firm front split is) in
-      let g' = g keeps.firm front split is in
-      let now = now_is keeps.firm front split is in
-      filed (file' (cut m.count)) m c parts batch acked m.count m.synced Failed Failed suspected g' now (here_before d m c parts batch acked (cut m.count) ∙ is.named) done
-      (last_of (file' (cut m.count)) m c parts batch acked Failed g' now done)
-      (subst (IsPrefixOf (take m.count part)) (ap content now ∙ sym (ap content (here (file' (cut m.count)) m c parts batch acked suspected g' now))) (cut_answered keeps.firm front split is))
+      let change = half_cut m.count in
+      let half : File = change is.file in
+      filed d m c parts batch acked m.count m.synced Mending Failed change is.file is.now is.named keeps
+      (half_last keeps.firm front split is (last_of d m c parts batch acked Mending is.file is.now keeps)) (half_used keeps.firm front split is)
+      (subst (λ l. IsPrefixOf l (content ((file' change).logs log).now)) (sym (first keeps.firm front split is))
+      (subst (IsPrefixOf front) (sym (ap content (here d m c parts batch acked change is.file is.now) ∙ half_reads keeps.firm front split is)) (prefix_refl front)))
 
   -- ---- a sync during which the append has failed
 
@@ -213,6 +265,7 @@ module _ (d : Device) (m : Machine) (c : Checkpointer) (parts : ℕ → List Bat
           now = synced_now;
           named = here_before d m c parts batch acked (synced n) ∙ is.named;
           fresh = is.fresh;
+          lost = is.lost;
           whole = ap (λ l. are_whole (take m.count l)) same_records ∙ is.whole;
           all = ap (λ l. first_whole (take m.count l)) same_records ∙ is.all;
           counted = counted;
@@ -226,25 +279,26 @@ module _ (d : Device) (m : Machine) (c : Checkpointer) (parts : ℕ → List Bat
     grows = prefix_trans firm (before ++ take m.synced front) (before ++ take n front) is.told (prefix_under before (take m.synced front) (take n front) (take_more m.synced n front from))
 
     reads_part : (sure : ℕ) → Sound d log sure parts firm → IsPrefixOf (first_whole (synced'.kept ++ synced'.waiting)) part
-    reads_part sure sound = subst (λ l. IsPrefixOf (first_whole l) part) (sym same_records) (subst (IsLast firm before part) is.now sound.last).0
+    reads_part sure sound =
+        subst (λ l. IsPrefixOf (first_whole l) part) (sym same_records) (subst (λ l. IsPrefixOf l part) (plain_last is.file is.lost) (subst (IsLast firm before part) is.now sound.last).0)
 
     spoiled_sound : (sure : ℕ) → Sound d log sure parts firm → Sound (file' (synced n)) log sure parts firm
     spoiled_sound sure sound =
         let last : IsLast firm before part (Some (synced n is.file)) =
-        subst (λ x. IsLast firm before part (Some x)) (sym (synced_is n is.file is.fresh)) (
-          reads_part sure sound,
-          prefix_trans firm (before ++ first_whole is.file.kept) (before ++ first_whole synced'.kept) (subst (IsLast firm before part) is.now sound.last).1
-              (prefix_under before (first_whole is.file.kept) (first_whole synced'.kept) (synced_more n is.file is.fresh)),
-        ) in
+        subst (λ x. IsLast firm before part (Some x)) (sym (synced_is n is.file is.fresh)) (plain firm before part synced' is.lost
+        (reads_part sure sound)
+        (prefix_trans firm (before ++ first_whole is.file.kept) (before ++ first_whole synced'.kept) (subst (IsLast firm before part) is.now sound.last).1
+        (prefix_under before (first_whole is.file.kept) (first_whole synced'.kept) (synced_more n is.file is.fresh)))) in
         entry_sound d log sure parts firm sound (changed (synced n) (d.logs log)) d.names sound.named
         (subst (IsLast firm before part) (sym (ap (changed_name (synced n)) is.now)) last)
         (subst (AllByRecursion (IsLast firm before (spared (changed_name (synced n) (d.logs log).now) part))) (sym is.named) tt)
         (λ lt. (subst IsThere (sym (ap (changed_name (synced n)) is.now)) tt, (sound.begun lt).1))
+        (subst (λ (o : Option File). is_cut o ≡ true → is_used o ≡ true) (sym (ap (changed_name (synced n)) is.now ∙ ap (λ x. Some x) (synced_is n is.file is.fresh))) (none_lost synced' is.lost))
 
     spoiled_firmly : (sure : ℕ) → Sound d log sure parts firm → Sound (file' (synced n)) log sure parts (before ++ take n front)
     spoiled_firmly sure sound =
         submitted_sound (file' (synced n)) log sure parts firm (spoiled_sound sure sound) parts (before ++ take n front) (λ k lt. refl) (prefix_refl part) grows
-        (subst (IsLast (before ++ take n front) before part) (sym synced_now) (reads_part sure sound, prefix_under before (take n front) (first_whole synced'.kept) synced_enough))
+        (subst (IsLast (before ++ take n front) before part) (sym synced_now) (plain (before ++ take n front) before part synced' is.lost (reads_part sure sound) (prefix_under before (take n front) (first_whole synced'.kept) synced_enough)))
         (subst (AllByRecursion (IsLast (before ++ take n front) before (spared ((file' (synced n)).logs log).now part))) (sym (here_before d m c parts batch acked (synced n) ∙ is.named)) tt)
 
     same_read : content (d.logs log).now ≡ content ((file' (synced n)).logs log).now
@@ -279,5 +333,5 @@ module _ (d : Device) (m : Machine) (c : Checkpointer) (parts : ℕ → List Bat
       stepped d m c parts batch acked (file' (synced n)) m.count m.synced (Spoiled n) Failed refl (λ k. refl) keeps (spoiled_sound n keeps.firm front split is from to keeps.sure keeps.sound) answered' in
       let g' = synced' n keeps.firm front split is from to in
       filed (file' (synced n)) m c parts batch acked m.count m.synced Failed Failed suspected g' now (here_before d m c parts batch acked (synced n) ∙ is.named) done
-      (last_of (file' (synced n)) m c parts batch acked Failed g' now done)
+      (last_of (file' (synced n)) m c parts batch acked Failed g' now done) (none_lost (suspected g') is.lost)
       (subst (IsPrefixOf (take m.count part)) (ap content now ∙ sym (ap content (here (file' (synced n)) m c parts batch acked suspected g' now))) answered')

@@ -11,7 +11,7 @@ use Rattle.uc_folder.specs.declared.phases.NextLog.{NextLog}
 use Rattle.uc_folder.specs.declared.phases.NextLog.TheVariants.{Absent, Creating, Recording, Waiting}
 use Rattle.uc_folder.specs.declared.phases.Checkpointer.{Checkpointer}
 use Rattle.uc_folder.specs.declared.phases.Checkpointer.TheVariants.{Idle, RemovingLog}
-use Rattle.uc_folder.specs.Device.{Batch, Whole, Torn, File, Entry, Device, last_log, crashed, empty_file, appended, synced, cut, suspected, changed, change_log, stands_for, name_log, sync_names, upto}
+use Rattle.uc_folder.specs.Device.{Batch, Whole, Torn, File, Entry, Device, last_log, crashed, empty_file, appended, synced, cut, half_cut, suspected, changed, change_log, stands_for, name_log, sync_names, upto}
 use Rattle.uc_folder.specs.Steps.{next_write, opened, log_after, writer_after, next_after, next_make, made_after, writer_synced, next_checkpoint, submitting, syncing, switching, asking_next}
 use Rattle.uc_folder.specs.Worlds.{World, Outcome, Done, NotDone, PartDone, DoneUntold, is_done, carried_out, device_after, is_settled, found, keeps_all, names_read, begun_by, count_read, opens, reread, Event, Submit, AskSync, AskNext, AskSwitch, AskCheckpoint, Writes, Makes, Syncs, Checkpoints, Crash, Restart, Reread, happens}
 use Rattle.uc_folder.proofs.Lists.{prefix_refl, at_here, at_other}
@@ -126,7 +126,7 @@ module _ (d : Device) (n : ℕ) (next : NextLog) (batch : Batch) (parts : ℕ �
   made_over Done (CutLog k count) lt is = made_beside d k n (cut count) next lt is
   made_over NotDone (CutLog k count) lt is = made_beside d k n suspected next lt is
   made_over PartDone (CutLog k count) lt is = made_beside d k n suspected next lt is
-  made_over DoneUntold (CutLog k count) lt is = made_beside (change_log k (cut count) d) k n suspected next lt (made_beside d k n (cut count) next lt is)
+  made_over DoneUntold (CutLog k count) lt is = made_beside d k n (half_cut count) next lt is
   made_over Done SyncNames lt is = made_stays d (sync_names d) n next refl (λ e. refl) (omega arith) is
   made_over NotDone SyncNames lt is = is
   made_over PartDone SyncNames lt is = is

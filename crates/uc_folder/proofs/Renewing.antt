@@ -13,13 +13,13 @@ use Rattle.uc_folder.proofs.Lists.{prefix_refl, prefix_trans, prefix_onto, prefi
 use Rattle.uc_folder.proofs.Records.{part_first, part_whole, first_take, whole_take}
 use Rattle.uc_folder.proofs.Sound.{IsWhole, IsThere, IsLast, spared, Sound}
 use Rattle.uc_folder.proofs.Holding.{IsRead, IsNew, IsOpen, IsCopy, IsOpening, IsSettling, IfSealed, FitsWriter, Attempt, Keeps}
-use Rattle.uc_folder.proofs.Opening.{whole_content, whole_all}
+use Rattle.uc_folder.proofs.Opening.{whole_content, whole_last, whole_all}
 use Rattle.uc_folder.proofs.Changes.{later_sound, submitted_sound, shrunk_sound, named_sound, aside_sound}
-use Rattle.uc_folder.proofs.Writing.{world, inside, stepped, waits, fails, edited, read_file, checkpointer_moves, answered_in, take_counted}
+use Rattle.uc_folder.proofs.Writing.{world, inside, stepped, waits, fails, edited, read_file, none_lost, checkpointer_moves, answered_in, take_counted}
 use Rattle.uc_folder.proofs.Mending.{attempt_shrinks}
 
 pub empty_new : (e : Entry) → IsNew (stands_for (Some empty_file) e).now
-empty_new e = record { file = empty_file; now = refl; kept = refl; waiting = refl; fresh = refl }
+empty_new e = record { file = empty_file; now = refl; kept = refl; waiting = refl; lost = refl; fresh = refl }
 
 module _ (d : Device) (m : Machine) (c : Checkpointer) (parts : ℕ → List Batch) (batch : Batch) (acked : List Batch) where
   abbrev log : ℕ
@@ -44,7 +44,7 @@ module _ (d : Device) (m : Machine) (c : Checkpointer) (parts : ℕ → List Bat
       edited d m c parts batch acked m.count m.synced Making v (stands_for (Some empty_file) (d.logs log)) (max d.names log) keeps (omega arith)
       ((part, refl), prefix_onto keeps.firm (upto parts log) [] has)
       (subst (IsLast keeps.firm (upto parts log) part) (sym gone) has, subst (λ own. AllByRecursion (IsLast keeps.firm (upto parts log) own) (d.logs log).before) (ap (λ o. spared o part) gone ∙ sym keeps.writer.1) keeps.sound.spare)
-      (λ lt. absurd (subst IsThere gone (keeps.sound.begun lt).0)) fits
+      (λ lt. absurd (subst IsThere gone (keeps.sound.begun lt).0)) (none_lost empty_file refl) fits
 
   made : (keeps : Keeps (inside' Making)) → FitsAt (name_log log (Some empty_file) d) keeps.firm Founding
   made keeps =
@@ -76,6 +76,7 @@ module _ (d : Device) (m : Machine) (c : Checkpointer) (parts : ℕ → List Bat
         whole = ap are_whole none;
         all = ap first_whole none ∙ sym empty;
         fresh = is.fresh;
+        lost = is.lost;
         counted = counted ∙ ap length (sym empty);
         marked = omega (arith, synced);
         told = subst (λ l. IsPrefixOf keeps.firm (upto parts log ++ l)) (ap first_whole is.kept ∙ ap (λ i. take i part) (sym synced)) last;
@@ -131,14 +132,15 @@ module _ (d : Device) (m : Machine) (c : Checkpointer) (parts : ℕ → List Bat
   copies : (w v : Writer) (f : File) (keeps : Keeps (inside' w)) → FitsAt (write_copy f d) keeps.firm v → Keeps (world (write_copy f d) m v c parts batch acked)
   copies w v f keeps fits = stepped d m c parts batch acked (write_copy f d) m.count m.synced w v refl (λ k. refl) keeps (aside_sound d log keeps.sure parts keeps.firm keeps.sound f d.partial) fits
 
-  is_copy : IsRead part (d.logs log).now → IsCopy (take m.count part) (copied m.count (d.logs log).now)
+  is_copy : IsRead m.count part (d.logs log).now → IsCopy (take m.count part) (copied m.count (d.logs log).now)
   is_copy is =
-      let found = read_file part (d.logs log).now is in
+      let found = read_file m.count part (d.logs log).now is in
       let records = whole_part (records_of (d.logs log).now) in
       record {
         whole = whole_take m.count records (part_whole (records_of (d.logs log).now));
-        all = first_take m.count records ∙ ap (take m.count) (part_first (records_of (d.logs log).now) ∙ (ap content found.1 ∙ found.2));
+        all = first_take m.count records ∙ (ap (take m.count) (part_first (records_of (d.logs log).now) ∙ ap content found.1) ∙ found.2);
         fresh = refl;
+        lost = refl;
       }
 
   pub copying_keeps : (o : Outcome) → Keeps (inside' Copying) → Keeps (happens (inside' Copying) (Writes o))
@@ -149,7 +151,7 @@ module _ (d : Device) (m : Machine) (c : Checkpointer) (parts : ℕ → List Bat
 
   pub sealing_copy_keeps : (o : Outcome) → Keeps (inside' SealingCopy) → Keeps (happens (inside' SealingCopy) (Writes o))
   sealing_copy_keeps Done keeps =
-      let is = keeps.writer.1 in copies SealingCopy Replacing (sealed d.copy) keeps (keeps.writer.0, record { kept = is.all; whole = is.whole; waiting = refl }, is.fresh)
+      let is = keeps.writer.1 in copies SealingCopy Replacing (sealed d.copy) keeps (keeps.writer.0, record { kept = is.all; whole = is.whole; waiting = refl; lost = is.lost }, is.fresh)
   sealing_copy_keeps NotDone keeps = fails d m c parts batch acked SealingCopy keeps
   sealing_copy_keeps PartDone keeps = fails d m c parts batch acked SealingCopy keeps
   sealing_copy_keeps DoneUntold keeps = copies SealingCopy Failed (sealed d.copy) keeps (answered_in d log m.count m.synced m.base keeps.firm (upto parts log) part batch SealingCopy keeps.writer)
@@ -159,13 +161,13 @@ module _ (d : Device) (m : Machine) (c : Checkpointer) (parts : ℕ → List Bat
   replacing v keeps fits =
       let is : IsWhole (take m.count part) d.copy = keeps.writer.1 in
       edited d m c parts batch acked m.count m.synced Replacing v (stands_for (Some d.copy) (d.logs log)) (max d.names log) keeps (omega arith) (
-        subst (λ l. IsPrefixOf l part) (sym (whole_content (take m.count part) d.copy is)) (prefix_take m.count part),
+        subst (λ l. IsPrefixOf l part) (sym (whole_last (take m.count part) d.copy is)) (prefix_take m.count part),
         subst (λ l. IsPrefixOf keeps.firm (upto parts log ++ l)) (sym is.kept) keeps.writer.0.firmly,
       ) (
         keeps.sound.last,
         subst (AllByRecursion (IsLast keeps.firm (upto parts log) part)) (sym keeps.writer.0.named) tt,
       )
-      (λ lt. (tt, keeps.sound.begun lt)) fits
+      (λ lt. (tt, keeps.sound.begun lt)) (none_lost d.copy is.lost) fits
 
   replaced : (keeps : Keeps (inside' Replacing)) → FitsAt (name_log log (Some d.copy) d) keeps.firm Settling
   replaced keeps = record {
@@ -207,7 +209,7 @@ module _ (d : Device) (m : Machine) (c : Checkpointer) (parts : ℕ → List Bat
     last : (less : List Batch) → IsPrefixOf less more → (own : List Batch) → kept ≡ own → IsLast less (upto parts log) own (d.logs log).now
     last less le own e =
         subst (IsLast less (upto parts log) own) (sym is.now) (
-          subst (λ l. IsPrefixOf l own) (sym (whole_content kept is.file is.is)) (subst (IsPrefixOf kept) e (prefix_refl kept)),
+          subst (λ l. IsPrefixOf l own) (sym (whole_last kept is.file is.is)) (subst (IsPrefixOf kept) e (prefix_refl kept)),
           subst (λ l. IsPrefixOf less (upto parts log ++ l)) (sym is.is.kept) le,
         )
 
@@ -231,6 +233,7 @@ module _ (d : Device) (m : Machine) (c : Checkpointer) (parts : ℕ → List Bat
           whole = whole_all kept is.file is.is;
           all = whole_content kept is.file is.is ∙ sym q_is;
           fresh = is.fresh;
+          lost = is.is.lost;
           counted = sym size ∙ ap length (sym q_is);
           marked = omega (arith, size, read);
           told = subst (λ l. IsPrefixOf more (l ++ take m.count (q log))) (sym q_before)

@@ -13,7 +13,7 @@ use Rattle.uc_folder.specs.Worlds.{World, IsPrefixOf, Outcome, Done, NotDone, Pa
 use Rattle.uc_folder.proofs.Lists.{take_grows, prefix_refl, prefix_trans, prefix_under, upto_same, upto_more, at_here, at_other}
 use Rattle.uc_folder.proofs.Sound.{Sound}
 use Rattle.uc_folder.proofs.Holding.{Keeps}
-use Rattle.uc_folder.proofs.Opening.{j, read, j_below, upto_read}
+use Rattle.uc_folder.proofs.Opening.{j, own, j_below, upto_own}
 use Rattle.uc_folder.proofs.Reopening.{begun_log, begun_synced, opened_says}
 use Rattle.uc_folder.proofs.Changes.{reread_sound}
 use Rattle.uc_folder.proofs.Writing.{world, take_counted, take_twice}
@@ -101,11 +101,11 @@ module _ (d : Device) (m : Machine) (c : Checkpointer) (parts : ℕ → List Bat
   says_synced w DoneUntold says = says
 
 -- older logs are acknowledged
-says_opened : (d : Device) (log sure synced : ℕ) (parts : ℕ → List Batch) (firm acked : List Batch) (sound : Sound d log sure parts firm) → IsPrefixOf (first_of parts log synced) acked → IsPrefixOf (first_of (read d log sure parts firm sound) (j d log sure parts firm sound) 0) acked
+says_opened : (d : Device) (log sure synced : ℕ) (parts : ℕ → List Batch) (firm acked : List Batch) (sound : Sound d log sure parts firm) → IsPrefixOf (first_of parts log synced) acked → IsPrefixOf (first_of (own d log sure parts firm sound) (j d log sure parts firm sound) 0) acked
 says_opened d log sure synced parts firm acked sound says =
     let i = j d log sure parts firm sound in
     let le = j_below d log sure parts firm sound in
-    let same : upto parts i ≡ upto (read d log sure parts firm sound) i ++ [] = sym (upto_read d log sure parts firm sound i le) ∙ sym (append-nil (upto (read d log sure parts firm sound) i)) in
+    let same : upto parts i ≡ upto (own d log sure parts firm sound) i ++ [] = sym (upto_own d log sure parts firm sound i le) ∙ sym (append-nil (upto (own d log sure parts firm sound) i)) in
     subst (λ l. IsPrefixOf l acked) same
     (prefix_trans (upto parts i) (upto parts log) acked (upto_more parts i log le)
     (prefix_trans (upto parts log) (first_of parts log synced) acked (take synced (parts log), refl) says))

@@ -1,9 +1,9 @@
 -- The folder between any two operations, whatever the machine does: a crash leaves one that can be opened.
-use Rattle.std.proofs.Common.{length, ◌≡◌, ℕ, ◌<◌, ◌≤◌, true, ◌⊎◌, inl, inr, ⊎_elim, List, [], ◌∷◌, ◌++◌, get_or, take, refl, sym, ap, ◌∙◌, subst}
+use Rattle.std.proofs.Common.{length, ◌≡◌, ℕ, ◌<◌, ◌≤◌, true, false, ◌⊎◌, inl, inr, ⊎_elim, List, [], ◌∷◌, ◌++◌, get_or, take, refl, sym, ap, ◌∙◌, subst}
 use Rattle.std.specs.Prelude.{⊤, Option, Some, None}
 use Rattle.std.specs.List.{AllByRecursion}
 use Rattle.std.proofs.lemmas.List.{append-nil}
-use Rattle.uc_folder.specs.Device.{Batch, first_whole, are_whole, left_of, File, Entry, Device, Keep, first_number, crashed, crashed_file, crashed_name, crashed_entry, upto}
+use Rattle.uc_folder.specs.Device.{Batch, first_whole, are_whole, left_of, File, Entry, Device, Keep, first_number, crashed, crashed_file, crashed_name, crashed_entry, is_cut, is_used, upto}
 use Rattle.uc_folder.specs.Worlds.{IsPrefixOf}
 use Rattle.uc_folder.proofs.Lists.{prefix_refl, prefix_trans, prefix_under, prefix_of_nil, all_at, all_weaker}
 use Rattle.uc_folder.proofs.Records.{first_prefix, left_prefix, take_none}
@@ -15,6 +15,7 @@ pub record IsWhole (xs : List Batch) (f : File) : Type 0 where
   pub kept : first_whole f.kept ≡ xs
   pub whole : are_whole f.kept ≡ true
   pub waiting : f.waiting ≡ []
+  pub lost : f.lost ≡ []
 
 -- A base of a number: what the logs before that have, and the beginning of that log's. All of it is on the device in the logs, too.
 pub record IsBaseFile (all before own : List Batch) (f : File) : Type 0 where
@@ -45,12 +46,12 @@ IsLog part (Some f) = IsWhole part f
 -- nothing, or a file of which nothing is read
 abbrev pub IsUnused : Option File → Type 0
 IsUnused None = ⊤
-IsUnused (Some f) = first_whole (f.kept ++ f.waiting) ≡ []
+IsUnused (Some f) = first_whole (f.kept ++ (f.waiting ++ f.lost)) ≡ []
 
--- the log that is written, after what came before it
+-- The log that is written, after what came before it. Records that are lost are among those that were submitted.
 abbrev pub IsLast : List Batch → List Batch → List Batch → Option File → Type 0
 IsLast firm before part None = IsPrefixOf firm before
-IsLast firm before part (Some f) = IsPrefixOf (first_whole (f.kept ++ f.waiting)) part × IsPrefixOf firm (before ++ first_whole f.kept)
+IsLast firm before part (Some f) = IsPrefixOf (first_whole (f.kept ++ (f.waiting ++ f.lost))) part × IsPrefixOf firm (before ++ first_whole f.kept)
 
 -- the batches that may be read of a file for which the name of a log stood before: none, if the log is gone
 abbrev pub spared : Option File → List Batch → List Batch
@@ -73,6 +74,7 @@ pub record Sound (d : Device) (log sure : ℕ) (parts : ℕ → List Batch) (fir
   pub last : IsLast firm (upto parts log) (parts log) (d.logs log).now
   pub spare : AllByRecursion (IsLast firm (upto parts log) (spared (d.logs log).now (parts log))) (d.logs log).before
   pub begun : first_number < log → Each IsThere (d.logs log)
+  pub cut : is_cut (d.logs log).now ≡ true → is_used (d.logs log).now ≡ true
   pub later : (k : ℕ) → log < k → Each IsUnused (d.logs k)
   pub named : log ≤ d.names
   pub stands : IsPrefixOf (upto parts log) firm
@@ -86,9 +88,10 @@ each_crashed P stays keep e each = (stays keep (get_or (e.now ∷ e.before) keep
 
 pub whole_crashed : (xs : List Batch) (keep : Keep) (f : File) → IsWhole xs f → IsWhole xs (crashed_file keep f)
 whole_crashed xs keep f is =
-    let none : left_of keep.whole (take keep.count f.waiting) ≡ [] = ap (λ l. left_of keep.whole (take keep.count l)) is.waiting ∙ ap (left_of keep.whole) (take_none keep.count) in
-    let same : f.kept ++ left_of keep.whole (take keep.count f.waiting) ≡ f.kept = ap (λ l. f.kept ++ l) none ∙ append-nil f.kept in
-    record { kept = ap first_whole same ∙ is.kept; whole = ap are_whole same ∙ is.whole; waiting = refl }
+    let rest : f.waiting ++ f.lost ≡ [] = ap (λ l. l ++ f.lost) is.waiting ∙ is.lost in
+    let none : left_of keep.whole (take keep.count (f.waiting ++ f.lost)) ≡ [] = ap (λ l. left_of keep.whole (take keep.count l)) rest ∙ ap (left_of keep.whole) (take_none keep.count) in
+    let same : f.kept ++ left_of keep.whole (take keep.count (f.waiting ++ f.lost)) ≡ f.kept = ap (λ l. f.kept ++ l) none ∙ append-nil f.kept in
+    record { kept = ap first_whole same ∙ is.kept; whole = ap are_whole same ∙ is.whole; waiting = refl; lost = refl }
 
 pub base_crashed : (firm : List Batch) (parts : ℕ → List Batch) (log k : ℕ) (keep : Keep) (o : Option File) → IsBase firm parts log k o → IsBase firm parts log k (crashed_name keep o)
 base_crashed firm parts log k keep None is = tt
@@ -104,26 +107,26 @@ log_crashed part keep None is = is
 log_crashed part keep (Some f) is = whole_crashed part keep f is
 
 -- no more is read after a crash
-crashed_reads : (keep : Keep) (f : File) → IsPrefixOf (first_whole ((crashed_file keep f).kept ++ (crashed_file keep f).waiting)) (first_whole (f.kept ++ f.waiting))
+crashed_reads : (keep : Keep) (f : File) → IsPrefixOf (first_whole ((crashed_file keep f).kept ++ [])) (first_whole (f.kept ++ (f.waiting ++ f.lost)))
 crashed_reads keep f =
-    subst (λ l. IsPrefixOf (first_whole l) (first_whole (f.kept ++ f.waiting))) (sym (append-nil (f.kept ++ left_of keep.whole (take keep.count f.waiting)))) (left_prefix f.kept f.waiting keep.whole keep.count)
+    subst (λ l. IsPrefixOf (first_whole l) (first_whole (f.kept ++ (f.waiting ++ f.lost)))) (sym (append-nil (crashed_file keep f).kept)) (left_prefix f.kept (f.waiting ++ f.lost) keep.whole keep.count)
 
 unused_crashed : (keep : Keep) (o : Option File) → IsUnused o → IsUnused (crashed_name keep o)
 unused_crashed keep None is = tt
 unused_crashed keep (Some f) is =
-    prefix_of_nil (first_whole ((crashed_file keep f).kept ++ (crashed_file keep f).waiting)) (subst (IsPrefixOf (first_whole ((crashed_file keep f).kept ++ (crashed_file keep f).waiting))) is (crashed_reads keep f))
+    prefix_of_nil (first_whole ((crashed_file keep f).kept ++ [])) (subst (IsPrefixOf (first_whole ((crashed_file keep f).kept ++ []))) is (crashed_reads keep f))
 
 pub last_crashed : (firm before part : List Batch) (keep : Keep) (o : Option File) → IsLast firm before part o → IsLast firm before part (crashed_name keep o)
 last_crashed firm before part keep None is = is
 last_crashed firm before part keep (Some f) is = (
-  prefix_trans (first_whole ((crashed_file keep f).kept ++ (crashed_file keep f).waiting)) (first_whole (f.kept ++ f.waiting)) part (crashed_reads keep f) is.0,
+  prefix_trans (first_whole ((crashed_file keep f).kept ++ [])) (first_whole (f.kept ++ (f.waiting ++ f.lost))) part (crashed_reads keep f) is.0,
   prefix_trans firm (before ++ first_whole f.kept) (before ++ first_whole (crashed_file keep f).kept) is.1
-      (prefix_under before (first_whole f.kept) (first_whole (crashed_file keep f).kept) (first_prefix f.kept (left_of keep.whole (take keep.count f.waiting)))),
+      (prefix_under before (first_whole f.kept) (first_whole (crashed_file keep f).kept) (first_prefix f.kept (left_of keep.whole (take keep.count (f.waiting ++ f.lost))))),
 )
 
 pub last_weaker : (firm before part more : List Batch) → IsPrefixOf part more → (o : Option File) → IsLast firm before part o → IsLast firm before more o
 last_weaker firm before part more le None is = is
-last_weaker firm before part more le (Some f) is = (prefix_trans (first_whole (f.kept ++ f.waiting)) part more is.0 le, is.1)
+last_weaker firm before part more le (Some f) is = (prefix_trans (first_whole (f.kept ++ (f.waiting ++ f.lost))) part more is.0 le, is.1)
 
 pub spared_part : (part : List Batch) (o : Option File) → IsPrefixOf (spared o part) part
 spared_part part None = (part, refl)
@@ -137,6 +140,11 @@ last_each firm before part e now spare =
 older_crashed : (part : List Batch) (keep : Keep) (e : Entry) → IsLog part e.now × (e.before ≡ []) → IsLog part (crashed_entry keep e).now × ((crashed_entry keep e).before ≡ [])
 older_crashed part keep e is = ((each_crashed (IsLog part) (log_crashed part) keep e (is.0, subst (AllByRecursion (IsLog part)) (sym is.1) tt)).0, refl)
 
+-- after a crash no record is lost
+pub uncut_name : (keep : Keep) (o : Option File) → is_cut (crashed_name keep o) ≡ false
+uncut_name keep None = refl
+uncut_name keep (Some f) = refl
+
 module _ (d : Device) (log sure : ℕ) (parts : ℕ → List Batch) (firm : List Batch) (sound : Sound d log sure parts firm) where
   pub crash_sound : (logs bases : ℕ → Keep) → Sound (crashed logs bases d) log sure parts firm
   crash_sound logs bases = record {
@@ -149,6 +157,7 @@ module _ (d : Device) (log sure : ℕ) (parts : ℕ → List Batch) (firm : List
     last = (each_crashed (IsLast firm (upto parts log) (parts log)) (last_crashed firm (upto parts log) (parts log)) (logs log) (d.logs log) (last_each firm (upto parts log) (parts log) (d.logs log) sound.last sound.spare)).0;
     spare = tt;
     begun = λ lt. each_crashed IsThere there_crashed (logs log) (d.logs log) (sound.begun lt);
+    cut = λ e. absurd (let x : true ≡ false = sym e ∙ uncut_name (logs log) (get_or ((d.logs log).now ∷ (d.logs log).before) (logs log).which (d.logs log).now) in cc);
     later = λ k lt. each_crashed IsUnused unused_crashed (logs k) (d.logs k) (sound.later k lt);
     named = sound.named;
     stands = sound.stands;

@@ -7,15 +7,15 @@ use Rattle.uc_folder.specs.declared.phases.Writer.{Writer}
 use Rattle.uc_folder.specs.declared.phases.Writer.TheVariants.{Ready, Appending, Syncing, Both, Spoiled, Closing, Failed}
 use Rattle.uc_folder.specs.declared.phases.NextLog.TheVariants.{Absent}
 use Rattle.uc_folder.specs.declared.phases.Checkpointer.{Checkpointer}
-use Rattle.uc_folder.specs.Device.{Batch, first_whole, are_whole, File, Entry, Device, content, upto, at, synced, suspected, changed, change_log}
+use Rattle.uc_folder.specs.Device.{Batch, first_whole, are_whole, File, Entry, Device, content, is_cut, upto, at, synced, suspected, changed, change_log}
 use Rattle.uc_folder.specs.Worlds.{World, IsPrefixOf, first_of, Outcome, Done, NotDone, PartDone, DoneUntold, Writes, Syncs, happens}
 use Rattle.uc_folder.proofs.Lists.{prefix_refl, prefix_trans, prefix_take, at_here, at_other}
 use Rattle.uc_folder.proofs.Records.{whole_front, whole_length}
 use Rattle.uc_folder.proofs.Sound.{Sound, IsWhole, IsThere, IsLog, IsLast}
 use Rattle.uc_folder.proofs.Holding.{IsNew, IsOpen, IsAppended, Keeps}
-use Rattle.uc_folder.proofs.Opening.{sound_firm}
+use Rattle.uc_folder.proofs.Opening.{sound_firm, uncut}
 use Rattle.uc_folder.proofs.Changes.{switched_sound}
-use Rattle.uc_folder.proofs.Writing.{world, inside, moved, stepped, with_next, with_file, filed, last_of, here, here_before, most, synced_file, synced_all, synced_first}
+use Rattle.uc_folder.proofs.Writing.{world, inside, moved, stepped, none_lost, with_next, with_file, filed, last_of, here, here_before, most, synced_file, synced_all, synced_first}
 use Rattle.uc_folder.proofs.Adding.{marked_count, synced_now, synced_open, synced_sound, synced_firmly, synced_grows}
 use Rattle.uc_folder.proofs.Mending.{spoiled_syncs}
 use Rattle.uc_folder.proofs.Next.{IsNext, waiting_next}
@@ -41,7 +41,7 @@ module _ (d : Device) (m : Machine) (c : Checkpointer) (parts : ℕ → List Bat
   -- nothing is different, but that the file is suspect
   suspects : (w : Writer) (own : List Batch) (count : ℕ) (keeps : Keeps (inside' w)) → IsOpen count m.synced keeps.firm before own (d.logs log) → IsPrefixOf (take m.count part) own → Keeps (world (file' suspected) m Failed c parts batch acked)
   suspects w own count keeps is le =
-      filed d m c parts batch acked m.count m.synced w Failed suspected is.file is.now is.named keeps (last_of d m c parts batch acked w is.file is.now keeps)
+      filed d m c parts batch acked m.count m.synced w Failed suspected is.file is.now is.named keeps (last_of d m c parts batch acked w is.file is.now keeps) (none_lost (suspected is.file) is.lost)
       (subst (IsPrefixOf (take m.count part)) (sym (ap content (here d m c parts batch acked suspected is.file is.now) ∙ is.all)) le)
 
   -- it may be done all the same
@@ -53,7 +53,7 @@ module _ (d : Device) (m : Machine) (c : Checkpointer) (parts : ℕ → List Bat
       stepped d m c parts batch acked (file' (synced n)) m.count m.synced w Failed refl (λ k. refl) keeps (synced_sound d m c parts batch acked n own keeps.firm is keeps.sure keeps.sound begins)
       (subst (IsPrefixOf (take m.count part)) (sym (ap content is'.now ∙ is'.all)) le) in
       filed (file' (synced n)) m c parts batch acked m.count m.synced Failed Failed suspected is'.file is'.now is'.named done
-      (last_of (file' (synced n)) m c parts batch acked Failed is'.file is'.now done)
+      (last_of (file' (synced n)) m c parts batch acked Failed is'.file is'.now done) (none_lost (suspected is'.file) is.lost)
       (subst (IsPrefixOf (take m.count part)) (sym (ap content (here (file' (synced n)) m c parts batch acked suspected is'.file is'.now) ∙ is'.all)) le)
 
   -- the batches that were answered, where another one is under way
@@ -120,6 +120,7 @@ module _ (d : Device) (m : Machine) (c : Checkpointer) (parts : ℕ → List Bat
         kept = synced_first m.count f is.fresh ∙ (ap (take (most m.count f is.fresh)) is.all ∙ take_all (most m.count f is.fresh) part (omega (arith, counted)));
         whole = whole_front g.kept g.waiting (ap are_whole (synced_all m.count f is.fresh) ∙ is.whole);
         waiting = drop_all (most m.count f is.fresh) (f.kept ++ f.waiting) (omega (arith, counted, size, all));
+        lost = is.lost;
       }
 
   few_synced : (firm : List Batch) → IsOpen m.count m.synced firm before part (d.logs log) → m.synced ≤ m.count
@@ -153,7 +154,7 @@ module _ (d : Device) (m : Machine) (c : Checkpointer) (parts : ℕ → List Bat
       let grows = sound_firm e' log done.sure parts done.firm done.sound in
       let named : (e'.logs log).before ≡ [] = here_before d m c parts batch acked (synced m.count) ∙ is.named in
       let sound = switched_sound e' log done.sure parts done.firm done.sound next e (subst (IsLog part) (sym now) (closed keeps.firm is)) named
-      (subst IsThere (sym new.now) tt, subst (AllByRecursion IsThere) (sym alone) tt) top in
+      (subst IsThere (sym new.now) tt, subst (AllByRecursion IsThere) (sym alone) tt) (ap is_cut new.now ∙ uncut new.file new.lost) top in
       let last = subst (IsLast more (upto q next) (q next)) new.now sound.last in
       moved e' (record m { count = m.count; synced = m.count }) c parts batch all e' next 0 0 q batch all more Ready Ready refl (λ k. refl) (omega (arith, e)) (λ k lt. at_other next [] parts k (omega (arith, e, lt)))
       (subst (IsPrefixOf part) (sym (at_other next [] parts log (omega (arith, e)))) (prefix_refl part)) done grows sound
@@ -165,6 +166,7 @@ module _ (d : Device) (m : Machine) (c : Checkpointer) (parts : ℕ → List Bat
         whole = ap are_whole none;
         all = ap first_whole none ∙ sym empty;
         fresh = new.fresh;
+        lost = new.lost;
         counted = ap length (sym empty);
         marked = omega arith;
         told = subst (λ l. IsPrefixOf more (upto q next ++ l)) (ap first_whole new.kept) last.1;

@@ -1,5 +1,5 @@
 -- The writer's steps have this in common: another phase, and another folder.
-use Rattle.std.proofs.Common.{◌≡◌, ℕ, zero, suc, ◌<◌, ◌≤◌, Bool, false, cond, List, [], ◌∷◌, ◌++◌, length, take, drop, refl, sym, ap, ◌∙◌, subst, arith}
+use Rattle.std.proofs.Common.{◌≡◌, ℕ, zero, suc, ◌<◌, ◌≤◌, Bool, true, false, cond, List, [], ◌∷◌, ◌++◌, append_assoc, length, take, drop, refl, sym, ap, ◌∙◌, subst, arith}
 use Rattle.std.specs.Prelude.{Option, Some, None, max}
 use Rattle.std.specs.List.{AllByRecursion}
 use Rattle.std.proofs.lemmas.List.{take-append-le, take-append-drop, length-append}
@@ -9,13 +9,13 @@ use Rattle.uc_folder.specs.declared.phases.Writer.TheVariants.{Making, Founding,
 use Rattle.uc_folder.specs.declared.phases.NextLog.{NextLog}
 use Rattle.uc_folder.specs.declared.phases.Checkpointer.{Checkpointer}
 use Rattle.uc_folder.specs.declared.phases.Checkpointer.TheVariants.{Idle, Writing, Sealing, Renaming, Fixing, RemovingLog, RemovingBase}
-use Rattle.uc_folder.specs.Device.{Batch, first_whole, File, Entry, Device, first_number, content, upto, at, synced, changed, changed_name, change_log}
+use Rattle.uc_folder.specs.Device.{Batch, Record, first_whole, File, Entry, Device, first_number, content, is_cut, is_used, upto, at, synced, changed, changed_name, change_log}
 use Rattle.uc_folder.specs.Worlds.{World, IsPrefixOf, first_of}
 use Rattle.uc_folder.proofs.Lists.{prefix_refl, prefix_trans, prefix_take, prefix_of_nil, upto_same, at_here}
 use Rattle.uc_folder.proofs.Records.{first_take}
 use Rattle.uc_folder.proofs.Sound.{Sound, IsWhole, IsThere, IsLast, spared, Each}
 use Rattle.uc_folder.proofs.Holding.{IsRead, IsOpen, IsCopy, IsAppended, IsMendable, FitsWriter, Attempt, FitsCheckpointer, Keeps}
-use Rattle.uc_folder.proofs.Opening.{whole_content}
+use Rattle.uc_folder.proofs.Opening.{whole_content, plain_last, uncut}
 use Rattle.uc_folder.proofs.Changes.{parts_grow, entry_sound}
 
 abbrev pub world : Device → Machine → Writer → Checkpointer → (ℕ → List Batch) → Batch → List Batch → World
@@ -51,6 +51,23 @@ take_more zero b xs le = (take b xs, refl)
 take_more (suc a) zero xs le = absurd (omega (arith, le))
 take_more (suc a) (suc b) [] le = ([], refl)
 take_more (suc a) (suc b) (x ∷ xs) le = let p = take_more a b xs (omega (arith, le)) in (p.0, ap (λ l. x ∷ l) p.1)
+
+pub take_within : (a b : ℕ) (rs : List Record) → a ≤ b → take a (take b rs) ≡ take a rs
+take_within zero b rs le = refl
+take_within (suc a) zero rs le = absurd (omega (arith, le))
+take_within (suc a) (suc b) [] le = refl
+take_within (suc a) (suc b) (r ∷ rs) le = ap (λ l. r ∷ l) (take_within a b rs (omega (arith, le)))
+
+-- the first records of a file, in its two parts
+pub taken_parts : (n : ℕ) (kept waiting : List Record) → length kept ≤ n → kept ++ drop (length kept) (take n (kept ++ waiting)) ≡ take n (kept ++ waiting)
+taken_parts n kept waiting le =
+    let same : take (length kept) (take n (kept ++ waiting)) ≡ kept = take_within (length kept) n (kept ++ waiting) le ∙ (take-append-le (length kept) kept waiting (omega arith) ∙ take_length kept) in
+    ap (λ l. l ++ drop (length kept) (take n (kept ++ waiting))) (sym same) ∙ take-append-drop (length kept) (take n (kept ++ waiting))
+
+pub all_parts : (n : ℕ) (kept waiting : List Record) → length kept ≤ n → kept ++ (drop (length kept) (take n (kept ++ waiting)) ++ drop n (kept ++ waiting)) ≡ kept ++ waiting
+all_parts n kept waiting le =
+    sym (append_assoc kept (drop (length kept) (take n (kept ++ waiting))) (drop n (kept ++ waiting)))
+    ∙ (ap (λ l. l ++ drop n (kept ++ waiting)) (taken_parts n kept waiting le) ∙ take-append-drop n (kept ++ waiting))
 
 -- ---- the checkpointer, while the writer does something
 
@@ -88,9 +105,16 @@ checkpointer_stays d e log next base sure p q firm more c le partial bases same 
 
 -- ---- the log
 
-pub read_file : (part : List Batch) (o : Option File) → IsRead part o → (f : File) × (o ≡ Some f) × (first_whole (f.kept ++ f.waiting) ≡ part)
-read_file part None is = absurd is
-read_file part (Some f) is = (f, refl, is)
+pub read_file : (count : ℕ) (part : List Batch) (o : Option File) → IsRead count part o → (f : File) × (o ≡ Some f) × (take count (first_whole (f.kept ++ f.waiting)) ≡ take count part)
+read_file count part None is = absurd is
+read_file count part (Some f) is = (f, refl, is)
+
+-- no record is lost
+pub none_lost : (f : File) → f.lost ≡ [] → is_cut (Some f) ≡ true → is_used (Some f) ≡ true
+none_lost f e c = absurd (let x : true ≡ false = sym c ∙ uncut f e in cc)
+
+pub plain : (firm before part : List Batch) (f : File) → f.lost ≡ [] → IsPrefixOf (first_whole (f.kept ++ f.waiting)) part → IsPrefixOf firm (before ++ first_whole f.kept) → IsLast firm before part (Some f)
+plain firm before part f e le has = (subst (λ l. IsPrefixOf l part) (sym (plain_last f e)) le, has)
 
 pub open_content : (count synced : ℕ) (firm before part : List Batch) (e : Entry) → IsOpen count synced firm before part e → content e.now ≡ part
 open_content count synced firm before part e is = ap content is.now ∙ is.all
@@ -99,9 +123,9 @@ open_content count synced firm before part e is = ap content is.now ∙ is.all
 none_answered : (n : ℕ) (part xs : List Batch) → part ≡ [] → IsPrefixOf (take n part) xs
 none_answered n part xs e = subst (λ l. IsPrefixOf l xs) (sym (prefix_of_nil (take n part) (subst (IsPrefixOf (take n part)) e (prefix_take n part)))) (xs, refl)
 
-read_answered : (n : ℕ) (part : List Batch) (o : Option File) → IsRead part o → IsPrefixOf (take n part) (content o)
+read_answered : (n : ℕ) (part : List Batch) (o : Option File) → IsRead n part o → IsPrefixOf (take n part) (content o)
 read_answered n part None is = absurd is
-read_answered n part (Some f) is = subst (IsPrefixOf (take n part)) (sym is) (prefix_take n part)
+read_answered n part (Some f) is = subst (λ l. IsPrefixOf l (content (Some f))) is (prefix_take n (content (Some f)))
 
 pub open_answered : (n count synced : ℕ) (firm before part : List Batch) (e : Entry) → IsOpen count synced firm before part e → IsPrefixOf (take n part) (content e.now)
 open_answered n count synced firm before part e is = subst (IsPrefixOf (take n part)) (sym (open_content count synced firm before part e is)) (prefix_take n part)
@@ -182,24 +206,25 @@ module _ (d : Device) (m : Machine) (c : Checkpointer) (parts : ℕ → List Bat
   abbrev pub with_entry : Entry → ℕ → Device
   with_entry e top = record { logs = at m.log e d.logs; bases = d.bases; copy = d.copy; partial = d.partial; names = top }
 
-  pub edited : (count synced : ℕ) (w v : Writer) (e : Entry) (top : ℕ) (keeps : Keeps (inside w)) → m.log ≤ top → IsLast keeps.firm (upto parts m.log) (parts m.log) e.now → AllByRecursion (IsLast keeps.firm (upto parts m.log) (spared e.now (parts m.log))) e.before → (first_number < m.log → Each IsThere e) →
+  pub edited : (count synced : ℕ) (w v : Writer) (e : Entry) (top : ℕ) (keeps : Keeps (inside w)) → m.log ≤ top → IsLast keeps.firm (upto parts m.log) (parts m.log) e.now → AllByRecursion (IsLast keeps.firm (upto parts m.log) (spared e.now (parts m.log))) e.before → (first_number < m.log → Each IsThere e) → (is_cut e.now ≡ true → is_used e.now ≡ true) →
       FitsWriter (with_entry e top) m.log count synced m.base keeps.firm (upto parts m.log) (parts m.log) batch v → Keeps (world (with_entry e top) (record m { count = count; synced = synced }) v c parts batch acked)
-  edited count synced w v e top keeps le last spare begun fits =
-      stepped (with_entry e top) count synced w v refl (λ k. refl) keeps (entry_sound d m.log keeps.sure parts keeps.firm keeps.sound e top le last spare begun) fits
+  edited count synced w v e top keeps le last spare begun cut fits =
+      stepped (with_entry e top) count synced w v refl (λ k. refl) keeps (entry_sound d m.log keeps.sure parts keeps.firm keeps.sound e top le last spare begun cut) fits
 
   -- the same, for one file of which no other may stand there
   abbrev pub with_file : (File → File) → Device
   with_file change = change_log m.log change d
 
-  pub filed : (count synced : ℕ) (w v : Writer) (change : File → File) (f : File) → (d.logs m.log).now ≡ Some f → (d.logs m.log).before ≡ [] → (keeps : Keeps (inside w)) → IsLast keeps.firm (upto parts m.log) (parts m.log) (Some (change f)) →
+  pub filed : (count synced : ℕ) (w v : Writer) (change : File → File) (f : File) → (d.logs m.log).now ≡ Some f → (d.logs m.log).before ≡ [] → (keeps : Keeps (inside w)) → IsLast keeps.firm (upto parts m.log) (parts m.log) (Some (change f)) → (is_cut (Some (change f)) ≡ true → is_used (Some (change f)) ≡ true) →
       FitsWriter (with_file change) m.log count synced m.base keeps.firm (upto parts m.log) (parts m.log) batch v → Keeps (world (with_file change) (record m { count = count; synced = synced }) v c parts batch acked)
-  filed count synced w v change f is named keeps last fits =
+  filed count synced w v change f is named keeps last cut fits =
       edited count synced w v (changed change (d.logs m.log)) d.names keeps keeps.sound.named
       (subst (IsLast keeps.firm (upto parts m.log) (parts m.log)) (sym (ap (changed_name change) is)) last)
       (subst (AllByRecursion (IsLast keeps.firm (upto parts m.log) (spared (changed_name change (d.logs m.log).now) (parts m.log)))) (sym named) tt)
-      (λ lt. (subst IsThere (sym (ap (changed_name change) is)) tt, (keeps.sound.begun lt).1)) fits
+      (λ lt. (subst IsThere (sym (ap (changed_name change) is)) tt, (keeps.sound.begun lt).1))
+      (subst (λ (o : Option File). is_cut o ≡ true → is_used o ≡ true) (sym (ap (changed_name change) is)) cut) fits
 
-  pub last_of : (w : Writer) (f : File) → (d.logs m.log).now ≡ Some f → (keeps : Keeps (inside w)) → IsPrefixOf (first_whole (f.kept ++ f.waiting)) (parts m.log) × IsPrefixOf keeps.firm (upto parts m.log ++ first_whole f.kept)
+  pub last_of : (w : Writer) (f : File) → (d.logs m.log).now ≡ Some f → (keeps : Keeps (inside w)) → IsLast keeps.firm (upto parts m.log) (parts m.log) (Some f)
   last_of w f is keeps = subst (IsLast keeps.firm (upto parts m.log) (parts m.log)) is keeps.sound.last
 
   -- the log's entry then
@@ -216,7 +241,7 @@ module _ (n : ℕ) (f : File) (fresh : f.suspect ≡ false) where
   most = max n (length f.kept)
 
   abbrev pub synced_file : File
-  synced_file = record { kept = take most (f.kept ++ f.waiting); waiting = drop most (f.kept ++ f.waiting); suspect = f.suspect; past = f.past }
+  synced_file = record { kept = take most (f.kept ++ f.waiting); waiting = drop most (f.kept ++ f.waiting); lost = f.lost; suspect = f.suspect; past = f.past }
 
   pub synced_is : synced n f ≡ synced_file
   synced_is = ap (λ (b : Bool). cond b f synced_file) fresh

@@ -12,11 +12,13 @@ pub data Record : Type 0 where
   Torn : Record
 
 -- A file: the durable records, and those that wait for a sync. It is suspect once a sync of it failed: then the waiting records can
--- still be read, but no sync makes them durable. A base has, besides the logs before its number, the first `past` batches of the
+-- still be read, but no sync makes them durable. If that was the sync of a cut, the records that were cut off are lost: they can't be
+-- read, but a crash may bring them back. A base has, besides the logs before its number, the first `past` batches of the
 -- log of its number.
 pub record File : Type 0 where
   pub kept : List Record
   pub waiting : List Record
+  pub lost : List Record
   pub suspect : Bool
   pub past : ℕ
 
@@ -83,6 +85,15 @@ records_of (Some f) = f.kept ++ f.waiting
 abbrev pub content : Option File → List Batch
 content o = first_whole (records_of o)
 
+abbrev pub are_none : List Record → Bool
+are_none [] = true
+are_none (r ∷ rs) = false
+
+-- whether records of a file are lost
+abbrev pub is_cut : Option File → Bool
+is_cut None = false
+is_cut (Some f) = not (are_none f.lost)
+
 -- whether a name stands for a file
 abbrev pub is_there : Option File → Bool
 is_there None = false
@@ -131,8 +142,8 @@ recovered d = content (d.bases (newest_base d)).now ++ upto (after_base d) (suc 
 
 -- ---- a crash
 
--- The choice of a crash for a name: the file that remains of those that it may stand for; the number of its waiting records that
--- remain, and which of those are whole.
+-- The choice of a crash for a name: the file that remains of those that it may stand for; the number of its waiting and lost records
+-- that remain, and which of those are whole.
 pub record Keep : Type 0 where
   pub which : ℕ
   pub count : ℕ
@@ -145,8 +156,9 @@ left_of whole (r ∷ rs) = (if whole 0 then r else Torn) ∷ left_of (λ k. whol
 
 abbrev pub crashed_file : Keep → File → File
 crashed_file keep f = record {
-  kept = f.kept ++ left_of keep.whole (take keep.count f.waiting);
+  kept = f.kept ++ left_of keep.whole (take keep.count (f.waiting ++ f.lost));
   waiting = [];
+  lost = [];
   suspect = false;
   past = f.past;
 }
@@ -159,7 +171,7 @@ abbrev pub crashed_entry : Keep → Entry → Entry
 crashed_entry keep e = record { now = crashed_name keep (slice_index_or (e.now ∷ e.before) keep.which e.now); before = [] }
 
 abbrev pub empty_file : File
-empty_file = record { kept = []; waiting = []; suspect = false; past = 0 }
+empty_file = record { kept = []; waiting = []; lost = []; suspect = false; past = 0 }
 
 -- the directory after a crash that keeps this of each log and of each base
 abbrev pub crashed : (ℕ → Keep) → (ℕ → Keep) → Device → Device
@@ -185,15 +197,24 @@ synced n f =
       waiting = drop (max n (length f.kept)) (f.kept ++ f.waiting);
     }
 
--- The records after a number of them are cut off, and the others are synced. A cut that fails is done or isn't, both in memory and
--- on the device.
+-- The records after a number of them are cut off, and the others are synced.
 abbrev pub cut : ℕ → File → File
 cut n f =
     if f.suspect then f
-    else record f { kept = take (max n (length f.kept)) (f.kept ++ f.waiting); waiting = [] }
+    else record f { kept = take (max n (length f.kept)) (f.kept ++ f.waiting); waiting = []; lost = [] }
 
 abbrev pub suspected : File → File
 suspected f = record f { suspect = true }
+
+-- A cut of which only the sync fails. The premise: if it leaves no record, it is done on the device too.
+abbrev pub half_cut : ℕ → File → File
+half_cut n f =
+    if f.suspect || n == 0 then suspected (cut n f)
+    else record f {
+      waiting = drop (length f.kept) (take (max n (length f.kept)) (f.kept ++ f.waiting));
+      lost = drop (max n (length f.kept)) (f.kept ++ f.waiting);
+      suspect = true;
+    }
 
 -- all of a file with a temporary name is durable
 abbrev pub sealed : File → File
@@ -201,7 +222,7 @@ sealed f = record f { kept = f.kept ++ f.waiting; waiting = [] }
 
 -- a new file with the first records of another one that can be read
 abbrev pub copied : ℕ → Option File → File
-copied n o = record { kept = []; waiting = take n (whole_part (records_of o)); suspect = false; past = 0 }
+copied n o = record { kept = []; waiting = take n (whole_part (records_of o)); lost = []; suspect = false; past = 0 }
 
 -- the records of rows
 abbrev pub rows_of : List Batch → List Record

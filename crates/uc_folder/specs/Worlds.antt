@@ -1,6 +1,6 @@
 -- The machine and the device together, for every list of events.
-use Rattle.std.specs.Prelude.{not, take, min, max, length, ◌≡◌, ℕ, ◌+◌, ◌≤◌, ◌<◌, Bool, true, false, ◌&&◌, List, [], ◌∷◌, ◌++◌, Option, Some, None, nat_lt, if◌then◌else◌}
-use Rattle.uc_folder.specs.Device.{Batch, Record, Whole, Torn, File, Device, Keep, first_number, crashed, crashed_file, empty_file, appended, synced, cut, suspected, sealed, copied, rows_of, at, change_log, name_log, name_base, sync_names, write_copy, write_partial, records_of, content, are_whole, are_damaged, is_there, past_of, newest_base, last_log, upto}
+use Rattle.std.specs.Prelude.{not, take, min, max, length, ◌≡◌, ℕ, ◌+◌, ◌≤◌, ◌<◌, Bool, true, false, ◌&&◌, ◌||◌, List, [], ◌∷◌, ◌++◌, Option, Some, None, nat_lt, if◌then◌else◌}
+use Rattle.uc_folder.specs.Device.{Batch, Whole, Torn, File, Device, Keep, first_number, crashed, crashed_file, empty_file, appended, synced, cut, suspected, sealed, copied, rows_of, at, change_log, name_log, name_base, sync_names, write_copy, write_partial, records_of, content, are_whole, are_damaged, is_there, past_of, newest_base, last_log, upto, half_cut, are_none, is_cut}
 use Rattle.uc_folder.specs.declared.machine.Machine.{Machine}
 use Rattle.uc_folder.specs.declared.listing.Found.{Found}
 use Rattle.uc_folder.specs.declared.phases.Writer.{Writer}
@@ -54,7 +54,7 @@ carried_out batch parts d (SetAside k) = d
 carried_out batch parts d (CopyLog k n) = write_copy (copied n (d.logs k).now) d
 carried_out batch parts d SyncCopy = write_copy (sealed d.copy) d
 carried_out batch parts d (NameCopy k) = name_log k (Some d.copy) d
-carried_out batch parts d (WriteBase n past) = write_partial (record { kept = []; waiting = rows_of (first_of parts n past); suspect = false; past = past }) d
+carried_out batch parts d (WriteBase n past) = write_partial (record { kept = []; waiting = rows_of (first_of parts n past); lost = []; suspect = false; past = past }) d
 carried_out batch parts d SyncBase = write_partial (sealed d.partial) d
 carried_out batch parts d (NameBase n past) = name_base n (Some d.partial) d
 carried_out batch parts d (RemoveLog k) = name_log k None d
@@ -73,11 +73,16 @@ failed d (SyncLog k n) = change_log k suspected d
 failed d (CutLog k n) = change_log k suspected d
 failed d _ = d
 
+-- an operation that failed, though it was done; of a cut only the sync failed
+abbrev pub untold : Batch → (ℕ → List Batch) → Device → Action → Device
+untold batch parts d (CutLog k n) = change_log k (half_cut n) d
+untold batch parts d a = failed (carried_out batch parts d a) a
+
 abbrev pub device_after : Outcome → Batch → (ℕ → List Batch) → Device → Action → Device
 device_after Done batch parts d a = carried_out batch parts d a
 device_after NotDone batch parts d a = failed d a
 device_after PartDone batch parts d a = begun d a
-device_after DoneUntold batch parts d a = failed (carried_out batch parts d a) a
+device_after DoneUntold batch parts d a = untold batch parts d a
 
 -- ---- events
 
@@ -154,16 +159,11 @@ found d least top = record {
   top = top;
 }
 
--- whether there is no record
-abbrev pub are_none : List Record → Bool
-are_none [] = true
-are_none (r ∷ rs) = false
-
--- Whether nothing of a log waits for a sync. The premise: only such a log is called sealed. A closed log ends with a batch without
+-- Whether nothing of a log waits for a sync, or is lost. The premise: only such a log is called sealed. A closed log ends with a batch without
 -- operations, whose mark says that all before it was durable: marks are true (uc_log_crash, `AreTrue`).
 abbrev pub is_settled : Option File → Bool
 is_settled None = false
-is_settled (Some f) = are_whole f.kept && (are_none f.waiting && not f.suspect)
+is_settled (Some f) = are_whole f.kept && (are_none f.waiting && (are_none f.lost && not f.suspect))
 
 -- The number of batches that are kept of the current log: all, or as many as given, and at least those that a base has.
 abbrev pub kept_of : Option ℕ → ℕ → ℕ → ℕ
@@ -189,14 +189,16 @@ abbrev pub begun_by : Option File → Machine → Machine
 begun_by None m = m
 begun_by (Some f) m = told_write m true
 
+-- The batches of each log: those that were read. Of a log of which records are lost, others may come back: they stay submitted until
+-- the log is renewed.
 abbrev pub parts_read : Device → (ℕ → List Batch) → ℕ → List Batch
-parts_read d parts k = if nat_lt k (newest_base d) then parts k else content (d.logs k).now
+parts_read d parts k = if nat_lt k (newest_base d) || is_cut (d.logs k).now then parts k else content (d.logs k).now
 
 -- the number of batches that are kept of the current log
 abbrev pub count_read : Device → Option ℕ → ℕ
 count_read d keep = kept_of keep (past_of (d.bases (last_log d)).now) (length (content (d.logs (last_log d)).now))
 
--- the directory is opened: from then on the batches that were read are those that were submitted
+-- the directory is opened: from then on the batches that were read and kept count
 abbrev pub opens : ℕ → ℕ → Bool → Option ℕ → World → World
 opens least top sealed keep w = record {
   device = names_read (w.device.logs (last_log w.device)).now w.device;

@@ -2,7 +2,7 @@
 //! and however often the machine crashed and the process ended before.
 //!
 //! Proof steps: none does anything when it runs. Their contracts speak of definitions alone.
-ghost use Rattle.std.specs.Prelude.{◌≡◌, ◌==◌, ◌≤◌, ℕ, Bool, true, List, [], ◌∷◌, ◌++◌, Option, Some, None, Result, Ok, take, length};
+ghost use Rattle.std.specs.Prelude.{◌≡◌, ◌==◌, ◌≤◌, ℕ, Bool, true, false, List, [], ◌∷◌, ◌++◌, Option, Some, None, Result, Ok, take, length};
 ghost use Rattle.uc_folder.specs.declared.listing.Base.{Base};
 ghost use Rattle.uc_folder.specs.declared.listing.Listed.{Listed};
 ghost use Rattle.uc_folder.specs.declared.listing.Found.{Found};
@@ -10,7 +10,7 @@ ghost use Rattle.uc_folder.specs.declared.listing.Missing.{Missing};
 ghost use Rattle.uc_folder.specs.Listing.{IsListing, IsFoundIn, found_of, is_listed};
 ghost use Rattle.std.specs.List.{list_any};
 ghost use Rattle.uc_folder.specs.declared.phases.Writer.TheVariants.{Ready, Appending};
-ghost use Rattle.uc_folder.specs.Device.{Batch, Record, first_whole, read_by_sequence, Keep, crashed, recovered, content, upto, is_there, last_log};
+ghost use Rattle.uc_folder.specs.Device.{Batch, Record, first_whole, read_by_sequence, Keep, crashed, recovered, content, upto, is_there, is_cut, last_log};
 ghost use Rattle.uc_folder.specs.Steps.{is_open};
 ghost use Rattle.uc_folder.specs.Worlds.{
   Event,
@@ -59,13 +59,19 @@ pub fn no_later_batch_is_read_as_the_next()
     ensures { (place : ℕ) (records : List Record) → read_by_sequence place place records ≡ first_whole records }
 {}
 
-/// If only the process ends, an opening reads all that was answered, synced or not, also after a sync that failed.
+/// If only the process ends, an opening reads all that was answered, synced or not, also after a sync that failed. What it reads is what
+/// the machine goes on with; and what counts as submitted, unless a batch that failed couldn't be cut off for certain: that one may
+/// come back if the machine crashes before the opening has renewed the log, and not after that
+/// ([`batches_that_are_given_up_are_gone`]).
 pub fn a_process_that_ends_loses_nothing_answered()
     ensures readable { (events : List Event) → IsReadable (run events start).device }
     ensures prefix { (events : List Event) → IsPrefixOf (recovered (run events start).device) (submitted (run events start)) }
     ensures answered { (events : List Event) → IsPrefixOf (answered (run events start)) (recovered (run events start).device) }
     ensures acknowledged { (events : List Event) → IsPrefixOf (run events start).acked (recovered (run events start).device) }
-    ensures goes_on { (events : List Event) (least top : ℕ) (sealed : Bool) (keep : Option ℕ) →
+    ensures goes_on { (events : List Event) (least top : ℕ) (sealed : Bool) →
+        answered (happens (run events start) (Restart least top sealed None)) ≡ recovered (run events start).device }
+    ensures submitted { (events : List Event) (least top : ℕ) (sealed : Bool) (keep : Option ℕ) →
+        is_cut ((run events start).device.logs (last_log (run events start).device)).now ≡ false →
         submitted (happens (run events start) (Restart least top sealed keep)) ≡ recovered (run events start).device }
 {}
 

@@ -49,33 +49,33 @@ same_back (x ∷ xs) ys zs e = same_back xs ys zs (cc)
 
 module _ (f : File) (written : List ℕ) (synced : ℕ) (are : AreBytesOf f written synced) (found : List (List ℕ)) (end : ℕ) (begins : BeginsWith written (first_whole f.kept ++ found) end) where
   abbrev keep : Keep
-  keep = record { which = 0; count = length f.waiting; whole = first_n (length found) }
+  keep = record { which = 0; count = length (f.waiting ++ f.lost); whole = first_n (length found) }
 
   kept_whole : are_whole f.kept ≡ true
-  kept_whole = front_whole f.kept f.waiting are.whole
+  kept_whole = front_whole f.kept (f.waiting ++ f.lost) are.whole
 
-  waiting_whole : are_whole f.waiting ≡ true
-  waiting_whole = back_whole f.kept f.waiting are.whole
+  waiting_whole : are_whole (f.waiting ++ f.lost) ≡ true
+  waiting_whole = back_whole f.kept (f.waiting ++ f.lost) are.whole
 
   module _ (rest : List (List ℕ)) (is : payloads_of written ≡ (first_whole f.kept ++ found) ++ rest) where
-    waiting_are : found ++ rest ≡ first_whole f.waiting
+    waiting_are : found ++ rest ≡ first_whole (f.waiting ++ f.lost)
     waiting_are =
-        same_back (first_whole f.kept) (found ++ rest) (first_whole f.waiting)
-        (sym (append_assoc (first_whole f.kept) found rest) ∙ sym is ∙ are.batches ∙ batches-append f.kept f.waiting kept_whole)
+        same_back (first_whole f.kept) (found ++ rest) (first_whole (f.waiting ++ f.lost))
+        (sym (append_assoc (first_whole f.kept) found rest) ∙ sym is ∙ are.batches ∙ batches-append f.kept (f.waiting ++ f.lost) kept_whole)
 
-    found_first : take (length found) (first_whole f.waiting) ≡ found
+    found_first : take (length found) (first_whole (f.waiting ++ f.lost)) ≡ found
     found_first = ap (take (length found)) (sym waiting_are) ∙ take_at found rest (length found) refl
 
-    left : first_whole (left_of (first_n (length found)) (take (length f.waiting) f.waiting)) ≡ found
+    left : first_whole (left_of (first_n (length found)) (take (length (f.waiting ++ f.lost)) (f.waiting ++ f.lost))) ≡ found
     left =
-        ap (λ (rs : List Record). first_whole (left_of (first_n (length found)) rs)) (take_all (length f.waiting) f.waiting (omega arith))
-        ∙ first_left f.waiting (length found) waiting_whole
+        ap (λ (rs : List Record). first_whole (left_of (first_n (length found)) rs)) (take_all (length (f.waiting ++ f.lost)) (f.waiting ++ f.lost) (omega arith))
+        ∙ first_left (f.waiting ++ f.lost) (length found) waiting_whole
         ∙ found_first
 
     leaves : content (crashed_name keep (Some f)) ≡ first_whole f.kept ++ found
     leaves =
-        ap first_whole (append-nil (f.kept ++ left_of (first_n (length found)) (take (length f.waiting) f.waiting)))
-        ∙ batches-append f.kept (left_of (first_n (length found)) (take (length f.waiting) f.waiting)) kept_whole
+        ap first_whole (append-nil (f.kept ++ left_of (first_n (length found)) (take (length (f.waiting ++ f.lost)) (f.waiting ++ f.lost))))
+        ∙ batches-append f.kept (left_of (first_n (length found)) (take (length (f.waiting ++ f.lost)) (f.waiting ++ f.lost))) kept_whole
         ∙ ap (λ (bs : List Batch). first_whole f.kept ++ bs) left
 
   is_left : (chosen : Keep) × (content (crashed_name chosen (Some f)) ≡ first_whole f.kept ++ found)

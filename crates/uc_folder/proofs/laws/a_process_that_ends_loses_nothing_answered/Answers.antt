@@ -1,4 +1,4 @@
-use Rattle.uc_folder.proofs.Histories.{restart_reads, restart_prefix, restart_acked, restart_answered, restart_readable}
+use Rattle.uc_folder.proofs.Histories.{restart_all, restart_submitted, restart_prefix, restart_acked, restart_answered, restart_readable}
 use Rattle.uc_folder.proofs.laws.a_process_that_ends_loses_nothing_answered.Goals as goal
 
 pub returns-clause-readable : goal.returns-clause-readable
@@ -14,4 +14,7 @@ pub returns-clause-acknowledged : goal.returns-clause-acknowledged
 returns-clause-acknowledged c = λ events. restart_acked events
 
 pub returns-clause-goes_on : goal.returns-clause-goes_on
-returns-clause-goes_on c = λ events least top sealed keep. restart_reads events least top sealed keep
+returns-clause-goes_on c = λ events least top sealed. restart_all events least top sealed
+
+pub returns-clause-submitted : goal.returns-clause-submitted
+returns-clause-submitted c = λ events least top sealed keep whole. restart_submitted events least top sealed keep whole

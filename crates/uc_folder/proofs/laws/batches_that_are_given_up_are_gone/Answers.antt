@@ -1,20 +1,15 @@
-use Rattle.std.proofs.Common.{subst}
 use Rattle.std.specs.Prelude.{Some}
 use Rattle.uc_folder.specs.Device.{crashed}
-use Rattle.uc_folder.specs.Worlds.{World, IsPrefixOf, answered, opens, run, start}
-use Rattle.uc_folder.proofs.Histories.{crash_reads, restart_reads}
-use Rattle.uc_folder.proofs.Giving.{kept_begins, acked_is, opens_done, crash_done}
+use Rattle.uc_folder.specs.Worlds.{run, start}
+use Rattle.uc_folder.proofs.Histories.{restart_kept, crash_kept}
+use Rattle.uc_folder.proofs.Giving.{acked_is, opens_done, crash_done}
 use Rattle.uc_folder.proofs.laws.batches_that_are_given_up_are_gone.Goals as goal
 
 pub returns-clause-kept : goal.returns-clause-kept
-returns-clause-kept c = λ events least top keep sealed.
-    let w = run events start in
-    subst (IsPrefixOf (answered (opens least top sealed (Some keep) w))) (restart_reads events least top sealed (Some keep)) (kept_begins w least top sealed (Some keep))
+returns-clause-kept c = λ events least top keep sealed. restart_kept events least top sealed (Some keep)
 
 pub returns-clause-kept_after_a_crash : goal.returns-clause-kept_after_a_crash
-returns-clause-kept_after_a_crash c = λ events logs bases least top keep sealed.
-    let w : World = record (run events start) { device = crashed logs bases (run events start).device } in
-    subst (IsPrefixOf (answered (opens least top sealed (Some keep) w))) (crash_reads events logs bases least top sealed (Some keep)) (kept_begins w least top sealed (Some keep))
+returns-clause-kept_after_a_crash c = λ events logs bases least top keep sealed. crash_kept events logs bases least top sealed (Some keep)
 
 pub returns-clause-acknowledged : goal.returns-clause-acknowledged
 returns-clause-acknowledged c = λ events logs bases least top keep sealed. acked_is (record (run events start) { device = crashed logs bases (run events start).device }) least top keep sealed
