@@ -23,7 +23,7 @@ sys.path.insert(0, str(Path(__file__).resolve().parent))
 import folder  # noqa: E402, after the path that it is found by
 from folder import (  # noqa: E402
     DONE, DONE_UNTOLD, NOT_DONE, PART_DONE, Place, World, change_log, checkpoints, confirmed, content, crashed, crashed_file, entry,
-    is_damaged, is_planted, is_readable, last_log, makes, opens, part, recovered, submitted, syncs, upto, writes,
+    is_damaged, is_planted, is_readable, last_log, makes, names_synced, opens, part, recovered, submitted, syncs, upto, writes,
 )
 
 # The walks without a plant, the most with one, and the crashes that are tried after each event.
@@ -110,8 +110,8 @@ def opened(world: World, draw: random.Random) -> World:
 
 
 def ends(world: World, draw: random.Random) -> World:
-    """The process ends, and the folder is opened again."""
-    return opened(world, draw)
+    """The process ends, and the folder is opened again; or that fails once the names are synced."""
+    return replace(world, device=names_synced(world.device)) if draw.random() < 0.1 else opened(world, draw)
 
 
 def opens_after_a_crash(world: World, draw: random.Random) -> World:

@@ -916,6 +916,23 @@ static void folder_machine(void) {
     CHECK(memcmp(&folder, &old, sizeof old) == 0);
 }
 
+/* The machine of a folder of whose last log five batches are kept. */
+static void folder_gives_up(void) {
+    const struct ucstore_folder_found found = {1, 0, 1, 2, 3, true};
+    struct ucstore_folder_state folder;
+    CHECK(ucstore_folder_open(&found, 5, false, &folder) == UCSTORE_OK);
+    expect_step(&folder, ucstore_folder_next_write, ucstore_folder_told_write, UCSTORE_FOLDER_SYNC_NAMES, 0, 0);
+    expect_step(&folder, ucstore_folder_next_write, ucstore_folder_told_write, UCSTORE_FOLDER_REMOVE_LOG, 3, 0);
+    expect_step(&folder, ucstore_folder_next_write, ucstore_folder_told_write, UCSTORE_FOLDER_SET_ASIDE, 2, 0);
+    expect_step(&folder, ucstore_folder_next_write, ucstore_folder_told_write, UCSTORE_FOLDER_COPY_LOG, 2, 5);
+    expect_step(&folder, ucstore_folder_next_write, ucstore_folder_told_write, UCSTORE_FOLDER_SYNC_COPY, 0, 0);
+    expect_step(&folder, ucstore_folder_next_write, ucstore_folder_told_write, UCSTORE_FOLDER_NAME_COPY, 2, 0);
+    CHECK(folder.synced == 0);
+    expect_step(&folder, ucstore_folder_next_write, ucstore_folder_told_write, UCSTORE_FOLDER_SYNC_NAMES, 0, 0);
+    expect_step(&folder, ucstore_folder_next_write, ucstore_folder_told_write, UCSTORE_FOLDER_NOTHING, 0, 0);
+    CHECK(folder.count == 5 && folder.synced == 5);
+}
+
 /* Opens the first bytes of the log, which end as a walk says. */
 static struct ucstore_ended reopen(size_t length) {
     struct ucstore opened = {0};
@@ -1387,6 +1404,7 @@ int main(int argc, char **argv) {
     told_damage();
     folder_files();
     folder_machine();
+    folder_gives_up();
     for (uint32_t one = UCSTORE_APPEND; one <= UCSTORE_TAIL; one++) {
         soak(one, operations);
     }

@@ -18,7 +18,7 @@ use Rattle.uc_folder.specs.declared.listing.Found.{Found}
 use Rattle.uc_folder.specs.declared.listing.Missing.{Missing}
 use Rattle.uc_folder.specs.Listing.{IsListing, IsFoundIn}
 use Rattle.uc_folder.proofs.Names.{finds}
-use Rattle.uc_folder.specs.Worlds.{found, World, IsPrefixOf, IsReadable, Outcome, Done, NotDone, PartDone, DoneUntold, Event, Submit, AskSync, AskNext, AskSwitch, AskCheckpoint, Writes, Makes, Syncs, Checkpoints, Crash, Restart, Reread, reread, first_of, answered, acked_after, acked_then, is_settled, keeps_all, acked_of, names_read, parts_read, count_read, opens, happens, start, run, submitted, keeps_batches, all_keep}
+use Rattle.uc_folder.specs.Worlds.{found, World, IsPrefixOf, IsReadable, Outcome, Done, NotDone, PartDone, DoneUntold, Event, Submit, AskSync, AskNext, AskSwitch, AskCheckpoint, Writes, Makes, Syncs, Checkpoints, Crash, Restart, Reread, SyncsNames, reread, first_of, answered, acked_after, acked_then, is_settled, keeps_all, acked_of, names_read, parts_read, count_read, opens, happens, start, run, submitted, keeps_batches, all_keep}
 use Rattle.uc_folder.proofs.Lists.{prefix_refl, prefix_trans, prefix_under, at_here}
 use Rattle.uc_folder.proofs.Sound.{Sound, crash_sound, uncut_name}
 use Rattle.uc_folder.proofs.Opening.{read, j_below, upto_own, upto_read, own_uncut, opened_uncut, sound_firm, opened_firm, opened_reads, opened_prefix, opened_answered, opened_readable}
@@ -28,7 +28,7 @@ use Rattle.uc_folder.proofs.Changes.{reread_sound}
 use Rattle.uc_folder.proofs.Writing.{world, with_next, answered_in, take_counted, take_more}
 use Rattle.uc_folder.proofs.Adding.{marked_count}
 use Rattle.uc_folder.proofs.Marks.{IsFine, AreMarked, marked_whole, marks_after, marks_synced, marks_crashed, marks_reread, same_file}
-use Rattle.uc_folder.proofs.Next.{HasNext, makes_keep, next_happens}
+use Rattle.uc_folder.proofs.Next.{HasNext, records, makes_keep, next_happens}
 use Rattle.uc_folder.proofs.Switching.{syncs_keep}
 use Rattle.uc_folder.proofs.Checkpointing.{checkpoints_keep}
 use Rattle.uc_folder.proofs.Running.{writes_keep, submit_keeps, sync_keeps, switch_keeps, checkpoint_keeps}
@@ -50,6 +50,7 @@ happens_keeps w (Syncs o) fits keeps = syncs_keep w.device w.machine w.machine.c
 happens_keeps w (Checkpoints o) fits keeps = checkpoints_keep w.device w.machine w.machine.writer w.parts w.batch w.acked w.machine.checkpointer o keeps
 happens_keeps w (Crash logs bases least top sealed keep) fits keeps = opened_keeps (crashed logs bases w.device) w.machine.log keeps.sure w.parts keeps.firm (crashed_sound w keeps logs bases) keep w.machine w.batch w.acked least top sealed keeps.acked_is
 happens_keeps w (Restart least top sealed keep) fits keeps = opened_keeps w.device w.machine.log keeps.sure w.parts keeps.firm keeps.sound keep w.machine w.batch w.acked least top sealed keeps.acked_is
+happens_keeps w SyncsNames fits keeps = records w.device w.machine w.machine.writer w.machine.checkpointer w.parts w.batch w.acked w.machine.next keeps
 happens_keeps w (Reread left least top sealed keep) fits keeps =
     opened_keeps (reread left w) w.machine.log keeps.sure w.parts keeps.firm (reread_sound w.device w.machine.log keeps.sure w.parts keeps.firm keeps.sound left) keep w.machine w.batch w.acked least top sealed keeps.acked_is
 
@@ -213,6 +214,7 @@ happens_marked w (Syncs o) keeps are = marks_after o w.batch w.parts w.device (n
 happens_marked w (Checkpoints o) keeps are = marks_after o w.batch w.parts w.device (next_checkpoint w.machine.checkpointer) (fine_checkpoint w.device w.machine.checkpointer) are
 happens_marked w (Crash logs bases least top sealed keep) keeps are = read_marked (crashed logs bases w.device) (marks_crashed w.device logs bases are)
 happens_marked w (Restart least top sealed keep) keeps are = read_marked w.device are
+happens_marked w SyncsNames keeps are = marks_synced w.device are
 happens_marked w (Reread left least top sealed keep) keeps are = read_marked (reread left w) (marks_reread w.machine.log left w.device are)
 happens_marked w e keeps are = are
 

@@ -13,7 +13,7 @@ use Rattle.uc_folder.specs.declared.phases.Checkpointer.{Checkpointer}
 use Rattle.uc_folder.specs.declared.phases.Checkpointer.TheVariants.{Idle, RemovingLog}
 use Rattle.uc_folder.specs.Device.{Batch, Whole, Torn, File, Entry, Device, last_log, crashed, empty_file, appended, synced, cut, half_cut, suspected, changed, change_log, stands_for, name_log, sync_names, upto}
 use Rattle.uc_folder.specs.Steps.{next_write, opened, log_after, writer_after, next_after, next_make, made_after, writer_synced, next_checkpoint, submitting, syncing, switching, asking_next}
-use Rattle.uc_folder.specs.Worlds.{World, Outcome, Done, NotDone, PartDone, DoneUntold, is_done, carried_out, device_after, is_settled, found, keeps_all, names_read, begun_by, count_read, opens, reread, Event, Submit, AskSync, AskNext, AskSwitch, AskCheckpoint, Writes, Makes, Syncs, Checkpoints, Crash, Restart, Reread, happens}
+use Rattle.uc_folder.specs.Worlds.{World, Outcome, Done, NotDone, PartDone, DoneUntold, is_done, carried_out, device_after, is_settled, found, keeps_all, names_read, begun_by, count_read, opens, reread, Event, Submit, AskSync, AskNext, AskSwitch, AskCheckpoint, Writes, Makes, Syncs, Checkpoints, Crash, Restart, Reread, SyncsNames, happens}
 use Rattle.uc_folder.proofs.Lists.{prefix_refl, at_here, at_other}
 use Rattle.uc_folder.proofs.Sound.{Sound}
 use Rattle.uc_folder.proofs.Holding.{IsNew, Keeps}
@@ -339,7 +339,7 @@ module _ (d : Device) (m : Machine) (w : Writer) (c : Checkpointer) (parts : ℕ
       goes_on e next (record { same = ap (λ (x : Entry). x.now) same; named = λ is. ap (λ (x : Entry). x.before) same ∙ is; copy = refl; stands = λ s. s; below = λ l. l }) refl (λ k. refl) keeps
       (later_sound d m.log keeps.sure parts keeps.firm keeps.sound n' (Some empty_file) (omega arith) refl)
 
-  records : (next : NextLog) → Keeps (world d m w c parts batch acked) → Keeps (world (sync_names d) (record m { next = next }) w c parts batch acked)
+  pub records : (next : NextLog) → Keeps (world d m w c parts batch acked) → Keeps (world (sync_names d) (record m { next = next }) w c parts batch acked)
   records next keeps =
       goes_on (sync_names d) next (record { same = refl; named = λ e. refl; copy = refl; stands = λ s. s; below = λ l. l }) refl (λ k. refl) keeps (named_sound d m.log keeps.sure parts keeps.firm keeps.sound)
 
@@ -373,4 +373,5 @@ next_happens w (Syncs o) keeps fits = sync_next w.device w.machine w.machine.che
 next_happens w (Checkpoints o) keeps fits = checkpoint_next w.device w.machine w.machine.writer w.parts w.batch w.acked w.machine.checkpointer o keeps fits
 next_happens w (Crash logs bases least top sealed keep) keeps fits = opens_next least top sealed keep (record w { device = crashed logs bases w.device })
 next_happens w (Restart least top sealed keep) keeps fits = opens_next least top sealed keep w
+next_happens w SyncsNames keeps fits = (fits.0, made_stays w.device (sync_names w.device) (w.machine.log + 1) w.machine.next refl (λ e. refl) (omega arith) fits.1)
 next_happens w (Reread left least top sealed keep) keeps fits = opens_next least top sealed keep (record w { device = reread left w })

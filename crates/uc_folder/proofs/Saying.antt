@@ -9,7 +9,7 @@ use Rattle.uc_folder.specs.declared.phases.Writer.TheVariants.{Making, Settling,
 use Rattle.uc_folder.specs.declared.phases.Checkpointer.{Checkpointer}
 use Rattle.uc_folder.specs.Device.{Batch, Device, upto, at, last_log, crashed}
 use Rattle.uc_folder.specs.Steps.{is_open, opened}
-use Rattle.uc_folder.specs.Worlds.{World, IsPrefixOf, Outcome, Done, NotDone, PartDone, DoneUntold, Event, Submit, AskSync, AskNext, AskSwitch, AskCheckpoint, Writes, Makes, Syncs, Checkpoints, Crash, Restart, Reread, reread, first_of, is_beside, are_beside, found, is_settled, keeps_all, begun_by, parts_read, count_read, opens, happens, run, start}
+use Rattle.uc_folder.specs.Worlds.{World, IsPrefixOf, Outcome, Done, NotDone, PartDone, DoneUntold, Event, Submit, AskSync, AskNext, AskSwitch, AskCheckpoint, Writes, Makes, Syncs, Checkpoints, Crash, Restart, SyncsNames, Reread, reread, first_of, is_beside, are_beside, found, is_settled, keeps_all, begun_by, parts_read, count_read, opens, happens, run, start}
 use Rattle.uc_folder.proofs.Lists.{take_grows, prefix_refl, prefix_trans, prefix_under, upto_same, upto_more, at_here, at_other}
 use Rattle.uc_folder.proofs.Sound.{Sound}
 use Rattle.uc_folder.proofs.Holding.{Keeps}
@@ -223,6 +223,7 @@ way_happens n xs w (Syncs o) beside is = absurd (cc)
 way_happens n xs w (Crash logs bases least top sealed keep) beside is = absurd (cc)
 way_happens n xs w (Restart least top sealed keep) beside is = absurd (cc)
 way_happens n xs w (Reread left least top sealed keep) beside is = absurd (cc)
+way_happens n xs w SyncsNames beside is = absurd (cc)
 
 way_run : (n : ℕ) (xs : List Batch) (es : List Event) (w : World) → are_beside es ≡ true → IsUnderWayIn n xs w → IsUnderWayIn n xs (run es w)
 way_run n xs [] w beside is = is

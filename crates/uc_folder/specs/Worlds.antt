@@ -115,6 +115,8 @@ pub data Event : Type 0 where
   Restart : ℕ → ℕ → Bool → Option ℕ → Event
   -- the same, where only the durable part of the current log can be read
   Reread : Keep → ℕ → ℕ → Bool → Option ℕ → Event
+  -- an opening syncs the names, and nothing else: it fails
+  SyncsNames : Event
 
 -- a batch is taken if the writer may append one
 abbrev pub parts_with : Writer → ℕ → Batch → (ℕ → List Batch) → ℕ → List Batch
@@ -159,8 +161,8 @@ found d least top = record {
   top = top;
 }
 
--- Whether nothing of a log waits for a sync, or is lost. The premise: only such a log is called sealed. A closed log ends with a batch without
--- operations, whose mark says that all before it was durable: marks are true (uc_log_crash, `AreTrue`).
+-- Whether nothing of a log waits for a sync, or is lost. The premise: only such a log is called sealed. A closed log ends with a batch
+-- without operations, whose mark says that all before it was durable: marks are true (uc_log_crash, `AreTrue`).
 abbrev pub is_settled : Option File → Bool
 is_settled None = false
 is_settled (Some f) = are_whole f.kept && (are_none f.waiting && (are_none f.lost && not f.suspect))
@@ -180,7 +182,7 @@ acked_of None kept acked = acked
 acked_of (Some keep) kept acked = take (length kept) acked
 
 -- The names that opening read are durable before anything else is done: the machine asks for that first, and the event is in the list
--- where it succeeds. If it fails, nothing was opened. In a directory without a log it isn't asked for.
+-- where it succeeds. If it fails, nothing was opened, though the names may be durable. In a directory without a log it isn't asked for.
 abbrev pub names_read : Option File → Device → Device
 names_read None d = d
 names_read (Some f) d = sync_names d
@@ -249,6 +251,7 @@ happens w (Checkpoints outcome) = record w {
 }
 happens w (Crash logs bases least top sealed keep) = opens least top sealed keep (record w { device = crashed logs bases w.device })
 happens w (Restart least top sealed keep) = opens least top sealed keep w
+happens w SyncsNames = record w { device = sync_names w.device }
 happens w (Reread left least top sealed keep) = opens least top sealed keep (record w { device = reread left w })
 
 -- an empty directory, which is opened
@@ -286,6 +289,7 @@ is_beside (Syncs o) = false
 is_beside (Crash logs bases least top sealed keep) = false
 is_beside (Restart least top sealed keep) = false
 is_beside (Reread left least top sealed keep) = false
+is_beside SyncsNames = false
 is_beside e = true
 
 abbrev pub are_beside : List Event → Bool

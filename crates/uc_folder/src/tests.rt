@@ -171,6 +171,46 @@ fn a_sealed_log_is_not_copied_and_a_spoiled_one_is_mended(rt: HostRuntime) {
     assert!(rt; machine.is_open());
 }
 
+/// Of a log three batches are kept, and the log after it is removed.
+fn renew(machine: &mut Machine) -> [Action; 7] {
+    [
+        written(machine),
+        written(machine),
+        written(machine),
+        written(machine),
+        written(machine),
+        written(machine),
+        written(machine),
+    ]
+}
+
+#[test]
+fn batches_that_are_kept_are_copied(rt: HostRuntime) {
+    let found = Found {
+        log: 2,
+        top: 3,
+        is_there: true,
+        ..empty()
+    };
+    let mut machine = Machine::open(found, 3, false);
+    let renewed = renew(&mut machine);
+    assert_eq!(rt;
+        renewed,
+        [
+            Action::SyncNames,
+            Action::RemoveLog(3),
+            Action::SetAside(2),
+            Action::CopyLog(2, 3),
+            Action::SyncCopy,
+            Action::NameCopy(2),
+            Action::SyncNames,
+        ]
+    );
+    let is_open = machine.is_open();
+    let synced = machine.synced;
+    assert!(rt; is_open && synced == 3);
+}
+
 /// The result of an opening of a base and three logs, the last of which has no batch.
 fn listed(numbers: [u64; 3]) -> Result<Found, Missing> {
     let bases = [Base { number: 4, past: 7 }, Base { number: 4, past: 9 }];
