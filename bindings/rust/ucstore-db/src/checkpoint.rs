@@ -90,15 +90,10 @@ impl Shared {
                 FolderAction::SyncBase => base.as_mut().map_or(Ok(()), |base| base.sync(&check)),
                 FolderAction::NameBase(..) => base.take().map_or(Ok(()), Base::rename),
                 FolderAction::SyncNames => folder.sync().map_err(Error::of_file("")),
-                FolderAction::RemoveLog(number) => {
-                    remove(folder, &mut removal, |it| it == Name::Log(number))
-                }
-                FolderAction::RemoveBase(number) => remove(
-                    folder,
-                    &mut removal,
-                    |it| matches!(it, Name::Base(it, _) if it == number),
-                ),
-                _ => break,
+                _ => match remove_for(folder, &mut removal, action) {
+                    Some(outcome) => outcome,
+                    None => break,
+                },
             };
             lock(&begun.machine).told_checkpoint(outcome.is_ok());
             outcome?;
@@ -284,8 +279,27 @@ fn make_next(folder: &dyn Folder, machine: &Machine) -> Result<Box<dyn File>, Er
     }
 }
 
+/// Does an operation that removes the files of a number; none if it is another one.
+pub(crate) fn remove_for(
+    folder: &dyn Folder,
+    listed: &mut Option<Vec<Name>>,
+    action: FolderAction,
+) -> Option<Result<(), Error>> {
+    match action {
+        FolderAction::RemoveLog(number) => {
+            Some(remove(folder, listed, |it| it == Name::Log(number)))
+        }
+        FolderAction::RemoveBase(number) => Some(remove(
+            folder,
+            listed,
+            |it| matches!(it, Name::Base(it, _) if it == number),
+        )),
+        _ => None,
+    }
+}
+
 /// Removes files that are listed. The names are read once.
-fn remove(
+pub(crate) fn remove(
     folder: &dyn Folder,
     listed: &mut Option<Vec<Name>>,
     is_asked: impl Fn(Name) -> bool,

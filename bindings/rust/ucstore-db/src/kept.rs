@@ -23,14 +23,6 @@ pub(crate) fn copy_of(folder: &dyn Folder, number: u64, length: u64) -> Result<P
     Ok(copy)
 }
 
-/// Writes the first bytes of a log to a new file, which is on the device then and takes its place.
-pub(crate) fn renew(folder: &dyn Folder, number: u64, length: u64) -> Result<(), Error> {
-    let mut copy = copy_of(folder, number, length)?;
-    copy.sync()?;
-    copy.rename(&Name::Log(number).text())?;
-    folder.sync().map_err(Error::of_file(""))
-}
-
 /// Sets the bytes of a log aside from an offset on, unless they are zeros. They are on the device then. What was set aside before stays;
 /// the same bytes aren't set aside twice.
 pub(crate) fn set_aside(

@@ -1,13 +1,15 @@
 //! [`PendingCleanup`]: the work that an opening leaves on a directory, before it is written to.
 
-use crate::ending::Ending;
+use crate::checkpoint::{remove, remove_for};
+use crate::ending::{is_batch, Ending};
 use crate::error::Error;
 use crate::folder::Folder;
 use crate::kept::{self, SetAside};
 use crate::name::Name;
 use crate::operator_file;
 use crate::partial::Partial;
-use std::io;
+use crate::recovery::listed_base;
+use crate::windows::Windows;
 use ucstore::{FolderAction, FolderFiles, FolderMachine, Operator};
 
 /// The work that is done on a directory before it is written to: what the machine asks for of the files that were found.
@@ -25,24 +27,19 @@ pub(crate) struct PendingCleanup {
     pub(crate) torn: Option<u64>,
     /// Whether what comes after is given up, whole batches too.
     pub(crate) gives_up: bool,
-    /// The logs from the base's number on, in their order.
-    pub(crate) logs: Vec<u64>,
-    /// Obsolete files: all that they hold is elsewhere too.
-    pub(crate) obsolete: Vec<Name>,
 }
 
 impl PendingCleanup {
     /// The machine of the files that were found.
     pub(crate) fn machine(&self) -> FolderMachine {
         // Nothing is in an empty log that could be lost.
-        let is_sealed = matches!(self.ending, Ending::Closed | Ending::GivenUp)
-            || self.ending == Ending::Whole && self.length == 0;
+        let is_sealed =
+            self.ending == Ending::Closed || self.ending == Ending::Whole && self.length == 0;
         FolderMachine::open(&self.found, self.batches, is_sealed)
     }
 
     /// Does what the machine asks for until batches may be appended. Returns what was set aside. If it fails it may be done again, with a
-    /// new machine: after each of its steps the directory has the same batches, but for those that are given up, of which the first
-    /// ones may be there.
+    /// new machine.
     pub(crate) fn finish(
         &self,
         folder: &dyn Folder,
@@ -54,38 +51,63 @@ impl PendingCleanup {
         if self.gives_up {
             self.give_up(folder)?;
         }
+        let set_aside = self.write_all(folder, machine)?;
+        let mut names = None;
+        while let Some(outcome) = remove_for(folder, &mut names, machine.next_checkpoint()) {
+            machine.told_checkpoint(outcome.is_ok());
+            outcome?;
+        }
+        // Files with temporary names, and bases of the newest one's number that have less.
+        let (number, most) = (self.found.base, self.found.past);
+        remove(folder, &mut names, |name| match name {
+            Name::Log(_) | Name::Lost(..) => false,
+            Name::Base(..) => {
+                listed_base(&name).is_some_and(|base| base.number == number && base.past < most)
+            }
+            _ => true,
+        })?;
+        Ok(set_aside)
+    }
+
+    /// Gives up the batches of the logs after the one that goes on, the last first: for each a machine keeps none of them. A log that
+    /// has none is left to the next machine.
+    fn give_up(&self, folder: &dyn Folder) -> Result<(), Error> {
+        let texts = folder.names().map_err(Error::of_file(""))?;
+        let numbers = texts.iter().filter_map(|text| match Name::of(text) {
+            Some(Name::Log(number)) if number > self.found.log => Some(number),
+            _ => None,
+        });
+        let mut later = Vec::from_iter(numbers);
+        later.sort_unstable();
+        for number in later.into_iter().rev() {
+            if is_batch(&mut Windows::of(folder, Name::Log(number))?, 0)? {
+                let files = FolderFiles {
+                    log: number,
+                    is_there: true,
+                    ..self.found
+                };
+                self.write_all(folder, &mut FolderMachine::open(&files, 0, false))?;
+            }
+        }
+        Ok(())
+    }
+
+    /// Does the operations of a machine's writer, until batches may be appended. Returns what was set aside.
+    fn write_all(
+        &self,
+        folder: &dyn Folder,
+        machine: &mut FolderMachine,
+    ) -> Result<Option<SetAside>, Error> {
         let (mut set_aside, mut copy) = (None, None);
         loop {
             let action = machine.next_write();
             if action == FolderAction::Nothing {
-                break;
+                return Ok(set_aside);
             }
             let outcome = self.write(folder, action, &mut set_aside, &mut copy);
             machine.told_write(outcome.is_ok());
             outcome?;
         }
-        loop {
-            let outcome = match machine.next_checkpoint() {
-                FolderAction::RemoveLog(number) => self.remove_obsolete(
-                    folder,
-                    |name| matches!(name, Name::Log(it) if *it == number),
-                ),
-                FolderAction::RemoveBase(number) => self.remove_obsolete(
-                    folder,
-                    |name| matches!(name, Name::Base(it, _) if *it == number),
-                ),
-                _ => break,
-            };
-            machine.told_checkpoint(outcome.is_ok());
-            outcome?;
-        }
-        // Files with temporary names, and bases of the newest one's number that have less.
-        self.remove_obsolete(folder, |name| match name {
-            Name::Log(_) => false,
-            Name::Base(number, _) => *number >= self.found.base,
-            _ => true,
-        })?;
-        Ok(set_aside)
     }
 
     /// Does an operation of the writer.
@@ -102,17 +124,19 @@ impl PendingCleanup {
                 folder.create(&name).map_err(Error::of_file(&name))?;
             }
             FolderAction::SyncNames => folder.sync().map_err(Error::of_file(""))?,
-            FolderAction::RemoveLog(number) if self.logs.contains(&number) => {
+            FolderAction::RemoveLog(number) => {
                 if self.torn == Some(number) {
                     *set_aside = kept::set_aside(folder, number, 0)?;
                 }
-                remove(folder, Name::Log(number))?;
+                remove(folder, &mut None, |name| name == Name::Log(number))?;
             }
             FolderAction::SetAside(number) if matches!(self.ending, Ending::Left(..)) => {
                 *set_aside = kept::set_aside(folder, number, self.length)?;
             }
-            FolderAction::CopyLog(number) => {
-                *copy = Some(kept::copy_of(folder, number, self.length)?);
+            FolderAction::CopyLog(number, _) => {
+                let is_kept = number == self.found.log;
+                let length = if is_kept { self.length } else { 0 };
+                *copy = Some(kept::copy_of(folder, number, length)?);
             }
             FolderAction::SyncCopy => {
                 if let Some(copy) = copy {
@@ -127,39 +151,5 @@ impl PendingCleanup {
             _ => {}
         }
         Ok(())
-    }
-
-    /// Gives up what comes after the part that is kept: the directory has the first batches at each moment. The machine begins after that.
-    fn give_up(&self, folder: &dyn Folder) -> Result<(), Error> {
-        folder.sync().map_err(Error::of_file(""))?;
-        for number in self.logs.iter().rev() {
-            if *number > self.found.log {
-                remove(folder, Name::Log(*number))?;
-                folder.sync().map_err(Error::of_file(""))?;
-            }
-        }
-        match self.ending {
-            Ending::GivenUp => kept::renew(folder, self.found.log, self.length),
-            _ => Ok(()),
-        }
-    }
-
-    /// Removes those of the obsolete files that are asked for.
-    fn remove_obsolete(
-        &self,
-        folder: &dyn Folder,
-        is_asked: impl Fn(&Name) -> bool,
-    ) -> Result<(), Error> {
-        let mut asked = self.obsolete.iter().filter(|name| is_asked(name));
-        asked.try_for_each(|name| remove(folder, *name))
-    }
-}
-
-/// Removes a file, if it is there.
-fn remove(folder: &dyn Folder, name: Name) -> Result<(), Error> {
-    let name = name.text();
-    match folder.remove(&name) {
-        Err(error) if error.kind() == io::ErrorKind::NotFound => Ok(()),
-        outcome => outcome.map_err(Error::of_file(&name)),
     }
 }

@@ -27,8 +27,6 @@ struct Files {
     found: FolderFiles,
     /// The newest one.
     base: Option<Name>,
-    /// Files that hold nothing that isn't elsewhere.
-    obsolete: Vec<Name>,
     /// Whether one names the operator.
     has_operator: bool,
 }
@@ -92,13 +90,6 @@ impl Files {
         };
         let is_newest = |name: &Name| listed_base(name) == Some(newest);
         let base = names.iter().copied().find(is_newest);
-        let is_obsolete = |name: &Name| match *name {
-            Name::Log(number) => number < found.base,
-            Name::Base(..) => Some(*name) != base,
-            Name::Lost(..) => false,
-            _ => true,
-        };
-        names.retain(is_obsolete);
         if base.is_some() && !found.is_there {
             // A log is made before the base of its number.
             return Err(missing(found.log));
@@ -108,7 +99,6 @@ impl Files {
             logs,
             found,
             base,
-            obsolete: names,
             has_operator,
         })
     }
@@ -136,7 +126,7 @@ impl Files {
 }
 
 /// A base as it is listed. One of an older version, whose name has no sequence, comes before the others of its number.
-fn listed_base(name: &Name) -> Option<ListedBase> {
+pub(crate) fn listed_base(name: &Name) -> Option<ListedBase> {
     match *name {
         Name::Base(number, sequence) => Some(ListedBase {
             number,
@@ -343,22 +333,14 @@ impl Recovery {
         counts: &Arc<Counts>,
     ) -> Result<(Opened, Log), Error> {
         let is_new = !self.files.found.is_there;
-        let logs = self.files.logs();
-        let mut found = self.files.found;
-        // Later logs that are given up go before the machine begins.
-        if self.is_enough {
-            found.top = found.log;
-        }
         let cleanup = PendingCleanup {
             operator: (!self.files.has_operator).then_some(self.operator),
-            found,
+            found: self.files.found,
             batches: self.batches,
             length: self.length,
             ending: self.ending,
             torn: self.torn,
             gives_up: self.is_enough,
-            logs,
-            obsolete: self.files.obsolete,
         };
         let last = Older {
             number: self.number,
