@@ -36,7 +36,7 @@ pub fn committed_transactions_are_serial<O: Operator>()
     scan_keys_are_named();
 }
 
-/// What is read at a snapshot is the state after the writes at or below it. So a transaction without writes has a place among the others,
+/// A read at a snapshot sees the state after the writes at or below it. So a transaction without writes has a place among the others,
 /// whatever was written since, and needs no test.
 pub fn readers_are_serial_at_their_snapshots<O: Operator>()
     ensures { (before since : List Write) (query : Query) (at : ℕ) → at_of query ≤ at →
