@@ -3,8 +3,8 @@
 
     tests/serial.py
 
-The definitions of crates/uc_serial stand here as ordinary code: what was written since a sequence, and when a transaction may commit. Clients
-read at snapshots, and commit in a drawn order. Three tests look at each history: each committed transaction read the state right before
+The definitions of crates/uc_serial stand here as ordinary code: what was written since a sequence. A transaction commits if nothing that it
+read was. Clients read at snapshots, and commit in a drawn order. Three tests look at each history: each committed transaction read the state right before
 its own writes; the graph of what came before what, drawn from keys alone, has no cycle; and no transaction was refused without a write
 above its snapshot to a key that it read.
 

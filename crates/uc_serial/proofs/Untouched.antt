@@ -16,7 +16,7 @@ use Rattle.uc_query_read.specs.declared.answer.Answer.{Answer}
 use Rattle.uc_query_read.specs.declared.answer.Answer.TheVariants.{Value, Rows, NotProtected}
 use Rattle.uc_query_read.specs.declared.query.Query.{Query}
 use Rattle.uc_query_read.specs.declared.query.Query.TheVariants.{Get, Scan}
-use Rattle.uc_serial.specs.Transactions.{AreCommitted, AreSerial, IsUntouched, Seen, Transaction, at_sequence, is_written_since}
+use Rattle.uc_serial.specs.Transactions.{AreCommitted, AreSerial, IsCurrent, IsUntouched, Seen, Transaction, at_sequence, is_written_since}
 
 -- ---- a key
 
@@ -73,27 +73,30 @@ all_there P xs each = all-map (Contains xs) P each xs (recursion_from_All (Conta
 
 -- ---- a query
 
+pub untouched_current : (m : Operation) (log : List Write) (query : Query) (at : ℕ) → at_of query ≤ at → IsUntouched log query → IsCurrent m log at query
+untouched_current m log query at le none key reads = same_value key (at_of query) at le m log (none key reads)
+
 module _ (m : Operation) (named : (log : List Write) (low : List ℕ) (high : Option (List ℕ)) (key : List ℕ) → Contains (named_keys log low high) key → IsNamed log low high key) where
-  pub current : (log : List Write) (query : Query) (n : ℕ) → at_of query ≤ n → IsUntouched log query → reading m log (at_sequence n query) ≡ reading m log query
-  current log (Get key s) n le none = ap (λ (v : Option (List ℕ)). Value v) (same_value key s n le m log (none key refl))
-  current log (Scan low high s limit) n le none =
+  pub one_answer : (log : List Write) (query : Query) (n : ℕ) → IsCurrent m log n query → reading m log (at_sequence n query) ≡ reading m log query
+  one_answer log (Get key s) n current = ap (λ (v : Option (List ℕ)). Value v) (current key refl)
+  one_answer log (Scan low high s limit) n current =
       let keys = named_keys log low high in
-      let each = all_there (IsSame m log log s n) keys (λ key there. same_value key s n le m log (none key (named log low high key there).0)) in
+      let each = all_there (IsSame m log log s n) keys (λ key there. current key (named log low high key there).0) in
       ap (λ (rows : List (List ℕ × List ℕ)). Rows (take limit rows)) (same_rows m log log s n keys each)
 
   -- ---- histories
 
-  reads_current : (log : List Write) (n : ℕ) (reads : List Seen) → AllByRecursion (λ r. at_of r.query ≤ n) reads → AllByRecursion (λ r. r.answer ≡ reading m log r.query) reads → AllByRecursion (λ r. IsUntouched log r.query) reads → AllByRecursion (λ r. r.answer ≡ reading m log (at_sequence n r.query)) reads
-  reads_current log n [] below saw none = tt
-  reads_current log n (r ∷ rs) below saw none = (
-    saw.0 ∙ sym (current log r.query n below.0 none.0),
-    reads_current log n rs below.1 saw.1 none.1,
+  reads_current : (log : List Write) (n : ℕ) (reads : List Seen) → AllByRecursion (λ r. r.answer ≡ reading m log r.query) reads → AllByRecursion (λ r. IsCurrent m log n r.query) reads → AllByRecursion (λ r. r.answer ≡ reading m log (at_sequence n r.query)) reads
+  reads_current log n [] saw current = tt
+  reads_current log n (r ∷ rs) saw current = (
+    saw.0 ∙ sym (one_answer log r.query n current.0),
+    reads_current log n rs saw.1 current.1,
   )
 
   pub serial : (log : List Write) (ts : List Transaction) → AreCommitted m log ts → AreSerial m log ts
   serial log [] h = tt
   serial log (t ∷ ts) h = (
-    reads_current log (last_of 0 log) t.reads h.0.snapshot h.0.saw h.0.untouched,
+    reads_current log (last_of 0 log) t.reads h.0.saw h.0.current,
     serial (log ++ t.writes) ts h.1,
   )
 

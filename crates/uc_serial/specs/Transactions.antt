@@ -7,7 +7,7 @@ use Rattle.uc_bytes.specs.declared.op.Op.{Op}
 use Rattle.uc_bytes.specs.declared.op.Op.TheVariants.{Put, Delete, Merge, DeleteRange}
 use Rattle.uc_bytes.specs.declared.write.Write.{Write}
 use Rattle.uc_oper.specs.Operation.{Operation}
-use Rattle.uc_model.specs.Meaning.{touches_key}
+use Rattle.uc_model.specs.Meaning.{touches_key, value_of}
 use Rattle.uc_batch.specs.Rising.{IsRising, last_of}
 use Rattle.uc_query_read.specs.Answers.{Reads, is_below, is_in_range, reading}
 use Rattle.uc_query_read.specs.Query.{at_of}
@@ -40,6 +40,10 @@ is_written_in log low high since = list_any (λ w. nat_lt since w.seq && touches
 abbrev pub IsUntouched : List Write → Query → Type 0
 IsUntouched log query = (key : List ℕ) → Reads query key → is_written_since log key (at_of query) ≡ false
 
+-- each key that a query reads has the value at a sequence that it has at the query's
+abbrev pub IsCurrent : Operation → List Write → ℕ → Query → Type 0
+IsCurrent m log at query = (key : List ℕ) → Reads query key → value_of m log key at ≡ value_of m log key (at_of query)
+
 -- ---- transactions
 
 -- the query at another sequence
@@ -57,12 +61,12 @@ pub record Transaction : Type 0 where
   pub reads : List Seen
   pub writes : List Write
 
--- A transaction may commit on a log: it saw what the log answers at its snapshot, nothing that it read was written since, and its writes go on
+-- A transaction may commit on a log: it saw what the log answers at its snapshot, nothing that it read has changed since, and its writes go on
 -- in the log.
 pub record MayCommit (m : Operation) (log : List Write) (t : Transaction) : Type 0 where
   pub snapshot : AllByRecursion (λ r. at_of r.query ≤ last_of 0 log) t.reads
   pub saw : AllByRecursion (λ r. r.answer ≡ reading m log r.query) t.reads
-  pub untouched : AllByRecursion (λ r. IsUntouched log r.query) t.reads
+  pub current : AllByRecursion (λ r. IsCurrent m log (last_of 0 log) r.query) t.reads
   pub next : IsRising (last_of 0 log) t.writes
 
 -- transactions that commit one after the other

@@ -5,7 +5,7 @@ ghost use Rattle.uc_bytes.specs.declared.write.Write.{Write};
 ghost use Rattle.uc_query_read.specs.declared.query.Query.{Query};
 ghost use Rattle.uc_query_read.specs.Answers.{is_in_range, reading};
 ghost use Rattle.uc_query_read.specs.Query.{at_of};
-ghost use Rattle.uc_serial.specs.Transactions.{AreCommitted, AreSerial, IsUntouched, Transaction, at_sequence, is_written_in, is_written_since};
+ghost use Rattle.uc_serial.specs.Transactions.{AreCommitted, AreSerial, IsCurrent, IsUntouched, Transaction, at_sequence, is_written_in, is_written_since};
 
 use uc_model::later_writes_change_nothing;
 use uc_oper::Operator;
@@ -20,9 +20,15 @@ pub fn what_was_read_stays<O: Operator>()
     later_writes_change_nothing::<O>();
 }
 
-/// If nothing that a query reads was written above its sequence, it has the same answer at any sequence above.
+/// If no key that a query reads was written above its sequence, each has the same value at any sequence above.
 pub fn untouched_reads_are_current<O: Operator>()
     ensures { (log : List Write) (query : Query) (at : ℕ) → at_of query ≤ at → IsUntouched log query →
+        IsCurrent O.meaning log at query }
+{}
+
+/// If each key that a query reads has the same value at another sequence, the query has the same answer there: a scan shows no other rows.
+pub fn current_reads_have_one_answer<O: Operator>()
+    ensures { (log : List Write) (query : Query) (at : ℕ) → IsCurrent O.meaning log at query →
         reading O.meaning log (at_sequence at query) ≡ reading O.meaning log query }
 {
     scan_keys_are_named();
@@ -45,6 +51,7 @@ pub fn readers_are_serial_at_their_snapshots<O: Operator>()
 {
     what_was_read_stays::<O>();
     untouched_reads_are_current::<O>();
+    current_reads_have_one_answer::<O>();
 }
 
 /// A range was written since a sequence if and only if one of its keys was.

@@ -1,9 +1,9 @@
 //! Optimistic transactions: laws alone.
 //!
-//! A transaction reads at a snapshot, and brings its writes at its end. It may commit if nothing that it read was written above the
-//! snapshot (`specs/Transactions.antt`). Then it read what it would read right before its own writes: by
-//! [`untouched_reads_are_current`]. So the transactions that committed are serial, in the order of their commits: by
-//! [`committed_transactions_are_serial`].
+//! A transaction reads at a snapshot, and brings its writes at its end. It may commit if nothing that it read has changed since
+//! (`specs/Transactions.antt`), and so if nothing was written above the snapshot to a key that it read: by
+//! [`untouched_reads_are_current`]. Then it read what it would read right before its own writes: by [`current_reads_have_one_answer`]. So
+//! the transactions that committed are serial, in the order of their commits: by [`committed_transactions_are_serial`].
 //!
 //! Reads are the queries of a store, with the answers that `uc_query_read` defines. So the laws hold whatever is flushed and compacted
 //! meanwhile, since the store's answers do.
@@ -14,6 +14,7 @@
 mod laws;
 
 pub use laws::{
-    committed_transactions_are_serial, readers_are_serial_at_their_snapshots,
-    untouched_reads_are_current, what_was_read_stays, written_ranges_have_written_keys,
+    committed_transactions_are_serial, current_reads_have_one_answer,
+    readers_are_serial_at_their_snapshots, untouched_reads_are_current, what_was_read_stays,
+    written_ranges_have_written_keys,
 };

@@ -4,4 +4,5 @@ use Rattle.uc_serial.proofs.laws.readers_are_serial_at_their_snapshots.Goals as 
 
 pub returns : goal.returns
 returns g c before since query at le low high =
-    c.what_was_read_stays.ensures before since query high ∙ sym (c.untouched_reads_are_current.ensures before query at le (untouched_before before query low))
+    c.what_was_read_stays.ensures before since query high
+    ∙ sym (c.current_reads_have_one_answer.ensures before query at (c.untouched_reads_are_current.ensures before query at le (untouched_before before query low)))
