@@ -4,11 +4,8 @@ The player makes the calls of a story (tests/play.py), and says how long those t
 not how a call is spelled. It is crates/calls/out/calls, which `rt run` in crates/calls builds, or the one that CALLS names.
 """
 
-import os
 import struct
-import subprocess
 import sys
-import tempfile
 from pathlib import Path
 from typing import Iterable, Iterator, List, NamedTuple, Tuple
 
@@ -16,6 +13,7 @@ TOP = Path(__file__).resolve().parent.parent
 sys.dont_write_bytecode = True
 sys.path.insert(0, str(TOP / "tests"))
 
+import peak  # noqa: E402, after the path that it is found by
 from asking import Answer, Get, Query, Scan, answer_in, query_spelling  # noqa: E402, after the path that they are found by
 from play import PROGRAM, SHOP, Raw, Reply, Story, answers_in, number, text  # noqa: E402
 from shop import ALONE, ASK, LOOK, OPEN, THREADS, Options  # noqa: E402
@@ -51,16 +49,10 @@ def fail(why: str) -> None:
 
 def run(calls: bytes) -> Tuple[bytes, int]:
     """Runs the player. Returns its output, and the most memory that it held, in KiB."""
-    with tempfile.TemporaryFile() as given, tempfile.TemporaryFile() as said:
-        given.write(calls)
-        given.seek(0)
-        player = subprocess.Popen([PROGRAM], stdin=given, stdout=said)
-        _, status, used = os.wait4(player.pid, 0)
-        player.returncode = os.waitstatus_to_exitcode(status)
-        if player.returncode:
-            fail(f"the player ends with the status {player.returncode}")
-        said.seek(0)
-        return said.read(), used.ru_maxrss
+    status, said, kib = peak.run(PROGRAM, calls)
+    if status:
+        fail(f"the player ends with the status {status}")
+    return said, kib
 
 
 def play(story: Story) -> int:
