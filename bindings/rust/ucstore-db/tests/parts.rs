@@ -282,14 +282,20 @@ fn a_crash_while_something_is_given_up_loses_nothing() {
         let next = (part.lasts.len() - 1).min(history.maps.len() - 2);
         let (bytes, _) = bytes_at(&history, next, part.last() + 1);
         let db = part.db.take().unwrap();
-        // It isn't acknowledged, and perhaps another log continues after it.
+        // It isn't acknowledged, and perhaps other logs continue after it.
+        let mut maps = vec![map_of(&db)];
         db.write_bytes(&bytes, true).unwrap();
-        if numbers.below(2) == 0 {
+        maps.push(map_of(&db));
+        for value in &["y", "yy"][..numbers.below(3) as usize] {
             device.fail(Some(Call::Rename), 0, false);
             db.checkpoint().unwrap_err();
-            db.write_bytes(&Batch::new().put("y", "y").unwrap().bytes(), true)
+            db.write_bytes(&Batch::new().put("y", *value).unwrap().bytes(), true)
                 .unwrap();
+            maps.push(map_of(&db));
         }
+        let mut map = maps[0].clone();
+        map.insert(b"x".to_vec(), b"x".to_vec());
+        maps.push(map);
         drop(db);
         part.snapshots.clear();
         let files = device.files();
@@ -300,7 +306,12 @@ fn a_crash_while_something_is_given_up_loses_nothing() {
                 let more = Batch::new().put("x", "x").unwrap().bytes();
                 db.write_bytes(&more, false)
             });
-            part.check(&history, &device.crash(&mut numbers));
+            let crashed = device.crash(&mut numbers);
+            // Who gives nothing up finds no gap.
+            let db = open_with(&crashed.restarted(), &options()).unwrap();
+            assert!(maps.contains(&map_of(&db)));
+            drop(db);
+            part.check(&history, &crashed);
             if written.is_ok() {
                 break;
             }
