@@ -8,6 +8,7 @@ use crate::lock;
 use crate::log::{Log, Machine};
 use crate::name::Name;
 use crate::shared::Shared;
+use std::io::ErrorKind;
 use std::sync::atomic::Ordering;
 use std::sync::{Arc, MutexGuard};
 use std::thread;
@@ -298,7 +299,7 @@ pub(crate) fn remove_for(
     }
 }
 
-/// Removes files that are listed. The names are read once.
+/// Removes files that are listed, if they are there yet. The names are read once.
 pub(crate) fn remove(
     folder: &dyn Folder,
     listed: &mut Option<Vec<Name>>,
@@ -313,7 +314,10 @@ pub(crate) fn remove(
     };
     while let Some(place) = names.iter().position(|name| is_asked(*name)) {
         let text = names[place].text();
-        folder.remove(&text).map_err(Error::of_file(&text))?;
+        match folder.remove(&text) {
+            Err(error) if error.kind() == ErrorKind::NotFound => {}
+            outcome => outcome.map_err(Error::of_file(&text))?,
+        }
         names.swap_remove(place);
     }
     Ok(())

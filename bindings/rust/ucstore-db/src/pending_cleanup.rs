@@ -27,6 +27,8 @@ pub(crate) struct PendingCleanup {
     pub(crate) torn: Option<u64>,
     /// Whether what comes after is given up, whole batches too.
     pub(crate) gives_up: bool,
+    /// The names of all files.
+    pub(crate) names: Vec<Name>,
 }
 
 impl PendingCleanup {
@@ -52,7 +54,7 @@ impl PendingCleanup {
             self.give_up(folder)?;
         }
         let set_aside = self.write_all(folder, machine)?;
-        let mut names = None;
+        let mut names = Some(self.names.clone());
         while let Some(outcome) = remove_for(folder, &mut names, machine.next_checkpoint()) {
             machine.told_checkpoint(outcome.is_ok());
             outcome?;
@@ -72,6 +74,7 @@ impl PendingCleanup {
     /// Gives up the batches of the logs after the one that goes on, the last first: for each a machine keeps none of them. A log that
     /// has none is left to the next machine.
     fn give_up(&self, folder: &dyn Folder) -> Result<(), Error> {
+        // Another attempt may have removed some.
         let texts = folder.names().map_err(Error::of_file(""))?;
         let numbers = texts.iter().filter_map(|text| match Name::of(text) {
             Some(Name::Log(number)) if number > self.found.log => Some(number),
@@ -128,7 +131,8 @@ impl PendingCleanup {
                 if self.torn == Some(number) {
                     *set_aside = kept::set_aside(folder, number, 0)?;
                 }
-                remove(folder, &mut None, |name| name == Name::Log(number))?;
+                let mut names = Some(self.names.clone());
+                remove(folder, &mut names, |name| name == Name::Log(number))?;
             }
             FolderAction::SetAside(number) if matches!(self.ending, Ending::Left(..)) => {
                 *set_aside = kept::set_aside(folder, number, self.length)?;

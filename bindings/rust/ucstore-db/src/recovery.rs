@@ -20,6 +20,8 @@ use ucstore::{FolderFiles, ListedBase, ListedLog, MissingLog, Operator, Store, V
 
 /// The files of a folder.
 struct Files {
+    /// In their order.
+    names: Vec<Name>,
     bases: Vec<ListedBase>,
     /// In the order of their numbers.
     logs: Vec<ListedLog>,
@@ -73,7 +75,7 @@ impl Files {
     fn of(folder: &dyn Folder) -> Result<Files, Error> {
         let texts = folder.names().map_err(Error::of_file(""))?;
         let has_operator = texts.iter().any(|text| text == operator_file::OPERATOR);
-        let mut names: Vec<Name> = texts.iter().filter_map(|text| Name::of(text)).collect();
+        let mut names = Vec::from_iter(texts.iter().filter_map(|text| Name::of(text)));
         names.sort();
         let bases = Vec::from_iter(names.iter().filter_map(listed_base));
         let logs = Vec::from_iter(names.iter().filter_map(|name| match *name {
@@ -95,6 +97,7 @@ impl Files {
             return Err(missing(found.log));
         }
         Ok(Files {
+            names,
             bases,
             logs,
             found,
@@ -341,6 +344,7 @@ impl Recovery {
             ending: self.ending,
             torn: self.torn,
             gives_up: self.is_enough,
+            names: self.files.names,
         };
         let last = Older {
             number: self.number,
