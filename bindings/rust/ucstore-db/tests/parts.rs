@@ -4,6 +4,7 @@
 mod common;
 
 use common::{is_long, map_of, seed, Call, Device, Histories, History, Map, Numbers};
+use std::collections::BTreeMap;
 use std::sync::Arc;
 use ucstore_db::{Batch, Db, Error, Options, Snapshot, Sync};
 
@@ -271,34 +272,39 @@ fn a_fault_of_the_device_is_told_and_loses_nothing() {
     }
 }
 
+/// A part of which the last batches aren't acknowledged, perhaps in several logs; its files, what it has as acknowledged, and what it
+/// may have while the others are given up and a batch `x` is written.
+fn draw_lost(numbers: &mut Numbers) -> (History, Part, BTreeMap<String, Vec<u8>>, Vec<Map>) {
+    let (history, steps) = draw(numbers);
+    let device = Device::default();
+    let (mut part, error) = Part::run(&device, &history, &steps);
+    assert!(error.is_none());
+    let next = (part.lasts.len() - 1).min(history.maps.len() - 2);
+    let (bytes, _) = bytes_at(&history, next, part.last() + 1);
+    let db = part.db.take().unwrap();
+    let mut maps = vec![map_of(&db)];
+    let mut map = maps[0].clone();
+    map.insert(b"x".to_vec(), b"x".to_vec());
+    maps.push(map);
+    db.write_bytes(&bytes, true).unwrap();
+    maps.push(map_of(&db));
+    for value in &["y", "yy"][..numbers.below(3) as usize] {
+        device.fail(Some(Call::Rename), 0, false);
+        db.checkpoint().unwrap_err();
+        db.write_bytes(&Batch::new().put("y", *value).unwrap().bytes(), true)
+            .unwrap();
+        maps.push(map_of(&db));
+    }
+    drop(db);
+    part.snapshots.clear();
+    (history, part, device.files(), maps)
+}
+
 #[test]
 fn a_crash_while_something_is_given_up_loses_nothing() {
     let mut numbers = Numbers(seed(13));
     for _ in 0..if is_long() { 200 } else { 12 } {
-        let (history, steps) = draw(&mut numbers);
-        let device = Device::default();
-        let (mut part, error) = Part::run(&device, &history, &steps);
-        assert!(error.is_none());
-        let next = (part.lasts.len() - 1).min(history.maps.len() - 2);
-        let (bytes, _) = bytes_at(&history, next, part.last() + 1);
-        let db = part.db.take().unwrap();
-        // It isn't acknowledged, and perhaps other logs continue after it.
-        let mut maps = vec![map_of(&db)];
-        db.write_bytes(&bytes, true).unwrap();
-        maps.push(map_of(&db));
-        for value in &["y", "yy"][..numbers.below(3) as usize] {
-            device.fail(Some(Call::Rename), 0, false);
-            db.checkpoint().unwrap_err();
-            db.write_bytes(&Batch::new().put("y", *value).unwrap().bytes(), true)
-                .unwrap();
-            maps.push(map_of(&db));
-        }
-        let mut map = maps[0].clone();
-        map.insert(b"x".to_vec(), b"x".to_vec());
-        maps.push(map);
-        drop(db);
-        part.snapshots.clear();
-        let files = device.files();
+        let (history, part, files, maps) = draw_lost(&mut numbers);
         for call in 0.. {
             let device = Device::of(&files);
             device.fail(None, call, true);
@@ -317,4 +323,30 @@ fn a_crash_while_something_is_given_up_loses_nothing() {
             }
         }
     }
+}
+
+#[test]
+fn giving_up_begins_again_after_a_fault() {
+    let mut numbers = Numbers(seed(14));
+    let mut count = 0;
+    for _ in 0..if is_long() { 200 } else { 12 } {
+        let (_, part, files, maps) = draw_lost(&mut numbers);
+        for call in 0.. {
+            let device = Device::of(&files);
+            let db = open_at(&device, part.last(), &[]).unwrap();
+            device.fail(None, call, false);
+            let more = Batch::new().put("x", "x").unwrap().bytes();
+            let first = db.write_bytes(&more, true);
+            let second = db.write_bytes(&more, true);
+            let is_written = first.is_ok() || second.is_ok();
+            count += u32::from(first.is_err() && second.is_ok());
+            drop(db);
+            let map = map_of(&open_with(&device.restarted(), &options()).unwrap());
+            assert!(map == maps[1] || !is_written && maps.contains(&map));
+            if device.calls().1 == 0 {
+                break;
+            }
+        }
+    }
+    assert!(count > 50, "{count}");
 }
