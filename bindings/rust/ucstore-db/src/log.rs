@@ -355,16 +355,21 @@ impl Log {
     /// Appends a record, or nothing: what a failure leaves of it is cut off.
     fn append_whole(&mut self, record: &[u8]) -> Result<(), Refusal> {
         let length = self.length;
-        lock(&self.machine).submit();
         let (mut refused, mut is_mended) = (None, false);
+        let mut machine = lock(&self.machine);
+        machine.submit();
+        let mut action = machine.next_write();
+        drop(machine);
         loop {
-            let action = lock(&self.machine).next_write();
             match action {
                 FolderAction::Append(..) => {
                     let outcome = self.ask(|file| file.append(record));
                     lock(&self.machine).told_write(outcome.is_ok());
                     match outcome {
-                        Ok(()) => self.length += record.len() as u64,
+                        Ok(()) => {
+                            self.length += record.len() as u64;
+                            break;
+                        }
                         Err(error) => refused = Some(error),
                     }
                 }
@@ -379,6 +384,7 @@ impl Log {
                 }
                 _ => break,
             }
+            action = lock(&self.machine).next_write();
         }
         self.count_bytes();
         match refused {
@@ -390,11 +396,11 @@ impl Log {
 
     /// Asks the log's file for something.
     fn ask(&mut self, work: impl FnOnce(&mut dyn File) -> io::Result<()>) -> Result<(), Error> {
-        let number = self.number();
-        match &mut self.writer {
-            Writer::Ready(file) => ask_device(|| work(&mut **file)).map_err(refusal(number)),
+        let outcome = match &mut self.writer {
+            Writer::Ready(file) => ask_device(|| work(&mut **file)),
             Writer::Pending(_) => Ok(()),
-        }
+        };
+        outcome.map_err(|error| refusal(self.number())(error))
     }
 }
 
