@@ -313,7 +313,7 @@ fn a_crash_while_something_is_given_up_loses_nothing() {
                 db.write_bytes(&more, false)
             });
             let crashed = device.crash(&mut numbers);
-            // Who gives nothing up finds no gap.
+            // An opening that gives nothing up finds no gap.
             let db = open_with(&crashed.restarted(), &options()).unwrap();
             assert!(maps.contains(&map_of(&db)));
             drop(db);
