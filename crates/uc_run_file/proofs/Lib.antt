@@ -1,0 +1,6 @@
+pub mod StringText
+pub mod NumbersText
+pub mod FragmentText
+pub mod PieceSums
+pub mod PointsJudged
+pub mod FileText

@@ -1,0 +1,7 @@
+pub mod Spelling
+pub mod Faults
+pub mod Pieces
+pub mod Footers
+pub mod Words
+pub mod Judging
+pub mod Files
