@@ -1,23 +1,18 @@
 -- The bytes of files.
-use Rattle.std.proofs.Common.{◌≡◌, ◌≢◌, ℕ, zero, suc, ◌+◌, ◌-◌, ◌*◌, ◌^◌, ◌<◌, ◌≤◌, List, [], ◌∷◌, ◌++◌, length, take, drop, refl, sym, ap, subst, ◌∙◌, append_assoc, length-append, arith}
-use Rattle.std.specs.List.{AllByRecursion}
-use Rattle.std.specs.Int.{w64, to_le_bytes, from_le_bytes}
+use Rattle.std.proofs.Common.{◌≡◌, ℕ, ◌+◌, ◌-◌, ◌*◌, ◌^◌, ◌<◌, ◌≤◌, List, [], ◌∷◌, ◌++◌, length, take, drop, refl, sym, ap, subst, ◌∙◌, append_assoc, length-append, arith}
 use Rattle.std.proofs.lemmas.Nat.{from_le_bytes-to_le_bytes_8}
-use Rattle.std.proofs.lemmas.List.{take_at, drop_at, take-append-drop, length-drop, length-take-le, drop-drop}
+use Rattle.std.proofs.lemmas.List.{take_at, drop_at, take-append-drop, length-drop, length-take-le}
 use Rattle.uc_logrec.specs.Crc.{crc_of}
-use Rattle.uc_run_entry.specs.declared.entry.Entry.{Entry}
 use Rattle.uc_run_entry.specs.Fragment.{Fragment}
-use Rattle.uc_run_entry.specs.Run.{Contents, IsRun, IsWithin, IsWhole}
-use Rattle.uc_run_points.specs.Spelling as points
-use Rattle.uc_run_points.specs.Spelling.{entry_text, entries_text, text_of}
-use Rattle.uc_run_points.specs.Numbers.{number_text}
-use Rattle.uc_run_points.proofs.Grown.{text_some, number_some}
+use Rattle.uc_run_entry.specs.Run.{Contents, IsRun}
+use Rattle.uc_run_points.specs.Spelling.{entries_text}
+use Rattle.uc_run_points.proofs.Grown.{text_some}
 use Rattle.uc_run_file.specs.declared.footer.Footer.{Footer}
 use Rattle.uc_run_file.specs.Words.{word_text, half_text, word_of}
-use Rattle.uc_run_file.specs.Spelling.{string_text, numbers_text, fragment_text, fragments_text, Fits}
-use Rattle.uc_run_file.specs.Pieces.{pieces_of, sums, table_of}
+use Rattle.uc_run_file.specs.Spelling.{fragment_text, fragments_text}
+use Rattle.uc_run_file.specs.Pieces.{pieces_of, table_of}
 use Rattle.uc_run_file.specs.Footers.{magic, fields_text, footer_text, footer_in}
-use Rattle.uc_run_file.specs.Files.{body_of, footer_of, file_text, AreLens, IsSplit, AreParts}
+use Rattle.uc_run_file.specs.Files.{body_of, footer_of, file_text, AreLens, IsSplit}
 use Rattle.uc_run_file.proofs.PieceSums.{sums_long, half_long}
 use Rattle.uc_run_file.proofs.FragmentText.{fragment_some}
 

@@ -4,3 +4,5 @@ pub mod FragmentText
 pub mod PieceSums
 pub mod PointsJudged
 pub mod FileText
+pub mod FilesRead
+pub mod Copied

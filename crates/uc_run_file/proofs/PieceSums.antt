@@ -102,3 +102,30 @@ damaged_there bytes rest table left sum piece k len is there l s p other =
       other = λ e. other (s ∙ sym (ap (take 4) (ap (drop (4 * k)) is.table_is ∙ drop_at (sums k bytes) left (4 * k) (sums_long k bytes))) ∙ e
           ∙ ap (λ (xs : List ℕ). sum_text (take piece_len xs)) here ∙ sym (ap sum_text (p ∙ ap (λ (n : ℕ). take n rest) l)));
     }
+
+-- ---- a damaged piece
+
+sums_at : (k n : ℕ) (bytes : List ℕ) → k < n → take 4 (drop (4 * k) (sums n bytes)) ≡ sum_text (take piece_len (drop (k * piece_len) bytes))
+unfolding sums
+sums_at k zero bytes lt = absurd (omega (arith, lt))
+sums_at zero (suc n) bytes lt =
+    let none : 4 * zero ≡ 0 = omega arith in
+    let here : zero * piece_len ≡ 0 = omega arith in
+    let front : List ℕ = sum_text (take piece_len bytes) in
+    ap (λ (m : ℕ). take 4 (drop m (front ++ sums n (drop piece_len bytes)))) none
+    ∙ take_at front (sums n (drop piece_len bytes)) 4 (half_long (crc_of (take piece_len bytes)))
+    ∙ ap (λ (m : ℕ). sum_text (take piece_len (drop m bytes))) (sym here)
+sums_at (suc k) (suc n) bytes lt =
+    let front : List ℕ = sum_text (take piece_len bytes) in
+    let rest : List ℕ = sums n (drop piece_len bytes) in
+    let more : 4 * suc k ≡ 4 + 4 * k = omega arith in
+    let next : piece_len + k * piece_len ≡ suc k * piece_len = omega arith in
+    ap (λ (m : ℕ). take 4 (drop m (front ++ rest))) more
+    ∙ ap (take 4) (sym (drop-drop (4 * k) 4 (front ++ rest)) ∙ ap (drop (4 * k)) (drop_at front rest 4 (half_long (crc_of (take piece_len bytes)))))
+    ∙ sums_at k n (drop piece_len bytes) (omega (arith, lt))
+    ∙ ap (λ (xs : List ℕ). sum_text (take piece_len xs)) (drop-drop (k * piece_len) piece_len bytes ∙ ap (λ (m : ℕ). drop m bytes) next)
+
+pub no_damage : (bytes table : List ℕ) (offset : ℕ) → IsDamagedAt bytes table offset → table ≡ table_of bytes → ⊥
+no_damage bytes table offset is all =
+    is.other (ap (λ (xs : List ℕ). take 4 (drop (4 * is.piece) xs)) all ∙ sums_at is.piece (pieces_of (length bytes)) bytes is.there
+    ∙ ap (λ (n : ℕ). sum_text (take piece_len (drop n bytes))) (sym is.place))

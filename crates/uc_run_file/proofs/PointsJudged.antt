@@ -1,16 +1,15 @@
 -- Points that are judged one by one.
-use Rattle.std.proofs.Common.{◌≡◌, ℕ, zero, suc, ◌+◌, ◌^◌, ◌<◌, ◌≤◌, Option, Some, None, List, [], ◌∷◌, length, drop, refl, sym, ap, subst, ◌∙◌, arith}
+use Rattle.std.proofs.Common.{◌≡◌, ℕ, ◌+◌, Option, Some, None, List, [], ◌∷◌, drop, refl, sym, ap, subst, ◌∙◌}
 use Rattle.std.specs.List.{AllByRecursion, slice_get}
 use Rattle.std.specs.List.Sorted.{IsStrictlySortedBy}
 use Rattle.std.specs.declared.cmp.Ordering.TheVariants.{Less}
-use Rattle.std.proofs.lemmas.List.{drop-drop, drop_all}
-use Rattle.std.specs.Cmp.{IsTotalOrder}
+use Rattle.std.proofs.lemmas.List.{drop-drop}
 use Rattle.uc_run_entry.specs.declared.entry.Entry.{Entry}
 use Rattle.uc_run_entry.specs.Fragment.{Fragment}
 use Rattle.uc_run_entry.specs.Order.{entry_cmp, IsFalling}
 use Rattle.uc_run_entry.specs.Run.{IsWithin, IsWhole, IsApart, IsRun}
 use Rattle.uc_run_entry.proofs.Sorted.{entry_total}
-use Rattle.uc_run_file.specs.Judging.{IsAfter, IsGood, AreGood, IsRange}
+use Rattle.uc_run_file.specs.Judging.{IsGood, AreGood, IsRange}
 
 pub none_there : (ps : List Entry) → slice_get ps 0 ≡ None → ps ≡ []
 none_there [] e = refl

@@ -28,7 +28,7 @@ pub(crate) fn pieces_of(len: usize) -> usize
 }
 
 /// This many bytes at the front, and those after them; all and none if there are fewer.
-fn split_front(bytes: &[u8], count: usize) -> (&[u8], &[u8])
+pub(crate) fn split_front(bytes: &[u8], count: usize) -> (&[u8], &[u8])
     ensures front { result.0.now ≡ take count bytes.now }
     ensures rest { result.1.now ≡ drop count bytes.now }
 {

@@ -1,6 +1,6 @@
 use Rattle.std.proofs.Common.{◌∙◌, sym}
 use Rattle.std.proofs.lemmas.Bool.{false≢true}
-use Rattle.uc_run_file.proofs.PointsJudged.{without_points, in_range, falling, makes_run, all_good_of}
+use Rattle.uc_run_file.proofs.PointsJudged.{without_points, makes_run, all_good_of}
 use Rattle.uc_run_file.proofs.judging.run_fault.Goals as goal
 
 pub returns-then-not-is_run : goal.returns-then-not-is_run

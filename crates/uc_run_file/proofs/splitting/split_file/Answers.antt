@@ -1,6 +1,6 @@
-use Rattle.std.proofs.Common.{◌≡◌, ◌∙◌, ◌-◌, ◌<◌, ◌^◌, take, drop, length, sym, ap, arith, rules}
+use Rattle.std.proofs.Common.{◌∙◌, ◌<◌, ◌^◌, length, sym, ap, rules}
 use Rattle.std.proofs.lemmas.Bool.{false≢true}
-use Rattle.uc_run_file.specs.Footers.{footer_in, footer_text}
+use Rattle.uc_run_file.specs.Footers.{footer_in}
 use Rattle.uc_run_file.proofs.FileText.{no_shorter, no_others, same_last, is_split}
 use Rattle.uc_run_file.proofs.splitting.split_file.Goals as goal
 
