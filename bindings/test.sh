@@ -44,8 +44,8 @@ check_needs() {
 
 install_all() {
     # What cargo builds is the same both times.
-    PREFIX=/usr DESTDIR="$work/root" CARGO_TARGET_DIR="$work/target" "$here/../tools/install" > "$work/staged"
-    PREFIX="$work/usr" CARGO_TARGET_DIR="$work/target" "$here/../tools/install" > "$work/installed"
+    PREFIX=/usr DESTDIR="$work/root" CARGO_TARGET_DIR="$work/target" UCSTORE_TOOL=no "$here/../tools/install" > "$work/staged"
+    PREFIX="$work/usr" CARGO_TARGET_DIR="$work/target" UCSTORE_TOOL=no "$here/../tools/install" > "$work/installed"
     [ "$(wc -l < "$work/staged")" -eq "$(wc -l < "$work/installed")" ] || fail "DESTDIR changes what is installed"
     export PKG_CONFIG_PATH=$work/usr/lib/pkgconfig LD_LIBRARY_PATH=$work/usr/lib
     read -ra flags <<< "$(pkg-config --cflags --libs ucstore)"

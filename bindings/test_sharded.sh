@@ -40,7 +40,7 @@ run() {
 
 python=$(find_python)
 if [ -z "${UCSTORE_LIBRARY:-}" ] || [ -z "${UCSTORE_DB_LIBRARY:-}" ]; then
-    PREFIX="$work/usr" "$here/../tools/install" > "$work/installed"
+    PREFIX="$work/usr" UCSTORE_TOOL=no "$here/../tools/install" > "$work/installed"
     export UCSTORE_LIBRARY=$work/usr/lib/libucstore.so.2 UCSTORE_DB_LIBRARY=$work/usr/lib/libucstore_db.so.2
     [ -e "$UCSTORE_DB_LIBRARY" ] || fail "the database isn't installed: it needs cargo"
 fi

@@ -63,7 +63,10 @@ try_completions() {
     bash -n "$script" && grep -q delete-range "$script" || fail "the completions of bash are wrong"
 }
 
-try_units() { CARGO_TARGET_DIR="$work/target" "$tool/cargo" test --quiet -j 2; }
+try_units() {
+    # Flags as those of tools/install, so that what was built there serves here.
+    CARGO_TARGET_DIR="$work/target" RUSTFLAGS="--remap-path-prefix=$(dirname "$here")=/ucstore" "$tool/cargo" test --quiet --release
+}
 
 try_cases() { "$tool/cases/run"; }
 

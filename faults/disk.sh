@@ -53,7 +53,7 @@ check_needs() {
 find_library() {
     if [ -n "${UCSTORE_DB_LIBRARY:-}" ]; then return; fi
     if [ -z "${UCSTORE_LIB_DIR:-}" ]; then
-        PREFIX="$work/usr" CARGO_TARGET_DIR="$work/target" "$here/../tools/install" > "$work/installed"
+        PREFIX="$work/usr" CARGO_TARGET_DIR="$work/target" UCSTORE_TOOL=no "$here/../tools/install" > "$work/installed"
         export UCSTORE_LIB_DIR=$work/usr/lib
     else
         PREFIX="$work/usr" CARGO_TARGET_DIR="$work/target" "$here/../tools/install" database > "$work/installed"

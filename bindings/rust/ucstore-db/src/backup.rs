@@ -10,6 +10,7 @@
 //! A database in memory, and one that takes no writes any more, is written as a checkpoint.
 
 use crate::base_file::Base;
+use crate::db::Db;
 use crate::disk_folder::is_database;
 use crate::error::Error;
 use crate::folder::Folder;
@@ -18,6 +19,7 @@ use crate::name::Name;
 use crate::operator_file;
 use crate::partial::Partial;
 use crate::shared::Shared;
+use crate::staging::Staging;
 use std::fs;
 use std::io;
 use std::os::unix::fs::PermissionsExt;
@@ -41,6 +43,60 @@ struct Ended {
     last: u64,
 }
 
+impl Db {
+    /// Writes what it has now to another folder, which is a database of its own, and returns the sequence of the last write in it. Others
+    /// write meanwhile; a checkpoint waits. The folder is durable once it has its name. Until then it has the name with `.new-` and a
+    /// number after it: a crash may leave it there, and it may be removed.
+    ///
+    /// The log is ended, and files that don't change any more are linked, if the new folder is in the same file system: the two share their bytes on
+    /// the device. The others are copied, and read again. Others may do with the new folder what they may do with the old one, at most.
+    /// A database in memory, and one that takes no writes any more, is written as a checkpoint.
+    ///
+    /// ```
+    /// # use ucstore_db::{Db, Options};
+    /// # fn main() -> Result<(), ucstore_db::Error> {
+    /// # let path = std::env::temp_dir().join(format!("ucstore-db-backup-{}", std::process::id()));
+    /// # std::fs::create_dir(&path).unwrap();
+    /// let db = Db::open(path.join("visits"), &Options::default())?;
+    /// db.put("colour", "blue")?;
+    /// assert_eq!(db.backup(path.join("backup"))?, 1);
+    /// db.put("colour", "red")?;
+    ///
+    /// let backup = Db::open(path.join("backup"), &Options::default())?;
+    /// assert_eq!(backup.get("colour")?, Some(b"blue".to_vec()));
+    /// # drop((db, backup));
+    /// # std::fs::remove_dir_all(path).unwrap();
+    /// # Ok(())
+    /// # }
+    /// ```
+    ///
+    /// # Errors
+    ///
+    /// [`Error::File`], also if something has the name, [`Error::Damaged`] if a copy isn't read as it was written, [`Error::Store`],
+    /// [`Error::ReadOnly`] if the log can't be ended, [`Error::Closed`], also if it is closed meanwhile, which waits for that. Nothing has the
+    /// name then, unless the last sync failed: the backup is whole, but may not be durable.
+    pub fn backup(&self, path: impl AsRef<Path>) -> Result<u64, Error> {
+        let shared = self.shared();
+        let own = lock(&shared.log)
+            .as_ref()
+            .and_then(|log| log.folder.path().map(Path::to_path_buf));
+        let staging = Staging::create(path.as_ref(), own.as_deref())?;
+        let last = shared.backup(staging.folder())?;
+        staging.publish()?;
+        Ok(last)
+    }
+
+    /// Writes what it has now to an empty folder of another device, as [`backup`](Db::backup) does, and returns the sequence of the last
+    /// write in it. It is durable, and a database of its own, once this returns.
+    ///
+    /// # Errors
+    ///
+    /// As [`backup`](Db::backup); [`Error::File`] if a database is in the folder.
+    pub fn backup_on(&self, folder: &dyn Folder) -> Result<u64, Error> {
+        self.shared().backup(folder)
+    }
+}
+
 impl Shared {
     /// Writes what the database has now to an empty folder, durably. Returns the sequence of the last write that the folder has.
     pub(crate) fn backup(&self, target: &dyn Folder) -> Result<u64, Error> {
@@ -61,8 +117,8 @@ impl Shared {
             Some(ended) => self.copy_files(&ended, target)?,
             None => self.write_rows(&self.view()?, target)?,
         };
+        // This syncs the names of all files.
         operator_file::write(target, self.options.operator).map_err(in_target(target))?;
-        target.sync().map_err(of_target(target, ""))?;
         Ok(last)
     }
 
@@ -97,10 +153,11 @@ impl Shared {
             Name::Log(number) => (least..ended.number).contains(&number),
             name => Some(name) == base,
         };
+        // It comes first: a file that is linked is never made anew.
+        make_log(target, ended.number)?;
         for name in names.into_iter().filter(is_kept) {
             self.transfer(source, &name.text(), target)?;
         }
-        make_log(target, ended.number)?;
         Ok(ended.last)
     }
 

@@ -8,7 +8,6 @@ use crate::lock;
 use crate::options::Options;
 use crate::shared::Shared;
 use crate::snapshot::{Rows, Snapshot};
-use crate::staging::Staging;
 use crate::stats::Stats;
 use crate::workers::Workers;
 use std::cell::Cell;
@@ -404,58 +403,6 @@ impl Db {
         shared.checkpoint_to(view)
     }
 
-    /// Writes what it has now to another folder, which is a database of its own, and returns the sequence of the last write in it. Others
-    /// write meanwhile; a checkpoint waits. The folder is durable once it has its name. Until then it has the name with `.new-` and a
-    /// number after it: a crash may leave it there, and it may be removed.
-    ///
-    /// The log is ended, and files that don't change any more are linked, if the new folder is in the same file system: the two share their bytes on
-    /// the device. The others are copied, and read again. Others may do with the new folder what they may do with the old one, at most.
-    /// A database in memory, and one that takes no writes any more, is written as a checkpoint.
-    ///
-    /// ```
-    /// # use ucstore_db::{Db, Options};
-    /// # fn main() -> Result<(), ucstore_db::Error> {
-    /// # let path = std::env::temp_dir().join(format!("ucstore-db-backup-{}", std::process::id()));
-    /// # std::fs::create_dir(&path).unwrap();
-    /// let db = Db::open(path.join("visits"), &Options::default())?;
-    /// db.put("colour", "blue")?;
-    /// assert_eq!(db.backup(path.join("backup"))?, 1);
-    /// db.put("colour", "red")?;
-    ///
-    /// let backup = Db::open(path.join("backup"), &Options::default())?;
-    /// assert_eq!(backup.get("colour")?, Some(b"blue".to_vec()));
-    /// # drop((db, backup));
-    /// # std::fs::remove_dir_all(path).unwrap();
-    /// # Ok(())
-    /// # }
-    /// ```
-    ///
-    /// # Errors
-    ///
-    /// [`Error::File`], also if something has the name, [`Error::Damaged`] if a copy isn't read as it was written, [`Error::Store`],
-    /// [`Error::ReadOnly`] if the log can't be ended, [`Error::Closed`], also if it is closed meanwhile, which waits for that. Nothing has the
-    /// name then, unless the last sync failed: the backup is whole, but may not be durable.
-    pub fn backup(&self, path: impl AsRef<Path>) -> Result<u64, Error> {
-        let shared = self.shared();
-        let own = lock(&shared.log)
-            .as_ref()
-            .and_then(|log| log.folder.path().map(Path::to_path_buf));
-        let staging = Staging::create(path.as_ref(), own.as_deref())?;
-        let last = shared.backup(staging.folder())?;
-        staging.publish()?;
-        Ok(last)
-    }
-
-    /// Writes what it has now to an empty folder of another device, as [`backup`](Db::backup) does, and returns the sequence of the last
-    /// write in it. It is durable, and a database of its own, once this returns.
-    ///
-    /// # Errors
-    ///
-    /// As [`backup`](Db::backup); [`Error::File`] if a database is in the folder.
-    pub fn backup_on(&self, folder: &dyn Folder) -> Result<u64, Error> {
-        self.shared().backup(folder)
-    }
-
     /// Goes on in a new log, unless nothing is in this one: so a base of now will let the ones before it go, whatever is written until
     /// then. Nothing has to call this. In memory it does nothing.
     ///
@@ -534,7 +481,7 @@ impl Db {
     }
 
     /// The state that its threads share.
-    fn shared(&self) -> &Shared {
+    pub(crate) fn shared(&self) -> &Shared {
         &self.workers.shared
     }
 }

@@ -3,19 +3,21 @@
 mod common;
 
 use common::{
-    is_long, map_of, open, seed, Call, Device, Extent, Histories, History, Map, Numbers, Temporary,
+    is_long, map_of, open, seed, Around, Call, Device, Extent, Histories, History, Map, Numbers,
+    Over, Temporary,
 };
 use std::collections::BTreeMap;
 use std::env;
 use std::fs;
-use std::io::ErrorKind;
+use std::io::{self, ErrorKind};
 use std::os::unix::fs::{MetadataExt, PermissionsExt};
 use std::path::Path;
 use std::process::{Command, Stdio};
 use std::sync::atomic::{AtomicBool, Ordering};
-use std::thread;
+use std::sync::Mutex;
+use std::thread::{self, JoinHandle};
 use std::time::Duration;
-use ucstore_db::{Batch, Db, Error, Folder, Operator, Options};
+use ucstore_db::{Batch, Db, Error, File, Folder, Operator, Options};
 
 /// The variable that names the folder to the process that is killed.
 const FOLDER: &str = "UCSTORE_DB_BACKUPS";
@@ -139,6 +141,58 @@ fn a_crash_of_the_source_loses_nothing() {
             }
         }
     }
+}
+
+/// A device on which the first file is made while another thread makes a checkpoint of a database.
+struct Checkpointing {
+    device: Device,
+    db: Db,
+    made: Mutex<Option<JoinHandle<()>>>,
+}
+
+impl Around for Checkpointing {
+    fn device(&self) -> &Device {
+        &self.device
+    }
+
+    fn create(&self, name: &str) -> io::Result<Box<dyn File>> {
+        let mut made = self.made.lock().unwrap();
+        if made.is_none() {
+            let db = self.db.clone();
+            *made = Some(thread::spawn(move || db.checkpoint().unwrap()));
+            // It removes the files that it replaces by then, unless it waits.
+            thread::sleep(Duration::from_millis(200));
+        }
+        self.device.create(name)
+    }
+}
+
+#[test]
+fn a_checkpoint_waits_for_a_backup() {
+    let device = Device::default();
+    let db = open(&device).unwrap();
+    for key in ["a", "b", "c"] {
+        db.put(key, "1").unwrap();
+        db.next_log().unwrap();
+    }
+    let map = map_of(&db);
+    let target = Over(Checkpointing {
+        device: Device::default(),
+        db: db.clone(),
+        made: Mutex::default(),
+    });
+    db.backup_on(&target).unwrap();
+    target
+        .0
+        .made
+        .lock()
+        .unwrap()
+        .take()
+        .unwrap()
+        .join()
+        .unwrap();
+    assert_eq!(db.stats().checkpoints, 1);
+    check_going_on(&target.0.device, &map);
 }
 
 #[test]
@@ -387,8 +441,12 @@ fn child() {
 fn a_backup_of_a_process_that_is_killed_is_absent_or_whole() {
     let folder = Temporary::new("killed");
     let mut drawn = Numbers(seed(34));
-    let (mut whole, mut left) = (0, 0);
-    for _ in 0..if is_long() { 300 } else { 30 } {
+    let (mut whole, mut left) = (0u32, 0);
+    let least = if is_long() { 300 } else { 30 };
+    // On a loaded machine a process takes its time to make the first one.
+    let mut round = 0u64;
+    while round < least || whole == 0 {
+        round += 1;
         let _ = fs::remove_dir_all(folder.path());
         fs::create_dir(folder.path()).unwrap();
         let mut child = Command::new(env::current_exe().unwrap())
@@ -398,9 +456,11 @@ fn a_backup_of_a_process_that_is_killed_is_absent_or_whole() {
             .stderr(Stdio::null())
             .spawn()
             .unwrap();
-        thread::sleep(Duration::from_millis(10 + drawn.below(150)));
+        let later = 100 * u64::saturating_sub(round, least);
+        thread::sleep(Duration::from_millis(10 + drawn.below(150) + later));
         child.kill().unwrap();
         child.wait().unwrap();
+        let (mut kept, mut opened) = (vec![], vec![]);
         for entry in fs::read_dir(folder.path()).unwrap() {
             let path = entry.unwrap().path();
             let name = path.file_name().unwrap().to_str().unwrap().to_string();
@@ -416,14 +476,23 @@ fn a_backup_of_a_process_that_is_killed_is_absent_or_whole() {
                 must_exist: true,
                 ..counting()
             };
+            kept.push((path.clone(), files(&path)));
+            opened.push((path, options));
+        }
+        // The database that was killed goes on, and changes no file that it shares.
+        let own = Db::open(folder.path().join("own"), &counting()).unwrap();
+        own.put("later", "more").unwrap();
+        own.close().unwrap();
+        for (path, bytes) in kept {
+            assert_eq!(files(&path), bytes);
+        }
+        for (path, options) in opened {
             let backup = Db::open(&path, &options).unwrap();
             assert_eq!(backup.stats().set_aside_bytes, 0);
             numbers(&backup);
         }
-        Db::open(folder.path().join("own"), &counting()).unwrap();
     }
     println!("{whole} backups were whole, and {left} under another name");
-    assert!(whole > 0);
 }
 
 #[test]
