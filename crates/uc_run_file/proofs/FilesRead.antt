@@ -154,7 +154,7 @@ module _ (file : List ℕ) (small : length file < 2 ^ 64) (c : Contents) (is : I
         (subst (λ (xs : List Fragment). AreNoRun c.points xs g → ⊥) (sym same_fragments) (λ h. h is refl refl))) none
 
 pub refused : (file : List ℕ) (es : List Entry) (fs : List Fragment) (f : Footer) (error : RunFileError) → (AreNoRun es fs f → IsNoRun file) → IsRefusalOf es fs f error → IsRefusal file error
-refused file es fs f (Fault fault) go h = go h
+refused file es fs f (Fault fault) go h = (go h.0, h.1 file)
 refused file es fs f Memory go h = tt
 
 -- what is read is the run's file

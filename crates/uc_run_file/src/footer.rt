@@ -1,5 +1,6 @@
 //! [`Footer`]: the last bytes of a file.
-ghost use Rattle.std.specs.Prelude.{◌≡◌, ◌++◌, length, OnOk, IfOk};
+ghost use Rattle.std.specs.Prelude.{◌≡◌, ℕ, List, ◌++◌, length, OnOk, IfOk};
+ghost use Rattle.uc_run_file.specs.Files.{IsNamed};
 ghost use Rattle.uc_run_file.specs.Footers as footers;
 
 use crate::run_fault::RunFault;
@@ -93,7 +94,9 @@ pub(crate) fn read_footer(bytes: &[u8]) -> Footer
 }
 
 /// The fault of the last bytes of a file: that they are no footer of this version, or another one.
-pub(crate) fn footer_fault(bytes: &[u8], other: RunFault) -> RunFault {
+pub(crate) fn footer_fault(bytes: &[u8], other: RunFault) -> RunFault
+    ensures { (file : List ℕ) → IsNamed file other → IsNamed file result }
+{
     if bytes.get(56..).unwrap_or(&[]) != magic().as_slice() {
         return RunFault::NoRun;
     }

@@ -1,8 +1,9 @@
 //! Whether points and fragments make a run.
-ghost use Rattle.std.specs.Prelude.{◌≡◌, ◌↔◌, ◌<◌, ◌+◌, ◌^◌, None, length, true, Contains, IsTrue, MatchOption};
+ghost use Rattle.std.specs.Prelude.{ℕ, List, IfSome, ◌≡◌, ◌↔◌, ◌<◌, ◌+◌, ◌^◌, None, length, true, Contains, IsTrue, MatchOption};
 ghost use Rattle.std.specs.List.{AllByRecursion};
 ghost use Rattle.uc_run_entry.specs.Order.{IsFalling, AreInOrder};
 ghost use Rattle.uc_run_entry.specs.Run.{IsWithin, IsApart, IsRun};
+ghost use Rattle.uc_run_file.specs.Files.{IsNamed};
 ghost use Rattle.uc_run_file.specs.Judging.{IsAfter, IsGood, AreGood, IsRange};
 
 use crate::run_fault::RunFault;
@@ -65,8 +66,9 @@ fn point_fault(
 ) -> Option<RunFault>
     requires order { AreInOrder fragments.now }
     requires falling { AllByRecursion (λ f. IsFalling f.seqs) fragments.now }
-    ensures { MatchOption result (IsGood low high fragments.now before.now point.now)
+    ensures judged { MatchOption result (IsGood low high fragments.now before.now point.now)
         (λ _. IsGood low high fragments.now before.now point.now → ⊥) }
+    ensures named { IfSome result (λ fault. (file : List ℕ) → IsNamed file fault) }
 {
     if !is_after(before, point) {
         Some(RunFault::Order(number))
@@ -83,8 +85,9 @@ fn point_fault(
 fn points_fault(low: u64, high: u64, fragments: &[Fragment], points: &Points) -> Option<RunFault>
     requires order { AreInOrder fragments.now }
     requires falling { AllByRecursion (λ f. IsFalling f.seqs) fragments.now }
-    ensures { MatchOption result (AreGood low high fragments.now None points.now)
+    ensures judged { MatchOption result (AreGood low high fragments.now None points.now)
         (λ _. AreGood low high fragments.now None points.now → ⊥) }
+    ensures named { IfSome result (λ fault. (file : List ℕ) → IsNamed file fault) }
 {
     let mut ahead = points.ahead();
     let mut before = None;
@@ -116,8 +119,9 @@ pub(crate) fn run_fault(
     points: &Points,
     fragments: &[Fragment],
 ) -> Option<RunFault>
-    ensures { MatchOption result (IsRun low high points.now fragments.now)
+    ensures judged { MatchOption result (IsRun low high points.now fragments.now)
         (λ _. IsRun low high points.now fragments.now → ⊥) }
+    ensures named { IfSome result (λ fault. (file : List ℕ) → IsNamed file fault) }
 {
     let none: [Entry; 0] = [];
     if !is_range(low, high) {

@@ -89,7 +89,7 @@ fn run_of(
 /// The run that a file spells. The file's bytes become the run's points, of which none is copied.
 ///
 /// It looks at each byte a few times. Memory is allocated only for what the file has, whatever lengths it claims. An error other than
-/// `Memory` means that no run has these bytes.
+/// `Memory` means that no run has these bytes; that of a piece, a point or a fragment has the offset of the first such fault.
 pub fn read_run(alloc: Global, file: Vec<u8>) -> Result<Run, RunFileError>
     ensures run { IfOk result (λ run. file.items ≡ file_text run) }
     ensures fault { IfErr result (IsRefusal file.items) }

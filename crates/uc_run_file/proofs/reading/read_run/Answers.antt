@@ -12,7 +12,7 @@ returns-in-Err-Fault-clause-fault c =
     let file = c.args.file.items in
     let parts = subst (λ (xs : List ℕ). AreParts xs p.points_len p.fragments p.footer) c.deref.ensures.value c.in_ok-parts.ensures.parts in
     let at = subst (λ (xs : List ℕ). entries.IsFaultAt xs c.in-Err-Fault.offset) c.truncate.ensures.items (rw c.in-Err-Fault.field-0-is at c.in-Err-Fault.ensures.fault) in
-    λ r is e. no_point_fault file small r is e p.points_len p.fragments p.footer parts c.in-Err-Fault.offset at
+    ((λ r is e. no_point_fault file small r is e p.points_len p.fragments p.footer parts c.in-Err-Fault.offset at), record { len = p.points_len; fault = subst (λ (n : ℕ). entries.IsFaultAt (take p.points_len file) n) (sym c.in-Err-Fault.offset-is) at })
 
 pub returns-in-Ok-clause-fault : goal.returns-in-Ok-clause-fault
 returns-in-Ok-clause-fault c =
