@@ -162,7 +162,7 @@ class Demand:
                     wants(reply.bytes(), point.second, reply.name)
             wants(found[-1].some(), None, found[-1].name)
             for block, reply in enumerate(fences):
-                wants(reply.some(), points[16 * block].first if block < blocks else None, reply.name)
+                wants(reply.some(), points[4 * block].first if block < blocks else None, reply.name)
 
         return check
 

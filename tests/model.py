@@ -149,7 +149,7 @@ class Run(NamedTuple):
         return points + sum(len(one.begin) + len(one.end) + 8 * len(one.seqs) for one in self.fragments)
 
     def blocks(self) -> int:
-        return (len(self.points) + 15) // 16
+        return (len(self.points) + 3) // 4
 
     def writes(self) -> List[Write]:
         """The plain writes that it stands for, the oldest first."""
