@@ -106,7 +106,7 @@ impl Shared {
             return Err(of_target(target, name)(error));
         }
         let outcome = self.write_backup(target);
-        // A log that was ended is told of, and a failure of it.
+        // Events report a log that was ended, or that it failed.
         self.events.tell();
         outcome
     }

@@ -341,7 +341,7 @@ fn a_database_that_takes_no_writes_has_a_backup() {
     check_going_on(&target, &map_of(&db));
 }
 
-/// Writes equal numbers to two keys of a thread, until it is told to end.
+/// Writes equal numbers to two keys of a thread, until it has to end.
 fn count(db: &Db, thread: u64, is_over: &AtomicBool) {
     let mut number = 0u64;
     while !is_over.load(Ordering::Relaxed) {
