@@ -49,8 +49,10 @@ pub fn a_crash_loses_nothing_acknowledged()
     ensures acknowledged { (events : List Event) (logs bases : ℕ → Keep) →
         IsPrefixOf (run events start).acked (recovered (crashed logs bases (run events start).device)) }
     ensures goes_on { (events : List Event) (logs bases : ℕ → Keep) (least top : ℕ) (sealed : Bool) (keep : Option ℕ) →
-        submitted (happens (run events start) (Crash logs bases least top sealed keep)) ≡ recovered (crashed logs bases (run events start).device) }
-    ensures stays { (events later : List Event) → all_keep later ≡ true → IsPrefixOf (run events start).acked (run (events ++ later) start).acked }
+        submitted (happens (run events start) (Crash logs bases least top sealed keep))
+        ≡ recovered (crashed logs bases (run events start).device) }
+    ensures stays { (events later : List Event) → all_keep later ≡ true →
+        IsPrefixOf (run events start).acked (run (events ++ later) start).acked }
 {}
 
 /// Each record has a sequence, which says its place in its log. So also one who passes over what is torn, and goes on looking, reads no
@@ -154,12 +156,13 @@ pub fn never_loses_only_the_end_of_a_log()
 /// alone, as the other laws say. Once batches may be appended, those that were kept are the ones that were submitted and acknowledged,
 /// and a crash leaves exactly these.
 ///
-/// Who gives up batches of several logs opens the folder once for each, the last log first, and keeps none of the later ones.
+/// Batches of several logs are given up by an opening for each, the last log first, which keeps none of the later ones.
 pub fn batches_that_are_given_up_are_gone()
     ensures kept { (events : List Event) (least top keep : ℕ) (sealed : Bool) →
         IsPrefixOf (answered (happens (run events start) (Restart least top sealed (Some keep)))) (recovered (run events start).device) }
     ensures kept_after_a_crash { (events : List Event) (logs bases : ℕ → Keep) (least top keep : ℕ) (sealed : Bool) →
-        IsPrefixOf (answered (happens (run events start) (Crash logs bases least top sealed (Some keep)))) (recovered (crashed logs bases (run events start).device)) }
+        IsPrefixOf (answered (happens (run events start) (Crash logs bases least top sealed (Some keep))))
+        (recovered (crashed logs bases (run events start).device)) }
     ensures acknowledged { (events : List Event) (logs bases : ℕ → Keep) (least top keep : ℕ) (sealed : Bool) →
         (happens (run events start) (Crash logs bases least top sealed (Some keep))).acked
         ≡ take (length (answered (happens (run events start) (Crash logs bases least top sealed (Some keep))))) (run events start).acked }
@@ -168,8 +171,10 @@ pub fn batches_that_are_given_up_are_gone()
         (run (writes outcomes) (happens (run events start) (Restart least top sealed keep))).machine.writer ≡ Ready →
         IsDone (answered (happens (run events start) (Restart least top sealed keep)))
         (run (writes outcomes) (happens (run events start) (Restart least top sealed keep))) }
-    ensures done_after_a_crash { (events : List Event) (logs bases : ℕ → Keep) (least top : ℕ) (sealed : Bool) (keep : Option ℕ) (outcomes : List Outcome) →
-        is_there ((crashed logs bases (run events start).device).logs (last_log (crashed logs bases (run events start).device))).now ≡ true →
+    ensures done_after_a_crash { (events : List Event) (logs bases : ℕ → Keep) (least top : ℕ) (sealed : Bool) (keep : Option ℕ)
+        (outcomes : List Outcome) →
+        is_there ((crashed logs bases (run events start).device).logs
+        (last_log (crashed logs bases (run events start).device))).now ≡ true →
         (run (writes outcomes) (happens (run events start) (Crash logs bases least top sealed keep))).machine.writer ≡ Ready →
         IsDone (answered (happens (run events start) (Crash logs bases least top sealed keep)))
         (run (writes outcomes) (happens (run events start) (Crash logs bases least top sealed keep))) }
