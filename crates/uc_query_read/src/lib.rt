@@ -26,6 +26,7 @@ mod dead_below;
 mod dead_keys;
 mod laws;
 mod lookup;
+mod passing;
 mod plain;
 mod query;
 mod scan;

@@ -1,5 +1,4 @@
-use Rattle.std.proofs.Common.{◌≡◌, ◌+◌, ◌<◌, ◌≤◌, ℕ, true, false, List, Some, None, length, get_or, set, take, min, map, option_map, refl, sym, ap, ◌∙◌, subst, arith}
-use Rattle.std.specs.List.{AllByRecursion}
+use Rattle.std.proofs.Common.{◌≡◌, ◌+◌, ◌<◌, ℕ, false, Some, None, length, get_or, take, min, refl, sym, ap, ◌∙◌, subst, arith}
 use Rattle.std.proofs.lemmas.List.Elements.{All-from_recursion}
 use Rattle.uc_oper.specs.Composition.{applied}
 use Rattle.uc_oper.specs.declared.effect.Effect.{Effect}
@@ -12,7 +11,7 @@ use Rattle.uc_run.specs.Cursors.{Standing, has_ranges}
 use Rattle.uc_query_read.specs.Back.{IsAtBefore, passed_back, StandsBelow}
 use Rattle.uc_query_read.specs.Walks.{runs_of, IsOfRun}
 use Rattle.uc_query_read.proofs.Alone.{runs_set, same_element}
-use Rattle.uc_query_read.proofs.BackAlone.{after_greatest, all_keep_back, map_set, newer_lower, own_greatest, runs_passed_back}
+use Rattle.uc_query_read.proofs.BackAlone.{all_keep_back, map_set, newer_lower, own_greatest, runs_passed_back}
 use Rattle.uc_query_read.proofs.BackStanding.{one_before}
 use Rattle.uc_query_read.proofs.Effects.{one_older, set_stays}
 use Rattle.uc_query_read.proofs.Hiding.{all_taken}

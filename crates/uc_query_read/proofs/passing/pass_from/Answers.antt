@@ -1,11 +1,11 @@
-use Rattle.std.proofs.Common.{◌≡◌, ◌<◌, ◌≤◌, ◌+◌, ◌++◌, ◌∙◌, ℕ, List, [], length, map, take, drop, set, ap, subst, option_map, refl, sym, arith}
+use Rattle.std.proofs.Common.{◌≡◌, ◌<◌, ◌≤◌, ◌+◌, ◌++◌, ◌∙◌, ℕ, List, length, map, drop, set, ap, subst, option_map, refl, arith}
 use Rattle.std.proofs.lemmas.List.{append-nil, drop_all, length-map, length-set, take_all}
 use Rattle.uc_run.specs.Cursors.{Standing}
 use Rattle.uc_run.specs.Heads.{NextKeys, next_key}
 use Rattle.uc_run_entry.proofs.Written.{written}
 use Rattle.uc_query_read.specs.Walks.{passed}
 use Rattle.uc_query_read.proofs.Beside.{moved, passed_to}
-use Rattle.uc_query_read.proofs.walkers.pass_from.Goals as goal
+use Rattle.uc_query_read.proofs.passing.pass_from.Goals as goal
 
 pub loop-place-init : goal.loop-place-init
 loop-place-init c =

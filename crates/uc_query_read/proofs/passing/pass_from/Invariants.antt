@@ -3,7 +3,7 @@ use Rattle.std.specs.List.{AllByRecursion}
 use Rattle.uc_run.specs.Cursors.{Standing}
 use Rattle.uc_run.specs.Heads.{next_key}
 use Rattle.uc_query_read.specs.Walks.{ArePassedTo, IsOfRun, StandsAt}
-use Rattle.uc_query_read.proofs.walkers.pass_from.Given as goal
+use Rattle.uc_query_read.proofs.passing.pass_from.Given as goal
 
 -- the cursors so far are after the key, and their next keys beside them
 pub record Passed (l : goal.Live-loop-place) : Type 0 where

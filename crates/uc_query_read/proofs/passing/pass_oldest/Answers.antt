@@ -6,7 +6,7 @@ use Rattle.uc_run.specs.Heads.{next_key}
 use Rattle.uc_query_read.specs.Walks.{passed, StandsAt, IsOfRun}
 use Rattle.uc_query_read.proofs.Hiding.{all_taken}
 use Rattle.uc_query_read.proofs.Oldest.{all_stay, last_moved}
-use Rattle.uc_query_read.proofs.walkers.pass_oldest.Goals as goal
+use Rattle.uc_query_read.proofs.passing.pass_oldest.Goals as goal
 
 pub returns-in-Some-clause-cursors : goal.returns-in-Some-clause-cursors
 returns-in-Some-clause-cursors c =

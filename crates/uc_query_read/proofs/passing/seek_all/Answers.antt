@@ -1,7 +1,7 @@
 use Rattle.std.proofs.Common.{◌≡◌, ◌+◌, length, ap, arith, drop, List, ◌++◌}
 use Rattle.uc_query_read.specs.Walks.{sought}
 use Rattle.uc_query_read.proofs.Oldest.{last_moved}
-use Rattle.uc_query_read.proofs.walkers.seek_all.Goals as goal
+use Rattle.uc_query_read.proofs.passing.seek_all.Goals as goal
 
 pub returns-in-Some-clause-cursors : goal.returns-in-Some-clause-cursors
 returns-in-Some-clause-cursors c =

@@ -3,7 +3,7 @@ use Rattle.uc_run.specs.Heads.{NextKeys}
 use Rattle.uc_run_entry.proofs.Written.{written}
 use Rattle.uc_query_read.specs.Walks.{sought}
 use Rattle.uc_query_read.proofs.Beside.{moved}
-use Rattle.uc_query_read.proofs.walkers.seek_each.Goals as goal
+use Rattle.uc_query_read.proofs.passing.seek_each.Goals as goal
 
 pub loop-place-preserved : goal.loop-place-preserved
 loop-place-preserved c = record {

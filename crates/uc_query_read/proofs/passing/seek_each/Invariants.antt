@@ -1,7 +1,7 @@
 use Rattle.std.proofs.Common.{◌≡◌, ◌++◌, map, take, drop}
 use Rattle.uc_run.specs.Heads.{next_key}
 use Rattle.uc_query_read.specs.Walks.{sought}
-use Rattle.uc_query_read.proofs.walkers.seek_each.Given as goal
+use Rattle.uc_query_read.proofs.passing.seek_each.Given as goal
 
 -- the cursors so far are past the points below the key, and their next keys beside them
 abbrev pub invariant-loop-place : goal.invariant-loop-place

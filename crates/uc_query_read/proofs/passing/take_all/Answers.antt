@@ -10,7 +10,7 @@ use Rattle.uc_query_read.proofs.Alone.{without_each}
 use Rattle.uc_query_read.proofs.Effects.{set_stays}
 use Rattle.uc_query_read.proofs.Hiding.{all_taken}
 use Rattle.uc_query_read.proofs.Oldest.{last_moved}
-use Rattle.uc_query_read.proofs.walkers.take_all.Goals as goal
+use Rattle.uc_query_read.proofs.passing.take_all.Goals as goal
 
 pub take_there-requires-clause-plain : goal.take_there-requires-clause-plain
 take_there-requires-clause-plain g c =

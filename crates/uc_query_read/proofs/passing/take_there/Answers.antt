@@ -1,5 +1,5 @@
-use Rattle.std.proofs.Common.{rules, ◌≡◌, ◌≢◌, ◌+◌, ◌<◌, ◌≤◌, ◌++◌, ℕ, true, false, List, Option, Some, None, length, get_or, map, take, drop, set, option_map, refl, sym, ap, ◌∙◌, subst, arith}
-use Rattle.std.specs.List.{AllByRecursion, AllWithin}
+use Rattle.std.proofs.Common.{rules, ◌≡◌, ◌≢◌, ◌+◌, ◌<◌, ℕ, true, false, List, Option, Some, None, length, get_or, take, option_map, refl, sym, ap, ◌∙◌, subst, arith}
+use Rattle.std.specs.List.{AllWithin}
 use Rattle.std.proofs.lemmas.List.{get_or-map, length-map, length-set}
 use Rattle.std.proofs.lemmas.List.Elements.{All-from_recursion}
 use Rattle.uc_oper.specs.declared.effect.Effect.TheVariants.{Keep, Set}
@@ -16,7 +16,7 @@ use Rattle.uc_query_read.proofs.Beside.{moved, nowhere, passed_to}
 use Rattle.uc_query_read.proofs.Effects.{one_older, set_stays}
 use Rattle.uc_query_read.proofs.Hiding.{all_taken}
 use Rattle.uc_query_read.proofs.Standing.{at_place, one_behind}
-use Rattle.uc_query_read.proofs.walkers.take_there.Goals as goal
+use Rattle.uc_query_read.proofs.passing.take_there.Goals as goal
 
 pub pass_from-requires-clause-heads : goal.pass_from-requires-clause-heads
 pass_from-requires-clause-heads g c =
