@@ -1,0 +1,10 @@
+mod Lists
+mod Inside
+mod Keeping
+mod Holding
+mod Runs
+mod Making
+mod Histories
+mod Naming
+mod Telling
+mod Finding

@@ -1,0 +1,4 @@
+pub mod Files
+pub mod Steps
+pub mod RunWorlds
+pub mod Listing
