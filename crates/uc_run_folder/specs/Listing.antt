@@ -17,7 +17,7 @@ missing_in named listed = find (λ (r : ℕ). not (has_run r listed)) named
 
 -- The result of opening by names: each run of the list is there, and the next number follows those of all runs.
 abbrev pub AreFound : List ℕ → List ℕ → Result ℕ RunFault → Type 0
-AreFound named listed (Ok next) = (are_among named listed ≡ true) × (next ≡ suc (greatest_in listed))
+AreFound named listed (Ok next) = (are_among named listed ≡ true) × (next ≡ suc (greatest_in listed)) × (next < 2 ^ 63)
 AreFound named listed (Err (Missing r)) = (has_run r named ≡ true) × (has_run r listed ≡ false)
 AreFound named listed (Err (Spent r)) = (r ≡ greatest_in listed) × (2 ^ 63 - 2 < r)
 

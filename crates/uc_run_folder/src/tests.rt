@@ -48,7 +48,7 @@ fn make_list(machine: &mut RunFolder) -> [RunAction; 5] {
     ]
 }
 
-/// What it makes obsolete is removed.
+/// Logs, lists and runs are removed that the list makes obsolete.
 fn remove(machine: &mut RunFolder) -> [RunAction; 5] {
     [
         done(machine),

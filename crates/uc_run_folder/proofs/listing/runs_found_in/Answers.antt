@@ -8,4 +8,5 @@ returns-in-Some c = missing_some c.args.named.now c.args.listed.now c.in-Some.ru
 pub returns : goal.returns
 returns c =
     let last = c.greatest_in-last.ensures in
-    (missing_none c.args.named.now c.args.listed.now (sym c.missing_in.ensures ∙ c.in_default.is), omega (arith, last))
+    let few = c.if-last-gt-LAST.false in
+    (missing_none c.args.named.now c.args.listed.now (sym c.missing_in.ensures ∙ c.in_default.is), omega (arith, last), omega (arith, last, few))
