@@ -27,7 +27,7 @@ import worlds  # noqa: E402
 from folder import DONE, DONE_UNTOLD, NOT_DONE, PART_DONE, TORN, Entries, File, Place, Record, entry, newest_base  # noqa: E402
 
 # The walks without a plant, the most with one, and the crashes that are tried after each event.
-WALKS, MOST_WALKS, CRASHES = 50, 600, 3
+WALKS, MOST_WALKS, CRASHES = 200, 600, 3
 
 PLANTS = (
     "a run isn't synced",
@@ -321,12 +321,12 @@ def is_kept(world: World, number: int, runs: Numbers) -> bool:
 def asked(world: World, draw: random.Random) -> World:
     """A checkpoint is asked for, with some of the newest list's runs and some new ones."""
     inner = world.inner
-    number = draw.randint(inner.base, inner.log)
+    number = draw.choice((inner.log, draw.randint(inner.base, inner.log)))
     most = len(folder.part(inner, number)) if number < inner.log else 0
-    kept = tuple(run for run in world.named if draw.random() < 0.6) if world.is_read else ()
+    kept = tuple(run for run in world.named if draw.random() < 0.7) if world.is_read else ()
     if is_planted("a list keeps a run that has no file") and draw.random() < 0.3:
         kept += (draw.randint(1, world.next),)
-    return asks(world, Place(number, draw.randint(0, most)), kept, draw.choice((0, 1, 1, 2)))
+    return asks(world, Place(number, draw.randint(0, most)), kept, draw.choice((0, 1, 1, 2, 3)))
 
 
 def folder_step(world: World, draw: random.Random) -> World:
@@ -349,6 +349,11 @@ def folder_step(world: World, draw: random.Random) -> World:
 
 def asked_of_folder(inner: folder.World, draw: random.Random) -> folder.World:
     """Something is asked for, but no checkpoint: those are asked for here."""
+    if is_open(inner) and draw.random() < 0.3:
+        if inner.next_log == "absent":
+            return replace(inner, next_log="creating")
+        if inner.next_log == "waiting" and inner.writer == ("ready",):
+            return replace(inner, writer=("closing",))
     after = worlds.asked(inner, draw)
     return inner if after.checkpointer != inner.checkpointer else after
 
@@ -366,7 +371,7 @@ def step(world: World, draw: random.Random) -> World:
     if kind < 0.3 and (numbers := [number for number in world.runs if may_go(world, number)]):
         return with_run(world, draw.choice(numbers), None)
     if kind < 0.65 and world.phase != ("idle",):
-        return checkpoints(world, draw.choices((DONE, NOT_DONE, PART_DONE, DONE_UNTOLD), (12, 1, 1, 1))[0])
+        return checkpoints(world, draw.choices((DONE, NOT_DONE, PART_DONE, DONE_UNTOLD), (20, 1, 1, 1))[0])
     return folder_step(world, draw)
 
 
