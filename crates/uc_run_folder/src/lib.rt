@@ -18,6 +18,7 @@ mod listing;
 mod phases;
 mod run_action;
 mod run_folder;
+mod run_state;
 #[cfg(test)]
 mod tests;
 
@@ -25,3 +26,4 @@ pub use listing::{RunFault, is_orphan, runs_found_in};
 pub use phases::Phase;
 pub use run_action::RunAction;
 pub use run_folder::RunFolder;
+pub use run_state::{RunState, run_folders_have_numbers, run_step};

@@ -1,6 +1,6 @@
 //! One course of a folder with runs, and listings.
-use crate::{Phase, RunAction, RunFault, RunFolder, is_orphan, runs_found_in};
-use uc_folder::{Action, Found, Machine};
+use crate::{Phase, RunAction, RunFault, RunFolder, RunState, is_orphan, run_step, runs_found_in};
+use uc_folder::{Action, Found, Machine, Step};
 
 /// A folder of two logs, of which the first one has all batches. It is open.
 fn folder() -> Machine {
@@ -153,4 +153,34 @@ fn an_opening_finds_the_runs_that_are_named(rt: HostRuntime) {
         Err(RunFault::Spent(u64::MAX))
     );
     assert!(rt; is_orphan(9, &[3, 7]) && !is_orphan(7, &[3, 7]));
+}
+
+/// The numbers of a machine whose run is synced.
+fn numbered() -> (Phase, RunState) {
+    let mut machine = RunFolder::open(folder(), 5);
+    machine.ask_checkpoint(2, 0, &[], &[], 2);
+    machine.told_checkpoint(true);
+    (machine.phase, RunState::of(machine))
+}
+
+#[test]
+fn a_machine_comes_back_from_its_numbers(rt: HostRuntime) {
+    let (phase, state) = numbered();
+    assert_eq!(rt;
+        (state.phase, state.number, state.run, state.last, state.next),
+        (2, 2, 5, 6, 7)
+    );
+    let back = state.machine(folder()).map(|machine| machine.phase);
+    assert_eq!(rt; back, Some(phase));
+    let other = RunState { phase: 6, ..state };
+    assert!(rt; other.machine(folder()).is_none());
+    let step = run_step(RunAction::WriteRun(5));
+    assert_eq!(rt;
+        step,
+        Step {
+            number: 5,
+            count: 0,
+            kind: 15
+        }
+    );
 }
