@@ -5,14 +5,18 @@ use Rattle.std.proofs.lemmas.List.{length-drop, drop-drop, take-append-drop, tak
 use Rattle.uc_rows.specs.RowBytes.{Row, text_bytes, row_bytes, rows_bytes}
 use Rattle.uc_rows.proofs.RowsAgain.{text_pushed, rows_bytes-append}
 
+pub length_of_text : (text : List ℕ) → length (text_bytes text) ≡ 8 + length text
+length_of_text text =
+    let both = length-append (to_le_bytes w64 (length text)) text in
+    let eight : length (to_le_bytes w64 (length text)) ≡ 8 = refl in
+    omega (arith, both, eight)
+
 pub length_of_row : (row : Row) → length (row_bytes row) ≡ 16 + length row.0 + length row.1
 length_of_row row =
     let both = length-append (text_bytes row.0) (text_bytes row.1) in
-    let key = length-append (to_le_bytes w64 (length row.0)) row.0 in
-    let value = length-append (to_le_bytes w64 (length row.1)) row.1 in
-    let eight : length (to_le_bytes w64 (length row.0)) ≡ 8 = refl in
-    let eight_too : length (to_le_bytes w64 (length row.1)) ≡ 8 = refl in
-    omega (arith, both, key, value, eight, eight_too)
+    let key = length_of_text row.0 in
+    let value = length_of_text row.1 in
+    omega (arith, both, key, value)
 
 -- the row after the first few is the next
 taken_suc : (all rest : List Row) (row : Row) (n : ℕ) → drop n all ≡ row ∷ rest → take (suc n) all ≡ take n all ++ row ∷ []

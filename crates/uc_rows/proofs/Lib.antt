@@ -3,3 +3,5 @@ pub mod SameRows
 pub mod RowOrder
 pub mod Passed
 pub mod Fitted
+pub mod LaidTwice
+pub mod LaidMore

@@ -2,3 +2,4 @@ pub mod RowBytes
 pub mod Rising
 pub mod Held
 pub mod Fitting
+pub mod Laying

@@ -9,11 +9,13 @@
 //! Tests: `tests/base.py`.
 #![tactic(auto)]
 
+mod laying;
 mod row_buffer;
 mod row_iter;
 mod rows;
 mod spelling;
 
+pub use laying::Laid;
 pub use row_buffer::RowBuffer;
 pub use row_iter::RowIter;
 pub use rows::Rows;
