@@ -28,6 +28,6 @@ pub use laws::{
     a_shown_log_is_a_crashed_one, batches_that_are_read_were_written, crash_is_no_damage,
     synced_batches_are_read,
 };
-pub use mark::{mark_bytes, mark_of};
+pub use mark::{mark_bytes, mark_of, with_mark};
 pub use search::first_told;
 pub use telling::tells;

@@ -1,4 +1,4 @@
-//! [`mark_of`]: the mark of a batch; and [`mark_bytes`], by which one is written.
+//! [`mark_of`]: the mark of a batch; [`mark_bytes`], its bytes; and [`with_mark`], a batch that has one.
 ghost use Rattle.std.specs.Prelude.{◌≡◌, ◌≤◌, ◌<◌, ◌+◌, ◌++◌, drop, length, IfSome, IfOk, OnOk};
 ghost use Rattle.uc_log_crash.specs.Marks as marks;
 ghost use Rattle.uc_log_crash.specs.Marks.{bound_of, mark_text, number_text};
@@ -16,6 +16,9 @@ const HEADER_SIZE: usize = 12;
 
 /// The most bytes of a mark's data.
 const MOST_SIZE: usize = 10;
+
+/// The most bytes of a mark.
+const MOST_MARK: usize = 12;
 
 /// The number that bytes encode, seven bits in each.
 #[tactic(auto, unfolding(crate::specs::Marks::number_in))]
@@ -65,6 +68,22 @@ pub fn mark_of(payload: &[u8]) -> Option<u64>
     }
 }
 
+/// The number of bytes that [`push_number`] pushes.
+#[tactic(auto, unfolding(crate::specs::Marks::number_text))]
+fn number_size(more: u32, number: u64) -> u8
+    requires { more ≤ 8 }
+    ensures size { result ≡ length (number_text more number) }
+    ensures small { result ≤ 1 + more }
+{
+    if more == 0 {
+        return 1;
+    }
+    if number < 128 {
+        return 1;
+    }
+    1 + number_size(more - 1, number / 128)
+}
+
 /// Pushes the bytes of a number, at most this many after the first.
 #[tactic(auto, unfolding(crate::specs::Marks::number_text))]
 fn push_number(bytes: &mut Vec<u8>, more: u32, number: u64) -> Result<(), AllocError>
@@ -83,17 +102,35 @@ fn push_number(bytes: &mut Vec<u8>, more: u32, number: u64) -> Result<(), AllocE
     push_number(bytes, more - 1, number / 128)
 }
 
+/// Pushes the records of a mark.
+fn push_mark(bytes: &mut Vec<u8>, unsynced: u64) -> Result<(), AllocError>
+    requires { unsynced < 9223372036854775808 }
+    ensures { OnOk result (bytes.new.items ≡ bytes.old.items ++ mark_text unsynced) }
+{
+    bytes.push(LOG_DATA)?;
+    bytes.push(1 + number_size(8, unsynced))?;
+    bytes.push(KIND)?;
+    push_number(bytes, 8, unsynced)
+}
+
 /// The records of a mark, which go right after a batch's header: this many bytes before its record aren't on the device for certain.
 pub fn mark_bytes(alloc: Global, unsynced: u64) -> Result<Vec<u8>, AllocError>
     requires { unsynced < 9223372036854775808 }
     ensures { IfOk result (λ bytes. bytes.items ≡ mark_text unsynced) }
 {
-    let mut number = Vec::new(alloc);
-    push_number(&mut number, 8, unsynced)?;
-    let mut bytes = Vec::new(alloc);
-    bytes.push(LOG_DATA)?;
-    bytes.push(1 + number.len() as u8)?;
-    bytes.push(KIND)?;
-    bytes.extend_from_slice(&number)?;
+    let mut bytes = Vec::with_capacity(alloc, MOST_MARK)?;
+    push_mark(&mut bytes, unsynced)?;
+    Ok(bytes)
+}
+
+/// A batch with a mark right after its header.
+pub fn with_mark(alloc: Global, batch: &[u8], unsynced: u64) -> Result<Vec<u8>, AllocError>
+    requires { unsynced < 9223372036854775808 }
+    ensures { IfOk result (λ bytes. bytes.items ≡ marks.with_mark batch.now unsynced) }
+{
+    let mut bytes = Vec::with_capacity(alloc, batch.len().saturating_add(MOST_MARK))?;
+    bytes.extend_from_slice(batch.get(..HEADER_SIZE).unwrap_or(batch))?;
+    push_mark(&mut bytes, unsynced)?;
+    bytes.extend_from_slice(batch.get(HEADER_SIZE..).unwrap_or(&[]))?;
     Ok(bytes)
 }
