@@ -808,13 +808,26 @@ static void skip(void) {
 /* Lays out a batch of one deletion with a mark, for a log of some length. Returns the length of its record. */
 static size_t marked_record(struct ucstore *of, uint64_t unsynced, uint64_t length, uint8_t *room, size_t room_length) {
     const uint8_t header[] = {0, 0, 0, 0, 0, 0, 0, 0, 1, 0, 0, 0}, body[] = {0, 1, 'a'};
-    uint8_t batch[64];
-    size_t size = 99;
+    uint8_t batch[64], plain[sizeof header + sizeof body], expected[128];
+    struct ucstore_report report = {.size = sizeof report, .last = 99}, unknown = {.size = 8, .last = 99};
+    uint64_t before = 99;
+    size_t size = 99, expected_size = 99;
     memcpy(batch, header, sizeof header);
     CHECK(ucstore_log_mark_bytes(unsynced, batch + sizeof header, 12, &size) == UCSTORE_OK);
     memcpy(batch + sizeof header + size, body, sizeof body);
-    CHECK(ucstore_prepare_bytes(of, batch, sizeof header + size + sizeof body, length, room, room_length, &size) == UCSTORE_OK);
-    CHECK(ucstore_commit(of) == UCSTORE_OK);
+    CHECK(ucstore_prepare_bytes(of, batch, sizeof header + size + sizeof body, length, expected, sizeof expected, &expected_size) ==
+          UCSTORE_OK);
+    memcpy(plain, header, sizeof header);
+    memcpy(plain + sizeof header, body, sizeof body);
+    CHECK(ucstore_prepare_marked(of, plain, sizeof plain, unsynced, length, room, expected_size - 1, &size) == UCSTORE_ROOM);
+    CHECK(size == expected_size);
+    CHECK(ucstore_prepare_marked(of, plain, sizeof plain, unsynced, length, room, room_length, &size) == UCSTORE_OK);
+    CHECK(size == expected_size && memcmp(room, expected, size) == 0);
+    CHECK(ucstore_prepare_marked(of, plain, sizeof plain, UINT64_MAX / 2 + 1, length, room, room_length, &size) == UCSTORE_BAD_PLACE);
+    CHECK(size == expected_size && memcmp(room, expected, size) == 0);
+    CHECK(ucstore_last(of, &before) == UCSTORE_OK);
+    CHECK(ucstore_commit_report(of, &unknown) == UCSTORE_BAD_SIZE && unknown.last == 99);
+    CHECK(ucstore_commit_report(of, &report) == UCSTORE_OK && report.last == before + 1 && report.gathered == report.last);
     return size;
 }
 
@@ -896,7 +909,8 @@ static void folder_machine(void) {
     CHECK(ucstore_folder_open(&found, 0, false, &folder) == UCSTORE_OK);
     expect_step(&folder, ucstore_folder_next_write, ucstore_folder_told_write, UCSTORE_FOLDER_CREATE_LOG, 1, 0);
     expect_step(&folder, ucstore_folder_next_write, ucstore_folder_told_write, UCSTORE_FOLDER_SYNC_NAMES, 0, 0);
-    CHECK(ucstore_folder_submit(&folder) == UCSTORE_OK && ucstore_folder_ask_next(&folder) == UCSTORE_OK);
+    CHECK(ucstore_folder_append(&folder, &step) == UCSTORE_OK && ucstore_folder_ask_next(&folder) == UCSTORE_OK);
+    CHECK(step.kind == UCSTORE_FOLDER_APPEND && step.number == 1 && step.count == 0);
     expect_step(&folder, ucstore_folder_next_make, ucstore_folder_told_make, UCSTORE_FOLDER_CREATE_LOG, 2, 0);
     expect_step(&folder, ucstore_folder_next_write, ucstore_folder_told_write, UCSTORE_FOLDER_APPEND, 1, 0);
     expect_step(&folder, ucstore_folder_next_make, ucstore_folder_told_make, UCSTORE_FOLDER_SYNC_NAMES, 0, 0);
@@ -912,6 +926,7 @@ static void folder_machine(void) {
     old = folder;
     step.kind = 77;
     CHECK(ucstore_folder_next_write(&folder, &step) == UCSTORE_NO_FOLDER && step.kind == 77);
+    CHECK(ucstore_folder_append(&folder, &step) == UCSTORE_NO_FOLDER && step.kind == 77);
     CHECK(ucstore_folder_told_write(&folder, true) == UCSTORE_NO_FOLDER);
     CHECK(memcmp(&folder, &old, sizeof old) == 0);
 }
@@ -1188,7 +1203,9 @@ static void without_store(void) {
     CHECK(ucstore_prepare(&store, &batch, 0, room, sizeof room, &size) == UCSTORE_NO_STORE && size == 0);
     CHECK(ucstore_get_many(&store, text, 1, &length, 1, &seq, 1, room, sizeof room, &size) == UCSTORE_NO_STORE && seq == 7);
     CHECK(ucstore_prepare_bytes(&store, text, 1, 0, room, sizeof room, &size) == UCSTORE_NO_STORE && size == 0);
+    CHECK(ucstore_prepare_marked(&store, text, 1, 0, 0, room, sizeof room, &size) == UCSTORE_NO_STORE && size == 0);
     CHECK(ucstore_commit(&store) == UCSTORE_NO_STORE);
+    CHECK(ucstore_commit_report(&store, &report) == UCSTORE_NO_STORE);
     CHECK(ucstore_give_up(&store) == UCSTORE_NO_STORE);
     CHECK(ucstore_flush(&store) == UCSTORE_NO_STORE);
     CHECK(ucstore_snapshot(&store, &seq) == UCSTORE_NO_STORE && seq == 7);

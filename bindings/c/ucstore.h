@@ -405,9 +405,19 @@ int32_t ucstore_prepare(struct ucstore *store, struct ucstore_batch *batch, uint
 int32_t ucstore_prepare_bytes(struct ucstore *store, const uint8_t *batch, size_t batch_length, uint64_t log_length,
                               uint8_t *room, size_t room_length, size_t *size);
 
+/* Prepares a batch in RocksDB's format, as `ucstore_prepare_bytes` does, with a mark (see `ucstore_log_mark`): `unsynced` bytes of the log
+ * before the batch's record are not durable for certain.
+ * UCSTORE_ROOM, UCSTORE_BAD_PLACE (`unsynced` is 2^63 or more), and those of `ucstore_write_bytes`. */
+int32_t ucstore_prepare_marked(struct ucstore *store, const uint8_t *batch, size_t batch_length, uint64_t unsynced,
+                               uint64_t log_length, uint8_t *room, size_t room_length, size_t *size);
+
 /* Makes the prepared batch visible. Does nothing if there is none. Allocates no memory.
  * UCSTORE_NO_STORE. */
 int32_t ucstore_commit(struct ucstore *store);
+
+/* Makes the prepared batch visible, as `ucstore_commit` does, and stores statistics, as `ucstore_report` does.
+ * UCSTORE_NO_STORE, UCSTORE_BAD_SIZE (the batch stays prepared). */
+int32_t ucstore_commit_report(struct ucstore *store, struct ucstore_report *report);
 
 /* Discards the prepared batch, if there is one.
  * UCSTORE_NO_STORE. */
@@ -502,8 +512,8 @@ int32_t ucstore_view_get_many(struct ucstore_view *view, const uint8_t *keys, si
                               size_t *size);
 
 /* Scans a view, as `ucstore_scan` does a store. The first scan through a handle sorts the memtables, also for the handles that
- * `ucstore_view_again` creates from it later.
- * UCSTORE_NO_VIEW, UCSTORE_OUT_OF_MEMORY. */
+ * `ucstore_view_again` creates from it later. Rows are copied to `room` as they are found.
+ * UCSTORE_NO_VIEW, UCSTORE_OUT_OF_MEMORY (the contents of `room` are unspecified). */
 int32_t ucstore_view_scan(struct ucstore_view *view, const uint8_t *low, size_t low_length, const uint8_t *high,
                           size_t high_length, bool bounded, uint64_t limit, uint8_t *room, size_t room_length, size_t *size,
                           uint64_t *rows);
@@ -514,6 +524,7 @@ int32_t ucstore_view_scan(struct ucstore_view *view, const uint8_t *low, size_t 
 int32_t ucstore_view_scan_back(struct ucstore_view *view, const uint8_t *low, size_t low_length, const uint8_t *high,
                                size_t high_length, bool bounded, uint64_t limit, uint8_t *room, size_t room_length,
                                size_t *size, uint64_t *rows);
+
 /* Scans a view, at a snapshot that the store had when the view was taken, as `ucstore_view_scan` does.
  * UCSTORE_NO_VIEW, UCSTORE_NOT_PROTECTED, UCSTORE_OUT_OF_MEMORY. */
 int32_t ucstore_view_scan_at(struct ucstore_view *view, const uint8_t *low, size_t low_length, const uint8_t *high,
@@ -675,6 +686,10 @@ int32_t ucstore_folder_ask_sync(struct ucstore_folder_state *state);
 int32_t ucstore_folder_ask_next(struct ucstore_folder_state *state);
 int32_t ucstore_folder_ask_switch(struct ucstore_folder_state *state);
 int32_t ucstore_folder_ask_checkpoint(struct ucstore_folder_state *state, uint64_t number, uint64_t past);
+
+/* Asks for an append of a batch, as `ucstore_folder_submit` does, and returns the writer's next operation.
+ * UCSTORE_NO_FOLDER. */
+int32_t ucstore_folder_append(struct ucstore_folder_state *state, struct ucstore_folder_step *step);
 
 #ifdef __cplusplus
 }

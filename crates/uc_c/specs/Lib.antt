@@ -18,5 +18,6 @@ pub mod LogWalk
 pub mod LogSteps
 pub mod Replaying
 pub mod LogEnds
+pub mod Logging
 pub mod Checkpoints
 pub mod Folders

@@ -188,6 +188,24 @@ pub extern "C" fn ucstore_folder_submit(state: &mut State) -> i32
     OK
 }
 
+/// Submits a batch, as `ucstore_folder_submit` does, and stores the writer's next operation: the append of the batch, if the writer may
+/// take it.
+#[unsafe(no_mangle)]
+pub extern "C" fn ucstore_folder_append(state: &mut State, step: &mut Step) -> i32
+    ensures asked { IfMachine result state.old (λ m. (state.new ≡ state_of (record m { writer = submitting m.writer }))
+        × (step.new ≡ step_of (next_write (submitting m.writer) m.log m.count m.synced))) }
+    ensures untold { (result ≡ OK) ⊎ ((state.new ≡ state.old) × (step.new ≡ step.old)) }
+{
+    let Some(mut machine) = state.machine() else {
+        return NO_FOLDER;
+    };
+    machine.submit();
+    let next = machine.next_write();
+    *step = Step::of(next);
+    *state = State::of(machine);
+    OK
+}
+
 /// Requests a sync of all that was appended. Changes nothing while a sync is running.
 #[unsafe(no_mangle)]
 pub extern "C" fn ucstore_folder_ask_sync(state: &mut State) -> i32

@@ -8,7 +8,8 @@
 //! ```
 //!
 //! Each function of a store is a thin export over a method of [`Engine`](uc_engine::Engine): it takes the engine out of the handle,
-//! calls it, puts it back, and returns a status. Results are written through pointers only if the status is `OK`.
+//! calls it, puts it back, and returns a status. Results are written through pointers only if the status is `OK`; rows of a view are
+//! copied to the buffer as they are found.
 //!
 //! C collects operations in a [`BatchHandle`](uc_handle::BatchHandle), which is held in the same way. So is a view, in a
 //! [`ViewHandle`](uc_handle::ViewHandle), a checkpoint, in a [`CheckpointHandle`](uc_handle::CheckpointHandle), and a job, in a
@@ -16,14 +17,15 @@
 //!
 //! The functions of `logs.rt` need no handle: C keeps a log in its own file, appends the bytes that they encode, and walks over it.
 //! `replaying.rt` writes the batches of such a walk to a store. If a walk stops, it stores the reason through a pointer.
-//! `log_ends.rt` writes and reads marks, and finds the batch after a fault that tells damage.
+//! `log_ends.rt` writes and reads marks, and finds the batch after a fault that tells damage. `logging.rt` prepares and commits what a
+//! database logs.
 //! `folders.rt` finds the files of a database's directory that opening reads, and determines the next file operation; C holds its
 //! state machine in a struct of numbers.
 //!
 //! Read `status.rt` and `specs/Replies.antt` first, for the results of the functions, then `opening.rt`, `batches.rt`,
 //! `writing.rt`, `snapshots.rt`, `readable.rt`, `reading.rt`, `many.rt`, `scanning.rt`, `views.rt`, `view_reading.rt`,
 //! `sources.rt`, `checkpoints.rt`, `compacting.rt`, `jobs.rt`, `job_laws.rt`, `c_report.rt`, with `specs/LogWalk.antt`, `logs.rt`
-//! and `replaying.rt`, `log_ends.rt`, and `folders.rt`.
+//! and `replaying.rt`, `log_ends.rt`, `logging.rt`, and `folders.rt`.
 //!
 //! Tests: `bindings/c/worked.c`, `bindings/c/test.c`.
 #![tactic(auto)]
@@ -41,6 +43,7 @@ mod job_laws;
 mod jobs;
 mod log_ends;
 mod log_step;
+mod logging;
 mod logs;
 mod many;
 mod opening;

@@ -10,7 +10,7 @@ use std::alloc::Global;
 use uc_log_crash::{first_told, mark_bytes, mark_of};
 
 /// The least number that is no length of a log.
-const LENGTHS: u64 = 1 << 63;
+pub const LENGTHS: u64 = 1 << 63;
 
 /// The most bytes by which a header may begin after the end of a batch, and one more.
 const STEP: u64 = 8;

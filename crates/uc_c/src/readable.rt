@@ -1,13 +1,13 @@
 //! [`Readable`]: what is read in the same way.
 use std::alloc::{AllocError, Global};
-use uc_engine::{Answer, Bytes, Engine, EngineView, LookupSource, Query, Rows, ValueRef};
+use uc_engine::{Answer, Engine, EngineView, LookupSource, Query, ValueRef};
 
 /// An engine, or a view of one.
 pub trait Readable {
     ghost use Rattle.std.specs.Prelude.{◌≡◌, IfOk};
     ghost use Rattle.uc_query_read.specs.declared.query.Query.TheVariants as queries;
     ghost use Rattle.uc_live.specs.Sources.{source_of};
-    ghost use Rattle.uc_engine.specs.EngineViews.{Viewed, answer_seen, rows_seen, value_seen};
+    ghost use Rattle.uc_engine.specs.EngineViews.{Viewed, answer_seen, value_seen};
 
     /// The part of it that contracts see.
     ghost viewed: { Self → Viewed };
@@ -24,17 +24,6 @@ pub trait Readable {
     /// the sequence.
     fn get_at(&self, alloc: Global, key: &[u8], at: u64) -> Result<Answer, AllocError>
         ensures { IfOk result (λ answer. answer ≡ answer_seen (viewed self.now) (queries.Get key.now at)) };
-
-    /// The first rows, at most `limit`, of the keys from `low` to below `high`, or to the last one if `high` is `None`,
-    /// at the last sequence.
-    fn scan(
-        &self,
-        alloc: Global,
-        low: &[u8],
-        high: &Option<Bytes>,
-        limit: u64,
-    ) -> Result<Rows, AllocError>
-        ensures { IfOk result (λ rows. rows ≡ rows_seen (viewed self.now) low.now high.now limit) };
 
     /// The answer to a query at a snapshot, or `NotProtected` if no snapshot is at its sequence.
     fn answer(&self, alloc: Global, query: &Query) -> Result<Answer, AllocError>
@@ -58,16 +47,6 @@ impl Readable for Engine {
         Engine::get_at(self, alloc, key, at)
     }
 
-    fn scan(
-        &self,
-        alloc: Global,
-        low: &[u8],
-        high: &Option<Bytes>,
-        limit: u64,
-    ) -> Result<Rows, AllocError> {
-        Engine::scan(self, alloc, low, high, limit)
-    }
-
     fn answer(&self, alloc: Global, query: &Query) -> Result<Answer, AllocError> {
         Engine::answer(self, alloc, query)
     }
@@ -86,16 +65,6 @@ impl Readable for EngineView {
 
     fn get_at(&self, alloc: Global, key: &[u8], at: u64) -> Result<Answer, AllocError> {
         EngineView::get_at(self, alloc, key, at)
-    }
-
-    fn scan(
-        &self,
-        alloc: Global,
-        low: &[u8],
-        high: &Option<Bytes>,
-        limit: u64,
-    ) -> Result<Rows, AllocError> {
-        EngineView::scan(self, alloc, low, high, limit)
     }
 
     fn answer(&self, alloc: Global, query: &Query) -> Result<Answer, AllocError> {

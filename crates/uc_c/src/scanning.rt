@@ -12,7 +12,7 @@ use crate::readable::Readable;
 use crate::room::fill;
 use crate::status::{NO_STORE, NOT_PROTECTED, OK, OUT_OF_MEMORY};
 use std::alloc::{AllocError, Global};
-use uc_engine::{Answer, Bytes, EngineView, Query, RowBuffer, Rows};
+use uc_engine::{Answer, Bytes, Engine, EngineView, Query, RowBuffer, Rows};
 use uc_handle::Handle;
 
 /// The most writes in memtables that a scan sorts: if there are more, they are flushed first.
@@ -94,10 +94,10 @@ pub extern "C" fn ucstore_scan_at(
     status
 }
 
-/// Scans at the last sequence, as `ucstore_scan` does.
-pub fn scan<R: Readable>(
+/// Scans an engine at the last sequence, as `ucstore_scan` does.
+fn scan(
     alloc: Global,
-    source: &R,
+    engine: &Engine,
     low: &[u8],
     high: &[u8],
     bounded: bool,
@@ -107,12 +107,12 @@ pub fn scan<R: Readable>(
     count: &mut u64,
 ) -> i32
     ensures shown { (result ≡ OUT_OF_MEMORY) ⊎ ((result ≡ OK)
-        × AreShown (rows_seen (R.viewed source.now) low.now (if bounded then Some high.now else None) limit)
+        × AreShown (last_rows engine.now low.now (if bounded then Some high.now else None) limit)
         room.old room.new size.new count.new) }
     ensures untold { (result ≡ OK)
         ⊎ ((room.new ≡ room.old) × (size.new ≡ size.old) × (count.new ≡ count.old)) }
 {
-    match rows_in(alloc, source, low, high, bounded, limit) {
+    match rows_in(alloc, engine, low, high, bounded, limit) {
         Ok(rows) => {
             show_rows(rows.as_buffer(), room, size, count);
             OK
@@ -121,8 +121,54 @@ pub fn scan<R: Readable>(
     }
 }
 
-/// Scans a view at the last sequence against the order of keys, as `ucstore_view_scan_back` does.
-pub fn scan_back(
+/// The rows of a scan at the last sequence.
+fn rows_in(
+    alloc: Global,
+    engine: &Engine,
+    low: &[u8],
+    high: &[u8],
+    bounded: bool,
+    limit: u64,
+) -> Result<Rows, AllocError>
+    ensures { IfOk result (λ rows.
+        rows ≡ last_rows engine.now low.now (if bounded then Some high.now else None) limit) }
+{
+    let high = bound(alloc, high, bounded)?;
+    engine.scan(alloc, low, &high, limit)
+}
+
+/// Copies the rows of a view at the last sequence to the buffer, as `ucstore_view_scan` does.
+pub fn lay(
+    alloc: Global,
+    view: &EngineView,
+    low: &[u8],
+    high: &[u8],
+    bounded: bool,
+    limit: u64,
+    room: &mut [u8],
+    size: &mut usize,
+    count: &mut u64,
+) -> i32
+    ensures shown { (result ≡ OUT_OF_MEMORY) ⊎ ((result ≡ OK)
+        × AreShown (rows_seen view.now low.now (if bounded then Some high.now else None) limit)
+        room.old room.new size.new count.new) }
+    ensures untold { (result ≡ OK) ⊎ ((size.new ≡ size.old) × (count.new ≡ count.old)) }
+{
+    let Ok(high) = bound(alloc, high, bounded) else {
+        return OUT_OF_MEMORY;
+    };
+    match view.lay_rows(alloc, low, &high, limit, room) {
+        Ok(laid) => {
+            *size = laid.size;
+            *count = laid.fitting;
+            OK
+        }
+        Err(_) => OUT_OF_MEMORY,
+    }
+}
+
+/// Copies the rows of a view at the last sequence to the buffer against the order of keys, as `ucstore_view_scan_back` does.
+pub fn lay_back(
     alloc: Global,
     view: &EngineView,
     low: &[u8],
@@ -136,48 +182,19 @@ pub fn scan_back(
     ensures shown { (result ≡ OUT_OF_MEMORY) ⊎ ((result ≡ OK)
         × AreShown (rows_seen_back view.now low.now (if bounded then Some high.now else None) limit)
         room.old room.new size.new count.new) }
-    ensures untold { (result ≡ OK)
-        ⊎ ((room.new ≡ room.old) × (size.new ≡ size.old) × (count.new ≡ count.old)) }
+    ensures untold { (result ≡ OK) ⊎ ((size.new ≡ size.old) × (count.new ≡ count.old)) }
 {
-    match rows_back_in(alloc, view, low, high, bounded, limit) {
-        Ok(rows) => {
-            show_rows(&rows, room, size, count);
+    let Ok(high) = bound(alloc, high, bounded) else {
+        return OUT_OF_MEMORY;
+    };
+    match view.lay_rows_back(alloc, low, &high, limit, room) {
+        Ok(laid) => {
+            *size = laid.size;
+            *count = laid.fitting;
             OK
         }
         Err(_) => OUT_OF_MEMORY,
     }
-}
-
-/// The rows of a scan of a view at the last sequence against the order of keys.
-fn rows_back_in(
-    alloc: Global,
-    view: &EngineView,
-    low: &[u8],
-    high: &[u8],
-    bounded: bool,
-    limit: u64,
-) -> Result<RowBuffer, AllocError>
-    ensures { IfOk result (λ rows.
-        rows ≡ rows_seen_back view.now low.now (if bounded then Some high.now else None) limit) }
-{
-    let high = bound(alloc, high, bounded)?;
-    view.scan_back(alloc, low, &high, limit)
-}
-
-/// The rows of a scan at the last sequence.
-fn rows_in<R: Readable>(
-    alloc: Global,
-    source: &R,
-    low: &[u8],
-    high: &[u8],
-    bounded: bool,
-    limit: u64,
-) -> Result<Rows, AllocError>
-    ensures { IfOk result (λ rows.
-        rows ≡ rows_seen (R.viewed source.now) low.now (if bounded then Some high.now else None) limit) }
-{
-    let high = bound(alloc, high, bounded)?;
-    source.scan(alloc, low, &high, limit)
 }
 
 /// Scans at a sequence, as `ucstore_scan_at` does.

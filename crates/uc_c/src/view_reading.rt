@@ -10,7 +10,7 @@ ghost use Rattle.uc_c.specs.Rows.{AreShown, Scanned};
 
 use crate::many::look_up_many;
 use crate::reading::{look_up, look_up_at};
-use crate::scanning::{scan, scan_at, scan_back};
+use crate::scanning::{lay, lay_back, scan_at};
 use crate::status::{NO_VIEW, OUT_OF_MEMORY};
 use std::alloc::Global;
 use uc_handle::ViewHandle;
@@ -85,7 +85,7 @@ pub extern "C" fn ucstore_view_get_many(
 }
 
 /// Scans a view, as `ucstore_scan` does a store. The first scan of a view sorts the writes in its memtables, for all of its handles
-/// that are made after it.
+/// that are made after it. The rows are copied once, into the buffer: if the scan fails, its contents are unspecified.
 #[unsafe(no_mangle)]
 pub extern "C" fn ucstore_view_scan(
     alloc: Global,
@@ -101,14 +101,13 @@ pub extern "C" fn ucstore_view_scan(
     ensures scanned { IsRead NO_VIEW result view.old.held view.new.held (λ v. (result ≡ OUT_OF_MEMORY)
         ⊎ ((result ≡ OK) × AreShown (rows_seen v low.now (if bounded then Some high.now else None) limit)
         room.old room.new size.new count.new)) }
-    ensures untold { (result ≡ OK)
-        ⊎ ((room.new ≡ room.old) × (size.new ≡ size.old) × (count.new ≡ count.old)) }
+    ensures untold { (result ≡ OK) ⊎ ((size.new ≡ size.old) × (count.new ≡ count.old)) }
 {
     let Some(mut held) = view.take(alloc) else {
         return NO_VIEW;
     };
     let status = match held.sort(alloc) {
-        Ok(()) => scan(alloc, &*held, low, high, bounded, limit, room, size, count),
+        Ok(()) => lay(alloc, &*held, low, high, bounded, limit, room, size, count),
         Err(_) => OUT_OF_MEMORY,
     };
     view.put(held);
@@ -116,7 +115,7 @@ pub extern "C" fn ucstore_view_scan(
 }
 
 /// Scans a view against the order of keys: the last rows, at most `limit`, the greatest key first, written as `ucstore_scan`
-/// does. It sorts as `ucstore_view_scan` does.
+/// does. It sorts, and copies the rows, as `ucstore_view_scan` does.
 #[unsafe(no_mangle)]
 pub extern "C" fn ucstore_view_scan_back(
     alloc: Global,
@@ -132,14 +131,13 @@ pub extern "C" fn ucstore_view_scan_back(
     ensures scanned { IsRead NO_VIEW result view.old.held view.new.held (λ v. (result ≡ OUT_OF_MEMORY)
         ⊎ ((result ≡ OK) × AreShown (rows_seen_back v low.now (if bounded then Some high.now else None) limit)
         room.old room.new size.new count.new)) }
-    ensures untold { (result ≡ OK)
-        ⊎ ((room.new ≡ room.old) × (size.new ≡ size.old) × (count.new ≡ count.old)) }
+    ensures untold { (result ≡ OK) ⊎ ((size.new ≡ size.old) × (count.new ≡ count.old)) }
 {
     let Some(mut held) = view.take(alloc) else {
         return NO_VIEW;
     };
     let status = match held.sort(alloc) {
-        Ok(()) => scan_back(alloc, &*held, low, high, bounded, limit, room, size, count),
+        Ok(()) => lay_back(alloc, &*held, low, high, bounded, limit, room, size, count),
         Err(_) => OUT_OF_MEMORY,
     };
     view.put(held);

@@ -2,6 +2,7 @@
 ghost use Rattle.std.specs.Prelude.{◌≡◌, IfOk, length};
 ghost use Rattle.uc_query_read.specs.declared.query.Query.TheVariants as queries;
 ghost use Rattle.uc_live.specs.Sources.{source_of};
+ghost use Rattle.uc_rows.specs.Laying.{AreLaid};
 ghost use Rattle.uc_live.specs.Views as views;
 ghost use Rattle.uc_engine.specs.EngineViews.{answer_seen, rows_seen, rows_seen_back, value_seen, viewed_in};
 
@@ -13,7 +14,7 @@ use std::marker::Model;
 use uc_bytes::Bytes;
 use uc_live::{LookupSource, Version, View};
 use uc_oper::{Counter, Maximum, ValueRef, owned_value};
-use uc_query_read::{Answer, Query, RowBuffer, Rows};
+use uc_query_read::{Answer, Laid, Query};
 
 /// A view of a store of each operator.
 #[derive(Drop)]
@@ -144,32 +145,35 @@ impl EngineView {
         with_each!(AnyView, &self.view, view => view.get_at(alloc, key, at))
     }
 
-    /// The first rows, at most `limit`, of the keys from `low` to below `high`, or to the last one if `high` is `None`, at the last
-    /// sequence number. A scan sorts the writes in memtables, unless they are [sorted](EngineView::sort).
-    pub fn scan(
+    /// Copies the first rows, at most `limit`, of the keys from `low` to below `high`, or to the last one if `high` is `None`, at the last
+    /// sequence number, to a buffer, one after the other, as far as they fit. It sorts the writes in memtables, unless they are
+    /// [sorted](EngineView::sort).
+    pub fn lay_rows(
         &self,
         alloc: Global,
         low: &[u8],
         high: &Option<Bytes>,
         limit: u64,
-    ) -> Result<Rows, AllocError>
-        ensures { IfOk result (λ rows. rows ≡ rows_seen self.now low.now high.now limit) }
+        room: &mut [u8],
+    ) -> Result<Laid, AllocError>
+        ensures { IfOk result (AreLaid (rows_seen self.now low.now high.now limit) room.old room.new) }
     {
-        with_each!(AnyView, &self.view, view => view.scan(alloc, low, high, limit))
+        with_each!(AnyView, &self.view, view => view.lay_rows(alloc, low, high, limit, room))
     }
 
-    /// The last rows, at most `limit`, of the keys from `low` to below `high`, or to the last one if `high` is `None`, at the last
-    /// sequence number: the greatest key first. A scan sorts the writes in memtables, unless they are [sorted](EngineView::sort).
-    pub fn scan_back(
+    /// Copies the last rows, at most `limit`, of the keys from `low` to below `high`, or to the last one if `high` is `None`, at the last
+    /// sequence number, to a buffer, one after the other, as far as they fit: the greatest key first.
+    pub fn lay_rows_back(
         &self,
         alloc: Global,
         low: &[u8],
         high: &Option<Bytes>,
         limit: u64,
-    ) -> Result<RowBuffer, AllocError>
-        ensures { IfOk result (λ rows. rows ≡ rows_seen_back self.now low.now high.now limit) }
+        room: &mut [u8],
+    ) -> Result<Laid, AllocError>
+        ensures { IfOk result (AreLaid (rows_seen_back self.now low.now high.now limit) room.old room.new) }
     {
-        with_each!(AnyView, &self.view, view => view.scan_back(alloc, low, high, limit))
+        with_each!(AnyView, &self.view, view => view.lay_rows_back(alloc, low, high, limit, room))
     }
 
     /// The answer to a query at a snapshot, or `NotProtected` if no snapshot was at its sequence.

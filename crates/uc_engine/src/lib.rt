@@ -52,4 +52,4 @@ pub use uc_live::{
     recorded_batch_is_recovered, sources_tell_what_values_come_of, spent_flushes_stay_spent,
 };
 pub use uc_oper::ValueRef;
-pub use uc_query_read::{Answer, Query, RowBuffer, Rows};
+pub use uc_query_read::{Answer, Laid, Query, RowBuffer, Rows};

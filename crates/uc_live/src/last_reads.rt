@@ -4,6 +4,7 @@ ghost use Rattle.std.specs.Arc.{arc_value};
 ghost use Rattle.uc_batch.specs.Rising.{IsRising, last_of};
 ghost use Rattle.uc_model.specs.Meaning.{value_of};
 ghost use Rattle.uc_query_read.specs.Answers.{first_rows, named_keys};
+ghost use Rattle.uc_rows.specs.Laying.{AreLaid};
 ghost use Rattle.uc_run.specs.Flush.{flushed};
 ghost use Rattle.uc_version_state.specs.Versions.{writes_in};
 
@@ -14,8 +15,9 @@ use uc_memtable::FlushableMemtables;
 use uc_model::effect_continues_value;
 use uc_oper::{Operator, ValueRef};
 use uc_query_read::{
-    RowBuffer, Rows, equal_values_give_equal_answers, rows_at, rows_back_are_rows_reversed,
-    rows_back_at, rows_back_behind, rows_behind, value_behind,
+    Laid, Rows, equal_values_give_equal_answers, lay_rows_at, lay_rows_back_at,
+    lay_rows_back_behind, lay_rows_behind, rows_at, rows_back_are_rows_reversed, rows_behind,
+    value_behind,
 };
 use uc_run::{Run, SoughtKey, flush_keeps_every_effect};
 use uc_version::Version;
@@ -103,8 +105,8 @@ pub(crate) fn last_rows<O: Operator>(
     sorted_rows::<O>(alloc, version, gathered, newer, low, high, limit)
 }
 
-/// The rows of a scan in descending order of key, as [`last_rows_back`] finds them, with the run of the writes in memtables.
-pub(crate) fn sorted_rows_back<O: Operator>(
+/// Copies the rows of a scan, as [`sorted_rows`] finds them, to a buffer, as far as they fit.
+pub(crate) fn lay_sorted_rows<O: Operator>(
     alloc: Global,
     version: &Version,
     gathered: &FlushableMemtables,
@@ -112,39 +114,105 @@ pub(crate) fn sorted_rows_back<O: Operator>(
     low: &[u8],
     high: &Option<Bytes>,
     limit: u64,
-) -> Result<RowBuffer, AllocError>
+    room: &mut [u8],
+) -> Result<Laid, AllocError>
     requires some { gathered.now.shown ≢ [] }
     requires rising { IsRising version.now.last gathered.now.shown }
     requires newer { arc_value newer ≡ flushed gathered.now.shown }
-    ensures { IfOk result (λ rows. rows ≡ first_rows O.meaning
+    ensures { IfOk result (AreLaid (first_rows O.meaning
         (writes_in version.now ++ gathered.now.shown) (last_of version.now.last gathered.now.shown) limit
-        (reverse (named_keys (writes_in version.now ++ gathered.now.shown) low.now high.now))) }
+        (named_keys (writes_in version.now ++ gathered.now.shown) low.now high.now)) room.old room.new) }
 {
     flush_keeps_every_effect::<O>();
     equal_values_give_equal_answers::<O>();
     effect_continues_value::<O>();
-    rows_back_are_rows_reversed::<O>();
-    rows_back_behind::<O>(alloc, newer, version, low, high, gathered.last(), limit)
+    lay_rows_behind::<O>(
+        alloc,
+        newer,
+        version,
+        low,
+        high,
+        gathered.last(),
+        limit,
+        room,
+    )
 }
 
-/// The last rows, at most `limit`, of the keys from `low` to below `high`, or to the last one if `high` is `None`, at the last
-/// sequence: the greatest key first. It costs what [`last_rows`] does.
-pub(crate) fn last_rows_back<O: Operator>(
+/// Copies the rows of a scan, as [`last_rows`] finds them, to a buffer, as far as they fit.
+pub(crate) fn lay_rows<O: Operator>(
     alloc: Global,
     version: &Version,
     gathered: &FlushableMemtables,
     low: &[u8],
     high: &Option<Bytes>,
     limit: u64,
-) -> Result<RowBuffer, AllocError>
+    room: &mut [u8],
+) -> Result<Laid, AllocError>
     requires { IsRising version.now.last gathered.now.shown }
-    ensures { IfOk result (λ rows. rows ≡ first_rows O.meaning
+    ensures { IfOk result (AreLaid (first_rows O.meaning
         (writes_in version.now ++ gathered.now.shown) (last_of version.now.last gathered.now.shown) limit
-        (reverse (named_keys (writes_in version.now ++ gathered.now.shown) low.now high.now))) }
+        (named_keys (writes_in version.now ++ gathered.now.shown) low.now high.now)) room.old room.new) }
 {
     if gathered.is_empty() {
-        return rows_back_at::<O>(alloc, version, low, high, version.last(), limit);
+        return lay_rows_at::<O>(alloc, version, low, high, version.last(), limit, room);
     }
     let run = sorted(alloc, gathered)?;
-    sorted_rows_back::<O>(alloc, version, gathered, run, low, high, limit)
+    lay_sorted_rows::<O>(alloc, version, gathered, run, low, high, limit, room)
+}
+
+/// Copies the rows of a scan in descending order of key, as [`lay_rows_back`] finds them, with the run of the writes in memtables.
+pub(crate) fn lay_sorted_rows_back<O: Operator>(
+    alloc: Global,
+    version: &Version,
+    gathered: &FlushableMemtables,
+    newer: Arc<Run>,
+    low: &[u8],
+    high: &Option<Bytes>,
+    limit: u64,
+    room: &mut [u8],
+) -> Result<Laid, AllocError>
+    requires some { gathered.now.shown ≢ [] }
+    requires rising { IsRising version.now.last gathered.now.shown }
+    requires newer { arc_value newer ≡ flushed gathered.now.shown }
+    ensures { IfOk result (AreLaid (first_rows O.meaning
+        (writes_in version.now ++ gathered.now.shown) (last_of version.now.last gathered.now.shown) limit
+        (reverse (named_keys (writes_in version.now ++ gathered.now.shown) low.now high.now))) room.old room.new) }
+{
+    flush_keeps_every_effect::<O>();
+    equal_values_give_equal_answers::<O>();
+    effect_continues_value::<O>();
+    rows_back_are_rows_reversed::<O>();
+    lay_rows_back_behind::<O>(
+        alloc,
+        newer,
+        version,
+        low,
+        high,
+        gathered.last(),
+        limit,
+        room,
+    )
+}
+
+/// Copies the last rows, at most `limit`, of the keys from `low` to below `high`, or to the last one if `high` is `None`, at the last
+/// sequence, to a buffer, as far as they fit: the greatest key first. It costs what [`last_rows`] does.
+pub(crate) fn lay_rows_back<O: Operator>(
+    alloc: Global,
+    version: &Version,
+    gathered: &FlushableMemtables,
+    low: &[u8],
+    high: &Option<Bytes>,
+    limit: u64,
+    room: &mut [u8],
+) -> Result<Laid, AllocError>
+    requires { IsRising version.now.last gathered.now.shown }
+    ensures { IfOk result (AreLaid (first_rows O.meaning
+        (writes_in version.now ++ gathered.now.shown) (last_of version.now.last gathered.now.shown) limit
+        (reverse (named_keys (writes_in version.now ++ gathered.now.shown) low.now high.now))) room.old room.new) }
+{
+    if gathered.is_empty() {
+        return lay_rows_back_at::<O>(alloc, version, low, high, version.last(), limit, room);
+    }
+    let run = sorted(alloc, gathered)?;
+    lay_sorted_rows_back::<O>(alloc, version, gathered, run, low, high, limit, room)
 }

@@ -4,12 +4,14 @@ ghost use Rattle.uc_batch.specs.Rising.{IsRising};
 ghost use Rattle.uc_model.specs.Meaning.{value_of};
 ghost use Rattle.uc_query_read.specs.Answers.{answer_of, first_rows, named_keys};
 ghost use Rattle.uc_query_read.specs.declared.query.Query.TheVariants as queries;
+ghost use Rattle.uc_rows.specs.Laying.{AreLaid};
 ghost use Rattle.uc_live.specs.Sources.{source_of};
 ghost use Rattle.uc_live.specs.Views as views;
 ghost use Rattle.uc_live.specs.Views.{seen_in};
 
 use crate::last_reads::{
-    last_rows, last_rows_back, last_sequence, last_value, sorted, sorted_rows, sorted_rows_back,
+    last_rows, last_sequence, last_value, lay_rows, lay_rows_back, lay_sorted_rows,
+    lay_sorted_rows_back, sorted, sorted_rows,
 };
 use crate::live_store::LiveStore;
 use crate::lookup_source::{LookupSource, last_source};
@@ -20,9 +22,7 @@ use uc_bytes::Bytes;
 use uc_memtable::FlushableMemtables;
 use uc_model::later_writes_change_nothing;
 use uc_oper::{Operator, ValueRef, owned_value};
-use uc_query_read::{
-    Answer, Query, RowBuffer, Rows, answer_one, equal_values_give_equal_answers, get,
-};
+use uc_query_read::{Answer, Laid, Query, Rows, answer_one, equal_values_give_equal_answers, get};
 use uc_run::Run;
 use uc_version::Version;
 
@@ -211,34 +211,51 @@ impl<O: Operator> View<O> {
         }
     }
 
-    /// The last rows, at most `limit`, of the keys from `low` to below `high`, or to the last one if `high` is `None`, at the last
-    /// sequence number: the greatest key first. It sorts the writes in memtables as [`scan`](View::scan) does.
-    pub fn scan_back(
+    /// Copies the rows of a [scan](View::scan) to a buffer, one after the other, as far as they fit.
+    pub fn lay_rows(
         &self,
         alloc: Global,
         low: &[u8],
         high: &Option<Bytes>,
         limit: u64,
-    ) -> Result<RowBuffer, AllocError>
-        ensures { IfOk result (λ rows.
-            rows ≡ first_rows O.meaning (views.writes_of self.now) (views.last self.now) limit
-            (reverse (named_keys (views.writes_of self.now) low.now high.now))) }
+        room: &mut [u8],
+    ) -> Result<Laid, AllocError>
+        ensures { IfOk result (AreLaid (first_rows O.meaning (views.writes_of self.now) (views.last self.now) limit
+            (named_keys (views.writes_of self.now) low.now high.now)) room.old room.new) }
     {
         let parts = &self.parts;
+        let (version, gathered) = (&parts.version, &parts.gathered);
         match &self.sorted {
             Some(run) => {
                 let newer = run.clone()?;
-                sorted_rows_back::<O>(
-                    alloc,
-                    &parts.version,
-                    &parts.gathered,
-                    newer,
-                    low,
-                    high,
-                    limit,
-                )
+                lay_sorted_rows::<O>(alloc, version, gathered, newer, low, high, limit, room)
             }
-            None => last_rows_back::<O>(alloc, &parts.version, &parts.gathered, low, high, limit),
+            None => lay_rows::<O>(alloc, version, gathered, low, high, limit, room),
+        }
+    }
+
+    /// Copies the last rows, at most `limit`, of the keys from `low` to below `high`, or to the last one if `high` is `None`, at the last
+    /// sequence number, to a buffer, one after the other, as far as they fit: the greatest key first. It sorts the writes in memtables as
+    /// [`scan`](View::scan) does.
+    pub fn lay_rows_back(
+        &self,
+        alloc: Global,
+        low: &[u8],
+        high: &Option<Bytes>,
+        limit: u64,
+        room: &mut [u8],
+    ) -> Result<Laid, AllocError>
+        ensures { IfOk result (AreLaid (first_rows O.meaning (views.writes_of self.now) (views.last self.now) limit
+            (reverse (named_keys (views.writes_of self.now) low.now high.now))) room.old room.new) }
+    {
+        let parts = &self.parts;
+        let (version, gathered) = (&parts.version, &parts.gathered);
+        match &self.sorted {
+            Some(run) => {
+                let newer = run.clone()?;
+                lay_sorted_rows_back::<O>(alloc, version, gathered, newer, low, high, limit, room)
+            }
+            None => lay_rows_back::<O>(alloc, version, gathered, low, high, limit, room),
         }
     }
 

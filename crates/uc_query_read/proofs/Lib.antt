@@ -18,3 +18,4 @@ pub mod HidingBack
 pub mod SkippingBack
 pub mod Alone
 pub mod BackAlone
+pub mod LaidRows

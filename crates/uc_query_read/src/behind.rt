@@ -6,16 +6,17 @@ ghost use Rattle.uc_model.specs.Meaning.{value_of};
 ghost use Rattle.uc_compact.specs.Inputs.{writes_of};
 ghost use Rattle.uc_query_read.specs.Answers as answers;
 ghost use Rattle.uc_query_read.specs.Answers.{named_keys};
+ghost use Rattle.uc_rows.specs.Laying.{AreLaid};
 ghost use Rattle.uc_version_state.specs.Versions.{contents_of, writes_in};
 
-use crate::back_scan::rows_back_of_runs;
+use crate::back_scan::lay_rows_back_of_runs;
 use crate::lookup::value_of_runs;
-use crate::scan::rows_of_runs;
+use crate::scan::{lay_rows_of_runs, rows_of_runs};
 use std::alloc::{AllocError, Global};
 use std::sync::Arc;
 use uc_bytes::Bytes;
 use uc_oper::{Effect, EffectRef, Operator, ValueRef, owned_value};
-use uc_rows::{RowBuffer, Rows};
+use uc_rows::{Laid, Rows};
 use uc_run::{Run, SoughtKey};
 use uc_version_state::{Placed, Version};
 
@@ -73,20 +74,38 @@ pub fn rows_at<O: Operator>(
     rows_of_runs::<O>(alloc, version.runs(), low, high, at, limit)
 }
 
-/// The rows of a scan of a version against the order of keys, at a sequence, whether or not it is protected: the last, at most `limit`, of
-/// the keys from `low` on, and below `high` if there is one, that have a value. The greatest key comes first.
-pub fn rows_back_at<O: Operator>(
+/// Copies the rows of a scan, as [`rows_at`] finds them, to a buffer, as far as they fit.
+pub fn lay_rows_at<O: Operator>(
     alloc: Global,
     version: &Version,
     low: &[u8],
     high: &Option<Bytes>,
     at: u64,
     limit: u64,
-) -> Result<RowBuffer, AllocError>
-    ensures { IfOk result (λ rows. rows ≡ answers.first_rows O.meaning (writes_in version.now) at limit
-        (reverse (named_keys (writes_in version.now) low.now high.now))) }
+    room: &mut [u8],
+) -> Result<Laid, AllocError>
+    ensures { IfOk result (AreLaid (answers.first_rows O.meaning (writes_in version.now) at limit
+        (named_keys (writes_in version.now) low.now high.now)) room.old room.new) }
 {
-    rows_back_of_runs::<O>(alloc, version.runs(), low, high, at, limit)
+    lay_rows_of_runs::<O>(alloc, version.runs(), low, high, at, limit, room)
+}
+
+/// Copies the rows of a scan of a version against the order of keys to a buffer, as far as they fit. The scan is at a sequence, whether
+/// or not it is protected: the last rows, at most `limit`, of the keys from `low` on, and below `high` if there is one, that have a
+/// value. The greatest key comes first.
+pub fn lay_rows_back_at<O: Operator>(
+    alloc: Global,
+    version: &Version,
+    low: &[u8],
+    high: &Option<Bytes>,
+    at: u64,
+    limit: u64,
+    room: &mut [u8],
+) -> Result<Laid, AllocError>
+    ensures { IfOk result (AreLaid (answers.first_rows O.meaning (writes_in version.now) at limit
+        (reverse (named_keys (writes_in version.now) low.now high.now))) room.old room.new) }
+{
+    lay_rows_back_of_runs::<O>(alloc, version.runs(), low, high, at, limit, room)
 }
 
 /// A run before those of a version, which are shared. Its own place is of no account.
@@ -123,9 +142,8 @@ pub fn rows_behind<O: Operator>(
     rows_of_runs::<O>(alloc, &runs, low, high, at, limit)
 }
 
-/// The rows of a scan against the order of keys, as [`rows_back_at`] gives them, of a version after a run that is newer than all its
-/// runs. It copies no run.
-pub fn rows_back_behind<O: Operator>(
+/// Copies the rows of a scan, as [`rows_behind`] finds them, to a buffer, as far as they fit.
+pub fn lay_rows_behind<O: Operator>(
     alloc: Global,
     newer: Arc<Run>,
     version: &Version,
@@ -133,11 +151,32 @@ pub fn rows_back_behind<O: Operator>(
     high: &Option<Bytes>,
     at: u64,
     limit: u64,
-) -> Result<RowBuffer, AllocError>
-    ensures { IfOk result (λ rows.
-        rows ≡ answers.first_rows O.meaning (writes_of (arc_value newer ∷ contents_of version.now.runs)) at limit
-        (reverse (named_keys (writes_of (arc_value newer ∷ contents_of version.now.runs)) low.now high.now))) }
+    room: &mut [u8],
+) -> Result<Laid, AllocError>
+    ensures { IfOk result (AreLaid
+        (answers.first_rows O.meaning (writes_of (arc_value newer ∷ contents_of version.now.runs)) at limit
+        (named_keys (writes_of (arc_value newer ∷ contents_of version.now.runs)) low.now high.now)) room.old room.new) }
 {
     let runs = runs_behind(alloc, newer, version.runs())?;
-    rows_back_of_runs::<O>(alloc, &runs, low, high, at, limit)
+    lay_rows_of_runs::<O>(alloc, &runs, low, high, at, limit, room)
+}
+
+/// Copies the rows of a scan against the order of keys, as [`lay_rows_back_at`] does, of a version after a run that is newer than all
+/// its runs. It copies no run.
+pub fn lay_rows_back_behind<O: Operator>(
+    alloc: Global,
+    newer: Arc<Run>,
+    version: &Version,
+    low: &[u8],
+    high: &Option<Bytes>,
+    at: u64,
+    limit: u64,
+    room: &mut [u8],
+) -> Result<Laid, AllocError>
+    ensures { IfOk result (AreLaid
+        (answers.first_rows O.meaning (writes_of (arc_value newer ∷ contents_of version.now.runs)) at limit
+        (reverse (named_keys (writes_of (arc_value newer ∷ contents_of version.now.runs)) low.now high.now))) room.old room.new) }
+{
+    let runs = runs_behind(alloc, newer, version.runs())?;
+    lay_rows_back_of_runs::<O>(alloc, &runs, low, high, at, limit, room)
 }

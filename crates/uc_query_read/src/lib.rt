@@ -39,8 +39,11 @@ pub use answer_laws::{
     unprotected_is_refused,
 };
 pub use answering::{answer_last, answer_one, get, get_last};
-pub use behind::{rows_at, rows_back_at, rows_back_behind, rows_behind, value_behind};
+pub use behind::{
+    lay_rows_at, lay_rows_back_at, lay_rows_back_behind, lay_rows_behind, rows_at, rows_behind,
+    value_behind,
+};
 pub use laws::{histories_keep_answers, later_events_leave_answers_alone};
 pub use plain::answer_writes;
 pub use query::Query;
-pub use uc_rows::{RowBuffer, RowIter, Rows};
+pub use uc_rows::{Laid, RowBuffer, RowIter, Rows};

@@ -1,5 +1,5 @@
 -- One more row, copied into a buffer or only counted.
-use Rattle.std.proofs.Common.{◌≡◌, ◌≢◌, ◌⊎◌, inl, inr, ℕ, ◌+◌, ◌<◌, ◌≤◌, List, [], ◌∷◌, ◌++◌, length, take, drop, sym, ap, ◌∙◌, subst, length-append, arith}
+use Rattle.std.proofs.Common.{◌≡◌, ◌≢◌, ◌⊎◌, inl, inr, ℕ, ◌+◌, ◌<◌, ◌≤◌, List, [], ◌∷◌, ◌++◌, length, take, drop, sym, ap, ◌∙◌, subst, length-append, refl, arith}
 use Rattle.std.proofs.lemmas.List.{take_all, take-append-le, length-drop}
 use Rattle.std.proofs.lemmas.Bool.{cases_lt}
 use Rattle.uc_rows.specs.RowBytes.{Row, row_bytes, rows_bytes}
@@ -20,6 +20,16 @@ filled_long bytes room fits =
     let sum = length-append bytes (drop (length bytes) room) in
     let rest = length-drop (length bytes) room in
     omega (arith, same, sum, rest, fits)
+
+pub none_laid : (room : List ℕ) → AreLaid [] room room (record { rows = 0; fitting = 0; size = 0 })
+none_laid room = record {
+  shown = record {
+    fitting = record { there = omega arith; fit = omega arith; most = inl refl };
+    written = sym (filled_front [] room (omega arith));
+    whole = refl;
+  };
+  count = refl;
+}
 
 more_bytes : (rows : List Row) (row : Row) → length (rows_bytes (rows ++ row ∷ [])) ≡ length (rows_bytes rows) + length (row_bytes row)
 more_bytes rows row = ap (λ (l : List ℕ). length l) (text_pushed rows row) ∙ length-append (rows_bytes rows) (row_bytes row)

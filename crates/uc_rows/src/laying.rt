@@ -63,7 +63,7 @@ impl Laid {
     /// No rows.
     #[inline]
     pub fn new() -> Laid
-        ensures { result ≡ record { rows = 0; fitting = 0; size = 0 } }
+        ensures { (room : List ℕ) → AreLaid [] room room result }
     {
         Laid {
             rows: 0,

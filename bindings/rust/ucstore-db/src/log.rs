@@ -141,11 +141,6 @@ impl Log {
         Ok(set_aside)
     }
 
-    /// A batch with the mark that its record has, if that is the next one.
-    pub(crate) fn marked(&self, batch: &[u8]) -> Result<Vec<u8>, ucstore::Error> {
-        mark::with_mark(batch, self.length - self.synced)
-    }
-
     /// Appends a record, and waits until it is on the device if that is asked.
     pub(crate) fn append(&mut self, record: &[u8], is_synced: bool) -> Result<(), Refusal> {
         self.finish_cleanup().map_err(Refusal::Passes)?;
@@ -357,8 +352,7 @@ impl Log {
         let length = self.length;
         let (mut refused, mut is_mended) = (None, false);
         let mut machine = lock(&self.machine);
-        machine.submit();
-        let mut action = machine.next_write();
+        let mut action = machine.append();
         drop(machine);
         loop {
             match action {

@@ -18,7 +18,7 @@ use crate::spin_wait::SpinWait;
 use std::sync::atomic::{AtomicBool, AtomicU64, Ordering};
 use std::sync::{Arc, Condvar, Mutex, OnceLock};
 use std::thread::Thread;
-use ucstore::{Store, View};
+use ucstore::{Report, Store, View};
 
 /// From how many bytes on a group has the store for so long that what there is before it is shown.
 const LONG_GROUP: usize = 64 << 10;
@@ -193,7 +193,7 @@ impl Shared {
             Some(log) => self.take_logged(log, group)?,
             None => self.call(|store| {
                 store.write_bytes(&group.batch)?;
-                Ok(self.tell_taken(store, group))
+                Ok(self.tell_taken(store, group, &store.report()))
             })?,
         };
         if is_flushed {
@@ -207,19 +207,18 @@ impl Shared {
 
     /// Logs a group, and takes it. Views and jobs are taken while it is logged. Returns whether the store has flushed by itself.
     fn take_logged(&self, log: &mut Log, group: &Group) -> Result<bool, Error> {
-        let batch = log.marked(&group.batch)?;
-        let record = self.call(|store| store.prepare_bytes(log.length, &batch))?;
+        let record = self
+            .call(|store| store.prepare_marked(log.length, &group.batch, log.unsynced()))?;
         if let Err(refusal) = log.append(&record, group.is_synced) {
             lock(&self.store).give_up();
             return Err(self.refuse(refusal));
         }
         self.is_refused.store(false, Ordering::Relaxed);
         let store = lock(&self.store);
-        store.commit();
-        let is_flushed = self.tell_taken(&store, group);
-        let bytes = store.report().bytes;
+        let report = store.commit_report();
+        let is_flushed = self.tell_taken(&store, group, &report);
         drop(store);
-        self.ask_checkpoint(log, bytes);
+        self.ask_checkpoint(log, report.bytes);
         Ok(is_flushed)
     }
 
@@ -237,10 +236,10 @@ impl Shared {
     }
 
     /// Tells that the store has taken a group, and returns whether it has flushed by itself.
-    fn tell_taken(&self, store: &Store, group: &Group) -> bool {
+    fn tell_taken(&self, store: &Store, group: &Group, report: &Report) -> bool {
         self.newest.raise(store);
         self.add_gathered(group.memory());
-        self.tell_runs(store.report().runs)
+        self.tell_runs(report.runs)
     }
 
     /// Tells how many runs there are, and returns whether that is another number than before, which may give work.

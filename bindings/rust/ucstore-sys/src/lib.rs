@@ -307,7 +307,18 @@ extern "C" {
         room_length: usize,
         size: *mut usize,
     ) -> i32;
+    pub fn ucstore_prepare_marked(
+        store: *mut ucstore,
+        batch: *const u8,
+        batch_length: usize,
+        unsynced: u64,
+        log_length: u64,
+        room: *mut u8,
+        room_length: usize,
+        size: *mut usize,
+    ) -> i32;
     pub fn ucstore_commit(store: *mut ucstore) -> i32;
+    pub fn ucstore_commit_report(store: *mut ucstore, report: *mut ucstore_report) -> i32;
     pub fn ucstore_give_up(store: *mut ucstore) -> i32;
 
     pub fn ucstore_flush(store: *mut ucstore) -> i32;
@@ -559,6 +570,10 @@ extern "C" {
     pub fn ucstore_folder_told_sync(state: *mut ucstore_folder_state, is_done: bool) -> i32;
     pub fn ucstore_folder_told_checkpoint(state: *mut ucstore_folder_state, is_done: bool) -> i32;
     pub fn ucstore_folder_submit(state: *mut ucstore_folder_state) -> i32;
+    pub fn ucstore_folder_append(
+        state: *mut ucstore_folder_state,
+        step: *mut ucstore_folder_step,
+    ) -> i32;
     pub fn ucstore_folder_ask_sync(state: *mut ucstore_folder_state) -> i32;
     pub fn ucstore_folder_ask_next(state: *mut ucstore_folder_state) -> i32;
     pub fn ucstore_folder_ask_switch(state: *mut ucstore_folder_state) -> i32;

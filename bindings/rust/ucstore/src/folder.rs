@@ -158,6 +158,13 @@ impl FolderMachine {
         expect(unsafe { sys::ucstore_folder_submit(&mut self.0) });
     }
 
+    /// Asks for an append of a batch, and returns the writer's next operation.
+    pub fn append(&mut self) -> FolderAction {
+        let mut step = sys::ucstore_folder_step::default();
+        expect(unsafe { sys::ucstore_folder_append(&mut self.0, &mut step) });
+        action_of(step)
+    }
+
     /// Asks for a sync of all that was appended. Nothing changes while a sync is under way.
     pub fn ask_sync(&mut self) {
         expect(unsafe { sys::ucstore_folder_ask_sync(&mut self.0) });
@@ -189,25 +196,30 @@ impl FolderMachine {
     ) -> FolderAction {
         let mut step = sys::ucstore_folder_step::default();
         expect(unsafe { of(&self.0, &mut step) });
-        let (number, count) = (step.number, step.count);
-        match step.kind {
-            0 => FolderAction::Nothing,
-            1 => FolderAction::CreateLog(number),
-            2 => FolderAction::Append(number, count),
-            3 => FolderAction::SyncLog(number, count),
-            4 => FolderAction::CutLog(number, count),
-            5 => FolderAction::SyncNames,
-            6 => FolderAction::SetAside(number),
-            7 => FolderAction::CopyLog(number, count),
-            8 => FolderAction::SyncCopy,
-            9 => FolderAction::NameCopy(number),
-            10 => FolderAction::WriteBase(number, count),
-            11 => FolderAction::SyncBase,
-            12 => FolderAction::NameBase(number, count),
-            13 => FolderAction::RemoveLog(number),
-            14 => FolderAction::RemoveBase(number),
-            kind => panic!("the library has another version: it asks for operation {kind}"),
-        }
+        action_of(step)
+    }
+}
+
+/// The operation of a step.
+fn action_of(step: sys::ucstore_folder_step) -> FolderAction {
+    let (number, count) = (step.number, step.count);
+    match step.kind {
+        0 => FolderAction::Nothing,
+        1 => FolderAction::CreateLog(number),
+        2 => FolderAction::Append(number, count),
+        3 => FolderAction::SyncLog(number, count),
+        4 => FolderAction::CutLog(number, count),
+        5 => FolderAction::SyncNames,
+        6 => FolderAction::SetAside(number),
+        7 => FolderAction::CopyLog(number, count),
+        8 => FolderAction::SyncCopy,
+        9 => FolderAction::NameCopy(number),
+        10 => FolderAction::WriteBase(number, count),
+        11 => FolderAction::SyncBase,
+        12 => FolderAction::NameBase(number, count),
+        13 => FolderAction::RemoveLog(number),
+        14 => FolderAction::RemoveBase(number),
+        kind => panic!("the library has another version: it asks for operation {kind}"),
     }
 }
 

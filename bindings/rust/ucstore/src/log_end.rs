@@ -5,7 +5,7 @@ use crate::log::LogPlace;
 use crate::sys;
 
 /// The most bytes of a mark.
-const MOST_MARK: usize = 12;
+pub(crate) const MOST_MARK: usize = 12;
 
 /// Returns the offset of the first batch after the last whole one of a log whose mark says that the log was durable beyond that. Such a
 /// batch tells damage: one that was durable isn't whole, which no crash leaves.

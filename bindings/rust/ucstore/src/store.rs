@@ -5,6 +5,7 @@ use crate::ended::Ended;
 use crate::error::{check, Error};
 use crate::job::{EndedJob, Job};
 use crate::log::log_writes;
+use crate::log_end::MOST_MARK;
 use crate::lookup_source::LookupSource;
 use crate::options::{Operator, Options};
 use crate::reads::{Functions, Reads};
@@ -486,9 +487,45 @@ impl Store {
         })
     }
 
+    /// Prepares a batch, given as bytes, with a mark: `unsynced` bytes of the log before the batch's record are not durable for certain.
+    /// [`mark_of`](crate::mark_of) reads it. Otherwise like [`prepare_bytes`](Store::prepare_bytes).
+    ///
+    /// # Errors
+    ///
+    /// Those of [`write_bytes`](Store::write_bytes).
+    ///
+    /// # Panics
+    ///
+    /// If `unsynced` is 2^63 or more.
+    pub fn prepare_marked(
+        &self,
+        length: u64,
+        batch: &[u8],
+        unsynced: u64,
+    ) -> Result<Vec<u8>, Error> {
+        assert!(unsynced < 1 << 63, "no log is so long");
+        record_by(batch.len() + MOST_MARK, |room, size| unsafe {
+            sys::ucstore_prepare_marked(
+                self.handle(),
+                batch.as_ptr(),
+                batch.len(),
+                unsynced,
+                length,
+                room.as_mut_ptr().cast(),
+                room.len(),
+                size,
+            )
+        })
+    }
+
     /// Makes the prepared batch visible, if there is one.
     pub fn commit(&self) {
         self.certain(unsafe { sys::ucstore_commit(self.handle()) });
+    }
+
+    /// Makes the prepared batch visible, if there is one, and returns the statistics of the store after it.
+    pub fn commit_report(&self) -> Report {
+        Report::by(|report| unsafe { sys::ucstore_commit_report(self.handle(), report) })
     }
 
     /// Discards the prepared batch, if there is one.
