@@ -12,16 +12,15 @@ use Rattle.uc_run.specs.Flush.{flushed}
 use Rattle.uc_run.specs.Size.{memtable_size, write_size}
 use Rattle.uc_memtable.specs.Gathering.{Gathered}
 use Rattle.uc_memtable.proofs.RisingParts.{rising_front, rising_back}
-use Rattle.uc_version_state.specs.Versions.{Stored}
 use Rattle.uc_version_state.specs.Flushes.{memtables}
 use Rattle.uc_version_state.specs.Feeds.{first_feed_refusal, feed_refusal}
 use Rattle.uc_version_state.specs.declared.feed_error.FeedError.{FeedError}
-use Rattle.uc_version_state.specs.declared.feed_error.FeedError.TheVariants.{TooManyRuns, IdsSpent, Memory}
+use Rattle.uc_version_state.specs.declared.feed_error.FeedError.TheVariants.{Memory}
 use Rattle.uc_version.specs.Owners.{Owner, IsOwner}
 use Rattle.uc_version.specs.Feeding.{after_feed, MakesRun}
 use Rattle.uc_version.proofs.RunFed.{refusal_is}
 use Rattle.uc_live.specs.HeldLives.{IsLive, live}
-use Rattle.uc_live.specs.LiveFlushes.{FlushTask, Begin, LacksRoom, with_flushed, without_flush}
+use Rattle.uc_live.specs.LiveFlushes.{FlushTask, Begin, LacksRoom, with_flushed}
 use Rattle.uc_live.specs.Lives.{Live}
 use Rattle.uc_live.specs.declared.live_store.LiveStore.TheInside.{Inside}
 use Rattle.uc_live.proofs.Held.{size-part}

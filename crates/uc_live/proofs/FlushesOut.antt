@@ -1,22 +1,21 @@
 -- Flush jobs that are pending while their store is used.
-use Rattle.std.proofs.Common.{◌≡◌, ◌≢◌, ℕ, ◌+◌, ◌-◌, ◌^◌, ◌≤◌, Bool, true, false, cond, List, [], ◌∷◌, ◌++◌, Option, Some, None, ◌⊎◌, inl, inr, length, append_assoc, refl, sym, ap, ◌∙◌, subst, arith}
-use Rattle.std.specs.Prelude.{◌&&◌, ◌==◌, is_some, is_none, nat_lt, if◌then◌else◌}
+use Rattle.std.proofs.Common.{◌≡◌, ◌≢◌, ℕ, ◌+◌, ◌-◌, ◌^◌, Bool, true, false, List, [], ◌++◌, Option, Some, None, ◌⊎◌, inl, inr, length, append_assoc, refl, sym, ap, ◌∙◌, subst, arith}
+use Rattle.std.specs.Prelude.{◌&&◌, ◌==◌, is_some, is_none, nat_lt}
 use Rattle.std.proofs.lemmas.Bool.{false≢true, eqb-true, eq-eqb}
 use Rattle.std.proofs.lemmas.List.{append-nil}
 use Rattle.uc_bytes.specs.declared.write.Write.{Write}
 use Rattle.uc_oper.specs.Operation.{Operation}
-use Rattle.uc_version_state.specs.Snapshots.{released}
 use Rattle.uc_version.specs.declared.job_end.JobEnd.{JobEnd}
 use Rattle.uc_version.specs.declared.job_stage.JobStage.{JobStage}
 use Rattle.uc_version.specs.declared.job_stage.JobStage.TheVariants as stages
 use Rattle.uc_version.specs.Jobs.{Task, run_stage}
-use Rattle.uc_live.specs.Going.{GoesOn, LetsLeave}
+use Rattle.uc_live.specs.Going.{LetsLeave}
 use Rattle.uc_live.specs.declared.flush_end.FlushEnd.{FlushEnd}
 use Rattle.uc_live.specs.declared.flush_end.FlushEnd.TheVariants.{Installed, NotRun, FlushedBefore, Refused}
 use Rattle.uc_live.specs.LiveFlushes.{FlushTask, run, is_full, wants_flush, flush_of, with_flush, StartsFlush, has_flush_out, Begin, EndsFlush, IsOwnFlush, IsFlushOut, IsFlushSpent}
 use Rattle.uc_live.specs.LiveJobs.{StartsJob, EndsJob}
 use Rattle.uc_live.specs.Lives.{Live, committed, unprepared}
-use Rattle.uc_live.specs.Snapshots.{TakesSnapshot, with_snapshot, without_one, is_among, without_snapshot}
+use Rattle.uc_live.specs.Snapshots.{TakesSnapshot, with_snapshot, without_snapshot}
 
 taken_lasts : stages.Taken ≢ stages.Ended
 taken_lasts = λ wrong. absurd cc

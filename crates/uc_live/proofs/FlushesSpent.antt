@@ -9,7 +9,7 @@ use Rattle.uc_version.specs.Jobs.{Task}
 use Rattle.uc_live.specs.Going.{LetsLeave}
 use Rattle.uc_live.specs.declared.flush_end.FlushEnd.{FlushEnd}
 use Rattle.uc_live.specs.declared.flush_end.FlushEnd.TheVariants.{Installed, NotRun, FlushedBefore, Refused}
-use Rattle.uc_live.specs.LiveFlushes.{FlushTask, run, wants_flush, with_flush, with_flushed, without_flush, StartsFlush, EndsFlush, has_flush_out, IsOwnFlush, IsFlushSpent}
+use Rattle.uc_live.specs.LiveFlushes.{FlushTask, run, wants_flush, with_flush, StartsFlush, EndsFlush, IsOwnFlush, IsFlushSpent}
 use Rattle.uc_live.specs.LiveJobs.{StartsJob, EndsJob}
 use Rattle.uc_live.specs.Lives.{Live, committed, unprepared}
 use Rattle.uc_live.specs.Snapshots.{TakesSnapshot, with_snapshot, without_snapshot}

@@ -22,7 +22,7 @@ use Rattle.uc_live.specs.Coming.{HasTaken}
 use Rattle.uc_live.specs.LiveFlushes.{FlushTask, Begin, IsOwnFlush, EndsFlush}
 use Rattle.uc_live.specs.LiveJobs.{IsOut}
 use Rattle.uc_live.specs.Lives.{Live, owner_in}
-use Rattle.uc_live.proofs.JobsOut.{StaysHeld, out_then}
+use Rattle.uc_live.proofs.JobsOut.{out_then}
 use Rattle.uc_live.proofs.Taken.{taken_then, same_writes}
 
 -- what the law of feeds says

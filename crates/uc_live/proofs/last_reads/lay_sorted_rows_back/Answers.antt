@@ -1,4 +1,4 @@
-use Rattle.std.proofs.Common.{◌≡◌, ℕ, List, ◌∷◌, ◌++◌, reverse, IfOk, ap, ◌∙◌, subst}
+use Rattle.std.proofs.Common.{ℕ, List, ◌∷◌, ◌++◌, reverse, IfOk, ap, ◌∙◌, subst}
 use Rattle.uc_batch.specs.Rising.{last_of}
 use Rattle.uc_query_read.specs.Answers.{first_rows, named_keys}
 use Rattle.uc_rows.specs.Laying.{AreLaid}

@@ -1,7 +1,6 @@
-use Rattle.std.proofs.Common.{List, [], sym, subst}
+use Rattle.std.proofs.Common.{List, sym, subst}
 use Rattle.uc_bytes.specs.declared.write.Write.{Write}
-use Rattle.uc_live.specs.LiveFlushes.{FillFewer, HasRoom}
-use Rattle.uc_live.specs.declared.live_options.LiveOptions.{LiveOptions}
+use Rattle.uc_live.specs.LiveFlushes.{FillFewer}
 use Rattle.uc_live.proofs.Room.{none_fill}
 use Rattle.uc_live.proofs.live_store.LiveStore.make_room.Goals as goal
 

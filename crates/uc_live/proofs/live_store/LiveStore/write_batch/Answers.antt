@@ -1,4 +1,4 @@
-use Rattle.std.proofs.Common.{[], sym, ap, ◌∙◌, subst}
+use Rattle.std.proofs.Common.{sym, ap, subst}
 use Rattle.uc_live.specs.Lives.{Live}
 use Rattle.uc_live.specs.Going.{GoesOn}
 use Rattle.uc_live.proofs.Going.{commits}
