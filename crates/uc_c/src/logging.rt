@@ -8,8 +8,8 @@ ghost use Rattle.uc_c.specs.Writing.{PreparesBatch};
 
 use crate::c_report::{CReport, REPORT_SIZE};
 use crate::log_ends::LENGTHS;
-use crate::status::{BAD_PLACE, BAD_SIZE, NO_STORE, OK, OUT_OF_MEMORY};
-use crate::writing::ucstore_prepare_bytes;
+use crate::status::{BAD_PLACE, BAD_SIZE, NO_STORE, OK, OUT_OF_MEMORY, write_status};
+use crate::writing::prepare_owned;
 use std::alloc::Global;
 use uc_handle::Handle;
 use uc_log_crash::with_mark;
@@ -35,11 +35,17 @@ pub extern "C" fn ucstore_prepare_marked(
     if unsynced >= LENGTHS {
         return BAD_PLACE;
     }
-    match with_mark(alloc, batch, unsynced) {
-        Ok(marked) => {
-            ucstore_prepare_bytes(alloc, handle, marked.as_slice(), log_length, room, size)
-        }
-        Err(_) => OUT_OF_MEMORY,
+    let Ok(marked) = with_mark(alloc, batch, unsynced) else {
+        return OUT_OF_MEMORY;
+    };
+    let Some(mut engine) = handle.take(alloc) else {
+        return NO_STORE;
+    };
+    let told = prepare_owned(alloc, &mut engine, marked, log_length, room, size);
+    handle.put(engine);
+    match told {
+        Ok(status) => status,
+        Err(error) => write_status(error),
     }
 }
 

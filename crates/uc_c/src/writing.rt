@@ -147,6 +147,31 @@ fn prepare(
     Ok(OK)
 }
 
+/// Prepares a batch as [`prepare`] does, and numbers it where it is.
+pub fn prepare_owned(
+    alloc: Global,
+    engine: &mut Engine,
+    batch: Vec<u8>,
+    log_length: u64,
+    room: &mut [u8],
+    size: &mut usize,
+) -> Result<i32, WriteError>
+    ensures ok { IfOk result (λ status.
+        IsTold status log_length batch.items room.old room.new size.new engine.old engine.new) }
+    ensures untold { IfOk result (λ status. (status ≡ OK) ⊎ ((status ≡ ROOM) × (room.new ≡ room.old))) }
+    ensures err { IfErr result (λ error.
+        DeclinesBatch batch.items engine.old engine.new error × (room.new ≡ room.old) × (size.new ≡ size.old)) }
+{
+    let record = engine.prepare_owned(alloc, log_length, batch)?;
+    *size = record.len();
+    if record.len() > room.len() {
+        engine.give_up();
+        return Ok(ROOM);
+    }
+    fill(room, record.as_slice());
+    Ok(OK)
+}
+
 /// Prepares the operations of a batch, so that `ucstore_commit` can take them, with the sequence numbers after the last one, and
 /// copies the bytes that they add to a log of this many bytes, if they fit the buffer. Stores the number of these bytes. If the
 /// buffer is too small, nothing is prepared. Fails as `ucstore_write` does. The batch is unchanged.

@@ -69,6 +69,22 @@ impl Engine {
         with_each!(AnyStore, &mut self.store, store => store.prepare_recorded(alloc, length, batch))
     }
 
+    /// Prepares a batch, as [`prepare_recorded`](Engine::prepare_recorded) does, and numbers it where it is.
+    pub fn prepare_owned(
+        &mut self,
+        alloc: Global,
+        length: u64,
+        batch: Vec<u8>,
+    ) -> Result<Vec<u8>, WriteError>
+        ensures kind { self.new.kind ≡ self.old.kind }
+        ensures ok { IfOk result (λ _. IsBatchPrepared (meaning_of self.old.kind) batch.items self.old.live self.new.live) }
+        ensures recorded { IfOk result (λ bytes. IsRecorded (lives.last self.old.live) length batch.items bytes.items) }
+        ensures err { IfErr result (λ error. RefusesBatch (next_batch (lives.last self.old.live) batch.items) self.new.live error
+            × Prepares (meaning_of self.old.kind) self.old.live self.new.live []) }
+    {
+        with_each!(AnyStore, &mut self.store, store => store.prepare_owned(alloc, length, batch))
+    }
+
     /// Takes what is prepared. It takes no memory, and can't fail.
     pub fn commit(&mut self)
         ensures { self.new ≡ with_live (lives.committed self.old.live) self.old }

@@ -1,5 +1,5 @@
 //! Writes in two steps: they are prepared, and then committed.
-ghost use Rattle.std.specs.Prelude.{◌≡◌, ◌↔◌, List, [], Result, Err, IsTrue, IfOk, IfErr, OnOk};
+ghost use Rattle.std.specs.Prelude.{◌≡◌, ◌↔◌, ◌≤◌, ◌++◌, List, [], length, drop, Result, Err, IsTrue, IfOk, IfErr, OnOk};
 ghost use Rattle.uc_bytes.specs.declared.write.Write.{Write};
 ghost use Rattle.uc_batch.specs.declared.error.BatchError.{BatchError};
 ghost use Rattle.uc_batch.specs.Batch.{batch_of};
@@ -60,6 +60,26 @@ pub(crate) fn with_sequence(
     bytes.extend_from_slice(&sequence.to_le_bytes())?;
     bytes.extend_from_slice(batch.get(SEQUENCE_SIZE..).unwrap_or(&[]))?;
     Ok(bytes)
+}
+
+/// Puts another sequence in the header of a batch. It doesn't allocate, unless the batch is too short for a header.
+pub(crate) fn set_sequence(batch: &mut Vec<u8>, sequence: u64) -> Result<(), AllocError>
+    ensures { OnOk result (batch.new.items ≡ writing.with_sequence sequence batch.old.items) }
+{
+    if batch.len() < SEQUENCE_SIZE {
+        batch.clear();
+        return batch.extend_from_slice(&sequence.to_le_bytes());
+    }
+    set_front(batch.as_mut_slice(), &sequence.to_le_bytes());
+    Ok(())
+}
+
+/// Puts other bytes in the place of the first ones.
+fn set_front(bytes: &mut [u8], front: &[u8])
+    requires { length front.now ≤ length bytes.old }
+    ensures { bytes.new ≡ front.now ++ drop (length front.now) bytes.old }
+{
+    bytes[..front.len()].copy_from_slice(front);
 }
 
 /// The error of a batch that isn't valid. Reading it allocates nothing, so none stands for a failed allocation.

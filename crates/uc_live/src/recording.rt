@@ -7,7 +7,7 @@ ghost use Rattle.uc_live.specs.Recording.{IsRecorded};
 ghost use Rattle.uc_live.specs.Writing.{IsBatchPrepared, IsPreparedAs, Prepares, RefusesBatch, next_batch};
 
 use crate::live_store::LiveStore;
-use crate::preparing::{is_unnumbered, with_sequence};
+use crate::preparing::{is_unnumbered, set_sequence, with_sequence};
 use crate::write_error::WriteError;
 use std::alloc::Global;
 use uc_logrec::payload_bytes;
@@ -55,6 +55,29 @@ impl<O: Operator> LiveStore<O> {
             return self.record_numbered(alloc, length, batch);
         }
         let numbered = with_sequence(alloc, batch, self.last() + 1)?;
+        self.record_numbered(alloc, length, numbered.as_slice())
+    }
+
+    /// Prepares a batch, as [`prepare_recorded`](LiveStore::prepare_recorded) does. It takes the batch by value, so that it is numbered
+    /// where it is.
+    pub fn prepare_owned(
+        &mut self,
+        alloc: Global,
+        length: u64,
+        batch: Vec<u8>,
+    ) -> Result<Vec<u8>, WriteError>
+        ensures ok { IfOk result (λ _. IsBatchPrepared O.meaning batch.items self.old self.new) }
+        ensures recorded { IfOk result (λ bytes. IsRecorded (lives.last self.old) length batch.items bytes.items) }
+        ensures err { IfErr result (λ error.
+            RefusesBatch (next_batch (lives.last self.old) batch.items) self.new error × Prepares O.meaning self.old self.new []) }
+    {
+        self.owned.recall();
+        self.active.give_up();
+        if !is_unnumbered(batch.as_slice()) {
+            return self.record_numbered(alloc, length, batch.as_slice());
+        }
+        let mut numbered = batch;
+        set_sequence(&mut numbered, self.last() + 1)?;
         self.record_numbered(alloc, length, numbered.as_slice())
     }
 }
