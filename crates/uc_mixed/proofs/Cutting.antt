@@ -1,9 +1,9 @@
 -- Bytes that end with no part, step by step.
-use Rattle.std.proofs.Common.{◌≡◌, ℕ, ◌+◌, ◌-◌, ◌*◌, ◌/◌, ◌%◌, ◌<◌, ◌≤◌, nat_lt, ◌==◌, Bool, true, false, List, [], ◌∷◌, ◌++◌, length, Option, Some, None, suc, ap, ◌∙◌, sym, refl, arith, append_assoc, ◌≢◌, get_or, take, drop, if◌then◌else◌}
+use Rattle.std.proofs.Common.{◌≡◌, ℕ, ◌+◌, ◌-◌, ◌*◌, ◌/◌, ◌%◌, ◌<◌, ◌≤◌, nat_lt, ◌==◌, Bool, true, false, List, [], ◌∷◌, ◌++◌, length, Some, None, ap, ◌∙◌, sym, refl, arith, append_assoc, ◌≢◌, get_or, take, drop, if◌then◌else◌}
 use Rattle.std.proofs.lemmas.Bool.Decides.{nat_tests}
 use Rattle.uc_mixed.specs.declared.part_kind.PartKind.{PartKind}
 use Rattle.uc_mixed.specs.declared.part_kind.PartKind.TheVariants.{Tail}
-use Rattle.uc_mixed.specs.Parts.{Back, Cut, back, backward, backward-append, backward-twice, length-backward, kind_back, kind_back-own, length_back, length_back-own, long_back, checked_back, count_back, cut, cut_kind, cut_length, cut_payload, kind_bytes, length_bytes, long_bytes, numbered_back}
+use Rattle.uc_mixed.specs.Parts.{back, backward, backward-append, backward-twice, length-backward, kind_back, kind_back-own, length_back, length_back-own, long_back, count_back, cut, cut_kind, cut_length, cut_payload, kind_bytes, length_bytes, long_bytes, numbered_back}
 
 -- the last byte is the first one backward
 pub backward-last : (rest : List ℕ) (n : ℕ) → backward (rest ++ n ∷ []) ≡ n ∷ backward rest

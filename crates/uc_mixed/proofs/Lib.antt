@@ -1,2 +1,4 @@
 pub mod Cutting
 pub mod Padding
+pub mod Placed
+pub mod Walking

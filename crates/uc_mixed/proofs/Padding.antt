@@ -1,8 +1,8 @@
 -- Byte strings that are filled with zeros before they are combined.
-use Rattle.std.proofs.Common.{◌≡◌, ℕ, zero, ◌+◌, ◌-◌, ◌<◌, ◌≤◌, List, [], ◌∷◌, ◌++◌, length, get_or, take, drop, max, map, replicate, ap, ◌∙◌, sym, refl, inl, inr, arith, length-append, length-drop, append_assoc}
+use Rattle.std.proofs.Common.{◌≡◌, ℕ, zero, ◌-◌, ◌≤◌, List, [], ◌++◌, length, get_or, take, drop, max, map, replicate, ap, ◌∙◌, sym, refl, inl, inr, arith, length-append, length-drop}
 use Rattle.std.specs.List.{range_with_len}
 use Rattle.std.proofs.lemmas.Bool.{cases_lt}
-use Rattle.std.proofs.lemmas.List.{append-nil, length-take, length-take-le, length-replicate, get_or_append_left, get_or-append_right, get_or-replicate, get_or_past, take_all, drop_all, drop-append-le, take-append-le}
+use Rattle.std.proofs.lemmas.List.{append-nil, length-take, length-replicate, get_or_append_left, get_or-append_right, get_or-replicate, get_or_past, take_all, drop_all, drop-append-le, take-append-le}
 use Rattle.uc_mixed.specs.Bytewise.{byte_at, bytewise}
 
 byte_at-padded : (x : List ℕ) (k i : ℕ) → byte_at (x ++ replicate k 0) i ≡ byte_at x i

@@ -5,3 +5,5 @@ pub mod Kinds
 pub mod Parts
 pub mod Mixing
 pub mod ByteFunctions
+pub mod Walks
+pub mod Operands

@@ -1,6 +1,7 @@
 //! Numbers as bytes.
-ghost use Rattle.std.specs.Prelude.{◌≡◌, ◌++◌, ◌≤◌, length, take, drop, IfOk};
+ghost use Rattle.std.specs.Prelude.{◌≡◌, ◌+◌, ◌%◌, ◌^◌, max, min};
 ghost use Rattle.uc_oper.specs.Counting as counting;
+ghost use Rattle.uc_mixed.specs.Numbers as numbers;
 
 /// The number that the bytes encode: 8 bytes, low byte first. Other bytes count as 0.
 pub(crate) fn number(bytes: &[u8]) -> u64
@@ -10,4 +11,25 @@ pub(crate) fn number(bytes: &[u8]) -> u64
         [a, b, c, d, e, f, g, h] => u64::from_le_bytes([*a, *b, *c, *d, *e, *f, *g, *h]),
         _ => 0,
     }
+}
+
+/// The sum of two numbers, modulo 2^64.
+pub(crate) fn wrapped_sum(older: &[u8], newer: &[u8]) -> u64
+    ensures { result ≡ (counting.number older.now + counting.number newer.now) % 2 ^ 64 }
+{
+    number(older).wrapping_add(number(newer))
+}
+
+/// The greater of two numbers.
+pub(crate) fn greater_number(older: &[u8], newer: &[u8]) -> u64
+    ensures { result ≡ max (numbers.bounded older.now) (numbers.bounded newer.now) % 2 ^ 64 }
+{
+    number(older).max(number(newer))
+}
+
+/// The lesser of two numbers.
+pub(crate) fn lesser_number(older: &[u8], newer: &[u8]) -> u64
+    ensures { result ≡ min (numbers.bounded older.now) (numbers.bounded newer.now) % 2 ^ 64 }
+{
+    number(older).min(number(newer))
 }

@@ -1,4 +1,6 @@
 //! [`PartKind`]: the operator of a part.
+ghost use Rattle.std.specs.Prelude.{◌≡◌};
+ghost use Rattle.uc_mixed.specs.Kinds as kinds;
 
 /// The operator of a part.
 #[derive(Clone, Copy, Debug, PartialEq, Eq)]
@@ -27,4 +29,60 @@ pub enum PartKind {
     MaxU64,
     /// Keeps the lesser 64-bit number.
     MinU64,
+}
+
+impl PartKind {
+    /// The number of the operator.
+    pub fn number(self) -> u8
+        ensures { result ≡ kinds.number_of self }
+    {
+        match self {
+            PartKind::Add => 1,
+            PartKind::MaxBytes => 2,
+            PartKind::MinBytes => 3,
+            PartKind::Set => 4,
+            PartKind::Append(_) => 5,
+            PartKind::Or => 6,
+            PartKind::And => 7,
+            PartKind::Xor => 8,
+            PartKind::MaxRegisters => 9,
+            PartKind::Tail(_) => 10,
+            PartKind::MaxU64 => 11,
+            PartKind::MinU64 => 12,
+        }
+    }
+
+    /// The delimiter of `append` or the number of bytes of `tail`, else 0.
+    pub fn parameter(self) -> u16
+        ensures { result ≡ kinds.parameter_of self }
+    {
+        match self {
+            PartKind::Add => 0,
+            PartKind::MaxBytes => 0,
+            PartKind::MinBytes => 0,
+            PartKind::Set => 0,
+            PartKind::Append(delimiter) => u16::from(delimiter),
+            PartKind::Or => 0,
+            PartKind::And => 0,
+            PartKind::Xor => 0,
+            PartKind::MaxRegisters => 0,
+            PartKind::Tail(count) => count,
+            PartKind::MaxU64 => 0,
+            PartKind::MinU64 => 0,
+        }
+    }
+
+    /// True if the operator replaces the value.
+    pub(crate) fn is_set(self) -> bool
+        ensures { result ≡ kinds.is_set self }
+    {
+        self.number() == 4
+    }
+
+    /// True if both are the same operator, with the same parameter.
+    pub(crate) fn is(self, other: PartKind) -> bool
+        ensures { result ≡ kinds.same_kind self other }
+    {
+        self.number() == other.number() && self.parameter() == other.parameter()
+    }
 }

@@ -1,4 +1,4 @@
-use Rattle.std.proofs.Common.{◌≡◌, ℕ, ◌+◌, ◌-◌, ◌++◌, ◌<◌, ◌≤◌, length, max, arith, List, take, drop, replicate, ap, ◌∙◌, sym, zero, length-append, length-drop}
+use Rattle.std.proofs.Common.{◌≡◌, ℕ, ◌+◌, ◌-◌, ◌++◌, ◌≤◌, length, arith, List, take, drop, replicate, ap, ◌∙◌, zero, length-append, length-drop}
 use Rattle.std.proofs.lemmas.List.{take_rest}
 use Rattle.uc_mixed.specs.ByteFunctions.{function_of}
 use Rattle.uc_mixed.specs.Bytewise.{bytewise}

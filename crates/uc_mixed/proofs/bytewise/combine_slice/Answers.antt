@@ -1,4 +1,4 @@
-use Rattle.std.proofs.Common.{◌≡◌, ℕ, ◌<◌, length, max, arith}
+use Rattle.std.proofs.Common.{◌≡◌, ℕ, length, max, arith}
 use Rattle.std.proofs.lemmas.List.FromFn.{fill_by_all}
 use Rattle.uc_mixed.specs.Bytewise.{byte_at}
 use Rattle.uc_mixed.specs.ByteFunctions.{function_of}

@@ -1,4 +1,4 @@
-use Rattle.std.proofs.Common.{◌≡◌, ℕ, ◌<◌, ◌≤◌, length}
+use Rattle.std.proofs.Common.{◌≡◌, ℕ, ◌<◌, ◌≤◌}
 use Rattle.uc_mixed.specs.Bytewise.{byte_at}
 use Rattle.uc_mixed.specs.ByteFunctions.{function_of}
 use Rattle.uc_mixed.proofs.bytewise.combine_slice.Given as goal

@@ -1,4 +1,4 @@
-use Rattle.std.proofs.Common.{◌≡◌, ◌∙◌, ◌∷◌, ◌++◌, [], List, ℕ, ap, arith}
+use Rattle.std.proofs.Common.{◌∙◌, List, ℕ, ap, arith}
 use Rattle.uc_mixed.specs.Parts.{kind_back, backward}
 use Rattle.uc_mixed.proofs.Cutting.{backward-last, unknown_number}
 use Rattle.uc_mixed.proofs.part.kind_at_end.Goals as goal
