@@ -1,5 +1,5 @@
 -- The operators that a part of an operand may name, and their laws.
-use Rattle.std.specs.Prelude.{◌≡◌, ℕ, ◌==◌, Bool, true, false, ◌&&◌, List, max, bit_and, bit_or, bit_xor, if◌then◌else◌}
+use Rattle.std.specs.Prelude.{◌≡◌, ℕ, ◌==◌, nat_lt, Bool, true, false, ◌&&◌, Option, Some, None, List, max, bit_and, bit_or, bit_xor, if◌then◌else◌}
 use Rattle.std.proofs.Common.{ap, ◌∙◌, sym, refl}
 use Rattle.std.proofs.lemmas.Bool.{eqb-true, eq-eqb}
 use Rattle.uc_oper.specs.Operation.{Operation, IsLawful}
@@ -151,3 +151,17 @@ is_set-equal MaxRegisters e = absurd cc
 is_set-equal (Tail count) e = absurd cc
 is_set-equal MaxU64 e = absurd cc
 is_set-equal MinU64 e = absurd cc
+
+-- the operator with a number, of those without a parameter
+abbrev pub plain_numbered : ℕ → Option PartKind
+plain_numbered n =
+    if n == 1 then Some Add else if n == 2 then Some MaxBytes else if n == 3 then Some MinBytes else if n == 4 then Some Set
+    else if n == 6 then Some Or else if n == 7 then Some And else if n == 8 then Some Xor else if n == 9 then Some MaxRegisters
+    else if n == 11 then Some MaxU64 else if n == 12 then Some MinU64 else None
+
+-- the operator with a number and a parameter: a delimiter is a byte, a tail has fewer than 2^16 bytes, and the others have 0
+abbrev pub kind_numbered : ℕ → ℕ → Option PartKind
+kind_numbered n p =
+    if n == 5 then (if nat_lt p 256 then Some (Append p) else None)
+    else if n == 10 then (if nat_lt p 65536 then Some (Tail p) else None)
+    else if p == 0 then plain_numbered n else None

@@ -31,7 +31,50 @@ pub enum PartKind {
     MinU64,
 }
 
+/// The operator with a number, of those without a parameter.
+fn plain(number: u32) -> Option<PartKind>
+    ensures { result ≡ kinds.plain_numbered number }
+{
+    match number {
+        1 => Some(PartKind::Add),
+        2 => Some(PartKind::MaxBytes),
+        3 => Some(PartKind::MinBytes),
+        4 => Some(PartKind::Set),
+        6 => Some(PartKind::Or),
+        7 => Some(PartKind::And),
+        8 => Some(PartKind::Xor),
+        9 => Some(PartKind::MaxRegisters),
+        11 => Some(PartKind::MaxU64),
+        12 => Some(PartKind::MinU64),
+        _ => None,
+    }
+}
+
 impl PartKind {
+    /// The operator with a number and a parameter. The parameter of `append` is a byte, that of `tail` is below 2^16, and it is 0 for all
+    /// others.
+    pub fn of(number: u32, parameter: u32) -> Option<PartKind>
+        ensures { result ≡ kinds.kind_numbered number parameter }
+    {
+        if number == 5 {
+            if parameter < 256 {
+                Some(PartKind::Append(parameter as u8))
+            } else {
+                None
+            }
+        } else if number == 10 {
+            if parameter < 65536 {
+                Some(PartKind::Tail(parameter as u16))
+            } else {
+                None
+            }
+        } else if parameter == 0 {
+            plain(number)
+        } else {
+            None
+        }
+    }
+
     /// The number of the operator.
     pub fn number(self) -> u8
         ensures { result ≡ kinds.number_of self }
