@@ -5,13 +5,14 @@ use Rattle.uc_oper.specs.Appending.{appending}
 use Rattle.uc_oper.specs.Counting.{counting}
 use Rattle.uc_oper.specs.Greatest.{greatest}
 use Rattle.uc_oper.specs.Tails.{tail}
+use Rattle.uc_mixed.specs.Mixing.{mixed}
 use Rattle.uc_model.specs.Meaning.{value_of}
 use Rattle.uc_query_read.specs.declared.query.Query.{Query}
 use Rattle.uc_query_read.specs.declared.answer.Answer.{Answer}
 use Rattle.uc_query_read.specs.Answers.{answer_of, first_rows, named_keys}
 use Rattle.uc_live.specs.Lives.{Live, writes_of, last}
 use Rattle.uc_engine.specs.declared.operator_kind.OperatorKind.{OperatorKind}
-use Rattle.uc_engine.specs.declared.operator_kind.OperatorKind.TheVariants.{Append, Counter, Maximum, Tail}
+use Rattle.uc_engine.specs.declared.operator_kind.OperatorKind.TheVariants.{Append, Counter, Maximum, Tail, Mixed}
 
 -- which operator merges, and the store
 pub record Engined : Type 0 where
@@ -24,12 +25,13 @@ meaning_of Append = appending 44
 meaning_of Counter = counting
 meaning_of Maximum = greatest
 meaning_of Tail = tail 4
+meaning_of Mixed = mixed
 
 -- the operator with a number
 abbrev pub kind_numbered : ℕ → Option OperatorKind
 kind_numbered n =
     if n == 0 then Some Append else if n == 1 then Some Counter
-    else if n == 2 then Some Maximum else if n == 3 then Some Tail else None
+    else if n == 2 then Some Maximum else if n == 3 then Some Tail else if n == 4 then Some Mixed else None
 
 -- the engine with another store
 abbrev pub with_live : Live → Engined → Engined

@@ -8,6 +8,7 @@ macro_rules! with_each {
             $any::Counter($inside) => $done,
             $any::Maximum($inside) => $done,
             $any::Tail($inside) => $done,
+            $any::Mixed($inside) => $done,
         }
     };
 }
@@ -22,6 +23,7 @@ macro_rules! map_each {
             $any::Counter($inside) => $made::Counter($done),
             $any::Maximum($inside) => $made::Maximum($done),
             $any::Tail($inside) => $made::Tail($done),
+            $any::Mixed($inside) => $made::Mixed($done),
         }
     };
 }
@@ -36,6 +38,7 @@ macro_rules! kind_of {
             $any::Counter(_) => OperatorKind::Counter,
             $any::Maximum(_) => OperatorKind::Maximum,
             $any::Tail(_) => OperatorKind::Tail,
+            $any::Mixed(_) => OperatorKind::Mixed,
         }
     };
 }

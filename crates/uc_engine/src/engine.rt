@@ -9,6 +9,7 @@ use crate::each_operator::{kind_of, with_each};
 use crate::operator_kind::{LastBytes, OperatorKind, Texts};
 use std::marker::Model;
 use uc_live::{LiveStore, StoreId, Version};
+use uc_mixed::Mixed;
 use uc_oper::{Counter, Maximum};
 
 /// A store of each operator.
@@ -22,6 +23,8 @@ pub(crate) enum AnyStore {
     Maximum(LiveStore<Maximum>),
     /// A store that keeps the last bytes.
     Tail(LiveStore<LastBytes>),
+    /// A store whose operands name their operators.
+    Mixed(LiveStore<Mixed>),
 }
 
 /// A live store whose operator is chosen when it opens. A contract sees which operator it is, and the store.

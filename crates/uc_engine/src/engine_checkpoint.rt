@@ -10,6 +10,7 @@ use crate::operator_kind::{LastBytes, Texts};
 use std::alloc::{AllocError, Global};
 use std::marker::Model;
 use uc_checkpoint::{Checkpoint, CheckpointError};
+use uc_mixed::Mixed;
 use uc_oper::{Counter, Maximum};
 
 /// A checkpoint of a store of each operator.
@@ -23,6 +24,8 @@ pub(crate) enum AnyCheckpoint {
     Maximum(Checkpoint<Maximum>),
     /// A checkpoint of a store that keeps the last bytes.
     Tail(Checkpoint<LastBytes>),
+    /// A checkpoint of a store whose operands name their operators.
+    Mixed(Checkpoint<Mixed>),
 }
 
 /// A view of an engine whose rows are laid out as a write-ahead log that puts them, piece by piece. A contract sees which

@@ -15,6 +15,7 @@ use crate::operator_kind::{LastBytes, OperatorKind, Texts};
 use std::alloc::{AllocError, Global};
 use std::marker::Model;
 use uc_live::{Job, JobEnd, JobStage};
+use uc_mixed::Mixed;
 use uc_oper::{Counter, Maximum};
 use uc_version::Alone;
 
@@ -29,6 +30,8 @@ pub(crate) enum AnyJob {
     Maximum(Job<Maximum>),
     /// A job of a store that keeps the last bytes.
     Tail(Job<LastBytes>),
+    /// A job of a store whose operands name their operators.
+    Mixed(Job<Mixed>),
 }
 
 /// A compaction that any thread runs away from its engine. [`Engine::start_job`] takes it out and [`Engine::end_job`] puts it back.
@@ -115,6 +118,7 @@ impl Engine {
             (AnyStore::Counter(store), AnyJob::Counter(job)) => store.has_out(job),
             (AnyStore::Maximum(store), AnyJob::Maximum(job)) => store.has_out(job),
             (AnyStore::Tail(store), AnyJob::Tail(job)) => store.has_out(job),
+            (AnyStore::Mixed(store), AnyJob::Mixed(job)) => store.has_out(job),
             _ => false,
         }
     }
@@ -135,6 +139,7 @@ impl Engine {
             (AnyStore::Counter(store), AnyJob::Counter(job)) => store.end_job(job),
             (AnyStore::Maximum(store), AnyJob::Maximum(job)) => store.end_job(job),
             (AnyStore::Tail(store), AnyJob::Tail(job)) => store.end_job(job),
+            (AnyStore::Mixed(store), AnyJob::Mixed(job)) => store.end_job(job),
             _ => unreachable!(),
         }
     }

@@ -13,6 +13,7 @@ use std::alloc::{AllocError, Global};
 use std::marker::Model;
 use uc_bytes::Bytes;
 use uc_live::{LookupSource, Version, View};
+use uc_mixed::Mixed;
 use uc_oper::{Counter, Maximum, ValueRef, owned_value};
 use uc_query_read::{Answer, Laid, Query};
 
@@ -27,6 +28,8 @@ pub(crate) enum AnyView {
     Maximum(View<Maximum>),
     /// A view of a store that keeps the last bytes.
     Tail(View<LastBytes>),
+    /// A view of a store whose operands name their operators.
+    Mixed(View<Mixed>),
 }
 
 /// The contents of an engine at one point in time. They never change, whatever happens to the engine, even when it is dropped.

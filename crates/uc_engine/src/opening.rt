@@ -52,6 +52,7 @@ impl Engine {
             OperatorKind::Counter => AnyStore::Counter(LiveStore::create(alloc, options)?),
             OperatorKind::Maximum => AnyStore::Maximum(LiveStore::create(alloc, options)?),
             OperatorKind::Tail => AnyStore::Tail(LiveStore::create(alloc, options)?),
+            OperatorKind::Mixed => AnyStore::Mixed(LiveStore::create(alloc, options)?),
         };
         Ok(Engine { store })
     }
@@ -88,6 +89,10 @@ impl Engine {
             OperatorKind::Tail => {
                 let (store, ended) = LiveStore::open(alloc, log, options)?.into_parts();
                 Ok(opened(AnyStore::Tail(store), ended))
+            }
+            OperatorKind::Mixed => {
+                let (store, ended) = LiveStore::open(alloc, log, options)?.into_parts();
+                Ok(opened(AnyStore::Mixed(store), ended))
             }
         }
     }

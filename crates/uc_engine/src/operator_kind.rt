@@ -27,10 +27,12 @@ pub enum OperatorKind {
     Maximum,
     /// The last four bytes of all operands.
     Tail,
+    /// The operators that each operand names.
+    Mixed,
 }
 
 impl OperatorKind {
-    /// The operator with a number: 0 for `Append`, 1 for `Counter`, 2 for `Maximum` and 3 for `Tail`.
+    /// The operator with a number: 0 for `Append`, 1 for `Counter`, 2 for `Maximum`, 3 for `Tail` and 4 for `Mixed`.
     pub fn of(number: u32) -> Option<OperatorKind>
         ensures { result ≡ kind_numbered number }
     {
@@ -39,6 +41,7 @@ impl OperatorKind {
             1 => Some(OperatorKind::Counter),
             2 => Some(OperatorKind::Maximum),
             3 => Some(OperatorKind::Tail),
+            4 => Some(OperatorKind::Mixed),
             _ => None,
         }
     }

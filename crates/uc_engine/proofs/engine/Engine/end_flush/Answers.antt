@@ -8,7 +8,7 @@ use Rattle.uc_engine.specs.declared.engine.AnyStore.{AnyStore}
 use Rattle.uc_engine.specs.declared.engine.Engine.TheInside.{Inside}
 use Rattle.uc_engine.specs.Engines.{Engined}
 use Rattle.uc_engine.specs.HeldEngines.{engined, live_of}
-use Rattle.uc_engine.proofs.engine.Engine.end_flush.Goals.{in-Append, in-Counter, in-Maximum, in-Tail}
+use Rattle.uc_engine.proofs.engine.Engine.end_flush.Goals.{in-Append, in-Counter, in-Maximum, in-Tail, in-Mixed}
 use Rattle.uc_engine.proofs.engine.Engine.end_flush.Goals as goal
 
 -- what a store tells of its flush job, its engine tells
@@ -38,4 +38,7 @@ returns-clause-ended c =
       | in-Tail w ↦ told kinds.Tail w.in-Tail.store w.end_flush-in-Tail.new.self new now job w.end_flush-in-Tail.result end
           (sym (ap (λ (s : AnyStore). engined (record { store = s })) w.in-Tail.is) ∙ c.self.view_is)
           (ap (λ (i : Inside). live_of i.store) w.self-inside-is) w.result-is w.end_flush-in-Tail.ensures.ended
+      | in-Mixed w ↦ told kinds.Mixed w.in-Mixed.store w.end_flush-in-Mixed.new.self new now job w.end_flush-in-Mixed.result end
+          (sym (ap (λ (s : AnyStore). engined (record { store = s })) w.in-Mixed.is) ∙ c.self.view_is)
+          (ap (λ (i : Inside). live_of i.store) w.self-inside-is) w.result-is w.end_flush-in-Mixed.ensures.ended
     ]

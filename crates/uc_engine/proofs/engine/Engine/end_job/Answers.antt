@@ -11,7 +11,7 @@ use Rattle.uc_engine.specs.Engines.{Engined, meaning_of}
 use Rattle.uc_engine.specs.HeldEngines.{engined, live_of}
 use Rattle.uc_engine.specs.EngineJobs.{EngineTask}
 use Rattle.uc_engine.specs.HeldEngineJobs.{task_of}
-use Rattle.uc_engine.proofs.engine.Engine.end_job.Goals.{in-Append-Append, in-Counter-Counter, in-Maximum-Maximum, in-Tail-Tail}
+use Rattle.uc_engine.proofs.engine.Engine.end_job.Goals.{in-Append-Append, in-Counter-Counter, in-Maximum-Maximum, in-Tail-Tail, in-Mixed-Mixed}
 use Rattle.uc_engine.proofs.engine.Engine.end_job.Goals as goal
 
 -- what a store tells of its job, its engine tells
@@ -42,4 +42,7 @@ returns-clause-ended c =
       | in-Tail-Tail w ↦ told kinds.Tail w.in-Tail-Tail.store w.end_job-in-Tail-Tail.new.self new now w.in-Tail-Tail.job job w.end_job-in-Tail-Tail.result end
           (sym (ap (λ (s : AnyStore). engined (record { store = s })) w.in-Tail-Tail.is-0) ∙ c.self.view_is) (sym (ap task_of w.in-Tail-Tail.is-1) ∙ ap (λ (t : EngineTask). t.task) c.job.view_is)
           (ap (λ (i : Inside). live_of i.store) w.self-inside-is) w.result-is w.end_job-in-Tail-Tail.ensures.ended
+      | in-Mixed-Mixed w ↦ told kinds.Mixed w.in-Mixed-Mixed.store w.end_job-in-Mixed-Mixed.new.self new now w.in-Mixed-Mixed.job job w.end_job-in-Mixed-Mixed.result end
+          (sym (ap (λ (s : AnyStore). engined (record { store = s })) w.in-Mixed-Mixed.is-0) ∙ c.self.view_is) (sym (ap task_of w.in-Mixed-Mixed.is-1) ∙ ap (λ (t : EngineTask). t.task) c.job.view_is)
+          (ap (λ (i : Inside). live_of i.store) w.self-inside-is) w.result-is w.end_job-in-Mixed-Mixed.ensures.ended
     ]
