@@ -1257,7 +1257,7 @@ static void without_checkpoint(void) {
     CHECK(ucstore_checkpoint_next(&none, 0, 9, room, sizeof room, &size, &done) == UCSTORE_NO_CHECKPOINT);
     CHECK(ucstore_checkpoint_close(&none) == UCSTORE_NO_CHECKPOINT && room[0] == 0xAA && size == 99 && done);
     CHECK(strcmp(ucstore_status_text(UCSTORE_NO_CHECKPOINT), "checkpoint is not open") == 0);
-    CHECK(strcmp(ucstore_status_text(UCSTORE_NO_FOLDER + 1), ucstore_status_text(-1)) == 0);
+    CHECK(strcmp(ucstore_status_text(UCSTORE_BAD_OPERAND + 1), ucstore_status_text(-1)) == 0);
 }
 
 /* A store of 255 runs, whose next compaction has all of them. */

@@ -6,7 +6,8 @@
  *
  * Each function of a store takes a pointer to the handle first. Each function except `ucstore_version` returns one of the statuses
  * below. On any status but UCSTORE_OK no write takes effect and no output is written, except as stated at `ucstore_prepare`,
- * `ucstore_prepare_bytes`, `ucstore_checkpoint_next`, `ucstore_log_next`, `ucstore_replay` and `ucstore_log_mark_bytes`.
+ * `ucstore_prepare_bytes`, `ucstore_checkpoint_next`, `ucstore_log_next`, `ucstore_replay`, `ucstore_log_mark_bytes` and
+ * `ucstore_operand`.
  *
  * Writes go to a memtable, which is flushed to a run when it is full, and runs are compacted. By default the calling thread does
  * both, automatically. With jobs, other threads do.
@@ -131,7 +132,8 @@ enum ucstore_status {
     UCSTORE_HAS_CHECKPOINT = 27,   /* Checkpoint is already open. */
     UCSTORE_SEQUENCE_GAP = 28,     /* Gap in sequence numbers: the next batch of the log does not follow the last write. */
     UCSTORE_LOG_MISSING = 29,      /* Log missing: the folder lists later logs, and not this one. */
-    UCSTORE_NO_FOLDER = 30         /* Folder is not open: its state was not set, or was changed. */
+    UCSTORE_NO_FOLDER = 30,        /* Folder is not open: its state was not set, or was changed. */
+    UCSTORE_BAD_OPERAND = 31       /* Malformed operand. */
 };
 
 /* Merge operators. An operator combines a key's operands and its value. */
@@ -139,7 +141,25 @@ enum ucstore_operator {
     UCSTORE_APPEND = 0,   /* Byte strings joined by commas. */
     UCSTORE_COUNTER = 1,  /* Sum of 64-bit numbers, 8 bytes each, little-endian. */
     UCSTORE_MAXIMUM = 2,  /* The greater byte string. */
-    UCSTORE_TAIL = 3      /* The last four bytes of the byte strings joined. */
+    UCSTORE_TAIL = 3,     /* The last four bytes of the byte strings joined. */
+    UCSTORE_MIXED = 4     /* The operators that each operand names: `ucstore_operand` makes operands. */
+};
+
+/* Operators that an operand of UCSTORE_MIXED names. A number has 8 bytes, little-endian; any other value counts as 0. "Byte by byte" fills
+ * the shorter byte string with zeros. */
+enum ucstore_part {
+    UCSTORE_ADD = 1,            /* Adds a number. Sums wrap at 2^64. */
+    UCSTORE_MAX_BYTES = 2,      /* Keeps the greater byte string. */
+    UCSTORE_MIN_BYTES = 3,      /* Keeps the lesser byte string. */
+    UCSTORE_SET = 4,            /* Replaces the value, as a put does. */
+    UCSTORE_APPEND_BYTES = 5,   /* Appends the delimiter, which is the parameter, and then the payload. */
+    UCSTORE_OR = 6,             /* Byte by byte, the bits of either. */
+    UCSTORE_AND = 7,            /* Byte by byte, the bits of both. */
+    UCSTORE_XOR = 8,            /* Byte by byte, the bits of one of both. */
+    UCSTORE_MAX_REGISTERS = 9,  /* Byte by byte, the greater byte. */
+    UCSTORE_TAIL_BYTES = 10,    /* Appends the payload, and keeps the last bytes, at most as many as the parameter, below 2^16. */
+    UCSTORE_MAX_U64 = 11,       /* Keeps the greater number. */
+    UCSTORE_MIN_U64 = 12        /* Keeps the lesser number. */
 };
 
 /* Part of the store that answers a lookup. */
@@ -183,6 +203,7 @@ static inline const char *ucstore_status_text(int32_t status) {
         "gap in sequence numbers",
         "log missing",
         "folder is not open",
+        "malformed operand",
     };
     return status >= 0 && (size_t)status < sizeof texts / sizeof texts[0] ? texts[status] : "unknown status";
 }
@@ -643,6 +664,23 @@ int32_t ucstore_log_mark(const uint8_t *batch, size_t batch_length, bool *marked
  * UCSTORE_BAD_PLACE: `unsynced` is 2^63 or more.
  * UCSTORE_OUT_OF_MEMORY. */
 int32_t ucstore_log_mark_bytes(uint64_t unsynced, uint8_t *room, size_t room_length, size_t *size);
+
+/* Copies the operand that applies an operator of `enum ucstore_part` to `room`, and stores its length in `size`: at most 8 bytes more than
+ * the payload. `parameter` is 0 for the operators that have none. Operands in turn, the first one first, are one operand that does what
+ * they do. A store of UCSTORE_MIXED gets them by `ucstore_merge` and `ucstore_batch_merge`.
+ *
+ * UCSTORE_ROOM: it does not fit. `size` gets the length that is needed.
+ * UCSTORE_UNKNOWN_OPERATOR: there is no operator with this number, or the parameter is out of range.
+ * UCSTORE_BAD_OPERAND: a number does not have 8 bytes.
+ * UCSTORE_TOO_LONG: the payload has 2^32 bytes or more.
+ * UCSTORE_OUT_OF_MEMORY. */
+int32_t ucstore_operand(uint32_t part, uint32_t parameter, const uint8_t *payload, size_t payload_length, uint8_t *room,
+                        size_t room_length, size_t *size);
+
+/* Checks the bytes of an operand of UCSTORE_MIXED. A merge takes others too: they replace the value.
+ *
+ * UCSTORE_BAD_OPERAND: the bytes are not operands in turn, or a number does not have 8 bytes. */
+int32_t ucstore_operand_check(const uint8_t *operand, size_t operand_length);
 
 /* Finds the files to read when the folder of a database is opened: the newest base, and the logs from its number to `found->log`. The
  * logs and bases that the folder lists may be in any order. Logs in the order of their numbers take linear time.

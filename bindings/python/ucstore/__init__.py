@@ -30,14 +30,16 @@ from typing import (
     Any, Callable, Dict, Iterable, Iterator, List, NamedTuple, Optional, Sequence, Tuple, Type, TypeVar, Union,
 )
 
+from ._operands import MergesParts, Part, checked, int_of
+
 __all__ = [
-    "BadOption", "BatchFault", "BatchFull", "Checkpoint", "Closed", "Damaged", "Db", "DbBatch", "DbError",
+    "BadOperand", "BadOption", "BatchFault", "BatchFull", "Checkpoint", "Closed", "Damaged", "Db", "DbBatch", "DbError",
     "DbOptions", "DbSnapshot", "DbStats", "Delete", "DeleteRange", "End", "Ended", "Event", "EventKind", "FileFault",
     "Forked", "IdsSpent", "Job", "Locked", "LogFault", "LogWrites", "LookupSource", "Merge", "Missing", "NoCheckpoint",
     "NoJob", "NoStore", "NoView", "NotABatch", "NotProtected", "NotRecoverable", "Operation", "Operator", "Options",
-    "OtherDatabase", "OtherOperator", "OutOfMemory", "Progress", "Put", "ReadOnly", "Report", "RunsClaimed",
+    "OtherDatabase", "OtherOperator", "OutOfMemory", "Part", "Progress", "Put", "ReadOnly", "Report", "RunsClaimed",
     "SequenceBack", "SequencesSpent", "Snapshot", "Store", "Sync", "TooLong", "UcstoreError", "UnknownOperator", "View",
-    "Write", "WriteBatch", "batch_bytes", "log_writes",
+    "Write", "WriteBatch", "batch_bytes", "int_of", "is_operand", "log_writes", "operand_bytes",
 ]
 
 
@@ -141,13 +143,19 @@ class NoCheckpoint(UcstoreError, ValueError):
     status, text = 26, "checkpoint is not open"
 
 
+class BadOperand(UcstoreError, ValueError):
+    """The bytes are not an operand of `Operator.MIXED`, or a number does not have 8 bytes."""
+
+    status, text = 31, "malformed operand"
+
+
 _OK, _NOT_FOUND, _ROOM, _LOG_ENDS = 0, 4, 14, 15
 
 _ERRORS = {
     error.status: error
     for error in (
         OutOfMemory, NoStore, NotProtected, UnknownOperator, BadOption, IdsSpent, SequencesSpent, TooLong,
-        NotABatch, SequenceBack, BatchFull, NoView, NoJob, RunsClaimed, NoCheckpoint,
+        NotABatch, SequenceBack, BatchFull, NoView, NoJob, RunsClaimed, NoCheckpoint, BadOperand,
     )
 }
 
@@ -169,6 +177,8 @@ class Operator(enum.IntEnum):
     """The greater byte string."""
     TAIL = 3
     """The last four bytes of the byte strings joined."""
+    MIXED = 4
+    """The operators that each operand names: see `Part`."""
 
 
 class Options(NamedTuple):
@@ -404,6 +414,8 @@ _SIGNATURES: Dict[str, Sequence[Any]] = {
     "put": (_POINTER, *_TEXT, *_TEXT),
     "delete": (_POINTER, *_TEXT),
     "merge": (_POINTER, *_TEXT, *_TEXT),
+    "operand": (_U32, _U32, *_TEXT, *_PLACE, _POINTER),
+    "operand_check": _TEXT,
     "delete_range": (_POINTER, *_TEXT, *_TEXT),
     "prepare": (_POINTER, _POINTER, _U64, *_PLACE, _POINTER),
     "prepare_bytes": (_POINTER, *_TEXT, _U64, *_PLACE, _POINTER),
@@ -504,6 +516,22 @@ def _texts(*texts: bytes) -> Iterator[Union[bytes, int]]:
     for text in texts:
         yield _bytes_of(text)
         yield len(text)
+
+
+def operand_bytes(part: Part, payload: bytes, parameter: int = 0) -> bytes:
+    """Returns an operand of `Operator.MIXED`. Operands in turn, the first one first, are one operand that does what they do.
+
+    Raises `UnknownOperator` for a parameter out of range, `BadOperand` for a number that does not have 8 bytes, `TooLong` for a payload of
+    2^32 bytes or more, and `OutOfMemory`.
+    """
+    room, size = ctypes.create_string_buffer(len(payload) + 8), _SIZE()
+    _check(_library.operand(part, checked(parameter), *_texts(payload), room, len(room), ctypes.byref(size)))
+    return room.raw[: size.value]
+
+
+def is_operand(operand: bytes) -> bool:
+    """Returns whether the bytes are operands of `Operator.MIXED` in turn, and numbers in them have 8 bytes."""
+    return _library.operand_check(*_texts(operand)) == _OK
 
 
 def _sequence(at: int) -> int:
@@ -830,7 +858,7 @@ class _HeldReader(_Held, _Reader):
         return Report(*(getattr(report, name) for name in Report._fields))
 
 
-class Store(_HeldReader):
+class Store(_HeldReader, MergesParts):
     """An LSM tree in memory.
 
     Writes go to a memtable, which is flushed to a run when it is full. Runs are then compacted.
@@ -920,6 +948,14 @@ class Store(_HeldReader):
     def merge(self, key: bytes, operand: bytes) -> None:
         """Merges an operand into a key's value. Raises what `put` does."""
         self._call(_library.merge, *_texts(key, operand))
+
+    def merge_part(self, part: Part, key: bytes, payload: bytes, parameter: int = 0) -> None:
+        """Merges `operand_bytes(part, payload, parameter)`. Raises what that and `put` do."""
+        self.merge(key, operand_bytes(part, payload, parameter))
+
+    def get_int(self, key: bytes) -> Optional[int]:
+        """Returns the number that a key's value encodes, as `int_of` reads it, or `None` for no value. Raises `OutOfMemory`."""
+        return int_of(self.get(key))
 
     def delete_range(self, begin: bytes, end: bytes) -> None:
         """Deletes all keys from `begin` (inclusive) to `end` (exclusive). Raises what `put` does."""

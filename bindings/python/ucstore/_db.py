@@ -18,6 +18,7 @@ from . import Operator, UcstoreError
 from ._db_library import OK, Options, Stats, event_function, library, progress_function
 from ._db_reader import Alone, Bytes, Cursor, Reader, bytes_of
 from ._db_types import Closed, DbOptions, DbStats, Event, Progress
+from ._operands import MergesParts, Part, checked, int_of
 
 _Size, _U64 = ctypes.c_size_t, ctypes.c_uint64
 
@@ -30,7 +31,7 @@ def _name(folder: Union[str, bytes, os.PathLike[str]]) -> bytes:
     return name
 
 
-class DbBatch(Alone):
+class DbBatch(Alone, MergesParts):
     """Operations that a database writes atomically. A batch is written when its `with` block ends without an exception.
 
     Its methods raise `TooLong` for a key or value of 2^32 bytes or more, `BatchFull` after 2^32 - 1 operations, and
@@ -53,6 +54,11 @@ class DbBatch(Alone):
         """Adds a merge."""
         first, second = bytes_of(key), bytes_of(operand)
         self._call("batch_merge", first, len(first), second, len(second))
+
+    def merge_part(self, part: Part, key: Bytes, payload: Bytes, parameter: int = 0) -> None:
+        """Adds a merge by an operator of `Part`."""
+        first, second = bytes_of(key), bytes_of(payload)
+        self._call("batch_merge_as", part, checked(parameter), first, len(first), second, len(second))
 
     def delete(self, key: Bytes) -> None:
         """Adds a deletion."""
@@ -133,7 +139,7 @@ class DbSnapshot(Alone, Reader):
         self.close()
 
 
-class Db(Reader, MutableMapping[bytes, bytes]):
+class Db(Reader, MutableMapping[bytes, bytes], MergesParts):
     """A durable database in a directory, which threads share.
 
     >>> import tempfile
@@ -221,6 +227,15 @@ class Db(Reader, MutableMapping[bytes, bytes]):
         """Merges an operand into a key's value."""
         first, second = bytes_of(key), bytes_of(operand)
         self._call("merge", first, len(first), second, len(second))
+
+    def merge_part(self, part: Part, key: Bytes, payload: Bytes, parameter: int = 0) -> None:
+        """Merges by an operator of `Part`."""
+        first, second = bytes_of(key), bytes_of(payload)
+        self._call("merge_as", part, checked(parameter), first, len(first), second, len(second))
+
+    def get_int(self, key: Bytes) -> Optional[int]:
+        """Returns the number that a key's value encodes, as `int_of` reads it, or `None` for no value."""
+        return int_of(self.get(key))
 
     def delete(self, key: Bytes) -> None:
         """Deletes a key. It is no error if the key has no value: nothing is read."""

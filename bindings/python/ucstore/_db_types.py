@@ -6,7 +6,7 @@ import enum
 from typing import Dict, NamedTuple, Optional, Type
 
 from . import (
-    BadOption, BatchFull, IdsSpent, NotABatch, NotProtected, OutOfMemory, SequenceBack, SequencesSpent, TooLong, UcstoreError,
+    BadOperand, BadOption, BatchFull, IdsSpent, NotABatch, NotProtected, OutOfMemory, SequenceBack, SequencesSpent, TooLong, UcstoreError,
     UnknownOperator,
 )
 
@@ -79,7 +79,7 @@ _ERRORS: Dict[int, Type[UcstoreError]] = {
     error.status: error
     for error in (
         OutOfMemory, NotProtected, UnknownOperator, BadOption, IdsSpent, SequencesSpent, TooLong, NotABatch, SequenceBack, BatchFull,
-        FileFault, Locked, Damaged, Missing, OtherOperator, ReadOnly, Closed, Forked, NotRecoverable, OtherDatabase,
+        BadOperand, FileFault, Locked, Damaged, Missing, OtherOperator, ReadOnly, Closed, Forked, NotRecoverable, OtherDatabase,
     )
 }
 

@@ -19,5 +19,6 @@ pub mod LogSteps
 pub mod Replaying
 pub mod LogEnds
 pub mod Logging
+pub mod Operands
 pub mod Checkpoints
 pub mod Folders

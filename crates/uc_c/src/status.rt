@@ -99,6 +99,9 @@ pub const LOG_MISSING: i32 = 29;
 /// The numbers are no machine's.
 pub const NO_FOLDER: i32 = 30;
 
+/// The payload or the operand isn't one of its operator.
+pub const BAD_OPERAND: i32 = 31;
+
 /// The statuses have the numbers that `enum ucstore_status` gives them, in its order.
 pub fn statuses_are_numbered()
     ensures first { statuses.OK ∷ statuses.OUT_OF_MEMORY ∷ statuses.NO_STORE ∷ statuses.HAS_STORE ∷ statuses.NOT_FOUND
@@ -114,6 +117,7 @@ pub fn statuses_are_numbered()
         ≡ pos 21 ∷ pos 22 ∷ pos 23 ∷ pos 24 ∷ pos 25 ∷ [] }
     ensures checkpoints { statuses.NO_CHECKPOINT ∷ statuses.HAS_CHECKPOINT ∷ [] ≡ pos 26 ∷ pos 27 ∷ [] }
     ensures logs { statuses.SEQUENCE_GAP ∷ statuses.LOG_MISSING ∷ statuses.NO_FOLDER ∷ [] ≡ pos 28 ∷ pos 29 ∷ pos 30 ∷ [] }
+    ensures operands { statuses.BAD_OPERAND ≡ pos 31 }
 {}
 
 /// The status if a run can't be added.

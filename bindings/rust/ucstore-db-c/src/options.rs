@@ -190,6 +190,7 @@ fn operator_of(number: u32) -> Result<Operator, Refusal> {
         1 => Ok(Operator::Counter),
         2 => Ok(Operator::Maximum),
         3 => Ok(Operator::Tail),
+        4 => Ok(Operator::Mixed),
         _ => Err(Status::UnknownOperator.into()),
     }
 }

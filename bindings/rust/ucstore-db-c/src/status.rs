@@ -37,6 +37,8 @@ pub enum Status {
     BadKeys = 17,
     /// Batch full: it has 2^32 - 1 operations.
     BatchFull = 18,
+    /// Malformed operand.
+    BadOperand = 31,
     /// I/O error.
     File = 64,
     /// Database is locked.
@@ -82,6 +84,7 @@ impl Status {
             Status::SequenceBack => c"sequence number not above the last one",
             Status::BadKeys => c"key lengths do not match the keys",
             Status::BatchFull => c"batch full",
+            Status::BadOperand => c"malformed operand",
             Status::File => c"I/O error",
             Status::Locked => c"database is locked",
             Status::Damaged => c"corrupted file",
@@ -127,6 +130,7 @@ impl From<ucstore::Error> for Status {
             ucstore::Error::TooLong => Status::TooLong,
             ucstore::Error::NotABatch => Status::NotABatch,
             ucstore::Error::SequenceBack => Status::SequenceBack,
+            ucstore::Error::BadOperand => Status::BadOperand,
             ucstore::Error::BatchFull => Status::BatchFull,
             // The database gives the store none of what these refuse.
             _ => Status::Internal,

@@ -82,6 +82,7 @@ enum OperatorName {
     Counter,
     Maximum,
     Tail,
+    Mixed,
 }
 
 impl OperatorName {
@@ -91,6 +92,7 @@ impl OperatorName {
             OperatorName::Counter => Operator::Counter,
             OperatorName::Maximum => Operator::Maximum,
             OperatorName::Tail => Operator::Tail,
+            OperatorName::Mixed => Operator::Mixed,
         }
     }
 }

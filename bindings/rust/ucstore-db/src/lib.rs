@@ -88,6 +88,7 @@ mod lookups;
 mod mark;
 mod name;
 mod newest;
+mod operands;
 mod operator_file;
 mod options;
 mod partial;
@@ -122,7 +123,7 @@ pub use options::{Options, Sync};
 pub use snapshot::{Rows, Snapshot};
 pub use stats::Stats;
 pub use ucstore;
-pub use ucstore::{Batch, KeyValue, Operator};
+pub use ucstore::{Batch, KeyValue, MergeParts, Operand, Operator, Part};
 
 use std::sync::{Mutex, MutexGuard, PoisonError, TryLockError};
 

@@ -9,11 +9,12 @@ use ucstore::Operator;
 pub(crate) const OPERATOR: &str = "OPERATOR";
 const NEW: &str = "OPERATOR.new";
 
-const ALL: [Operator; 4] = [
+const ALL: [Operator; 5] = [
     Operator::Append,
     Operator::Counter,
     Operator::Maximum,
     Operator::Tail,
+    Operator::Mixed,
 ];
 
 /// The name of an operator.
@@ -23,6 +24,7 @@ pub(crate) fn word(operator: Operator) -> &'static str {
         Operator::Counter => "counter",
         Operator::Maximum => "maximum",
         Operator::Tail => "tail",
+        Operator::Mixed => "mixed",
     }
 }
 

@@ -226,6 +226,7 @@ fn merged(operator: Operator, old: Option<&Vec<u8>>, operand: &[u8]) -> Vec<u8> 
             let sum = number(old).wrapping_add(number(operand));
             sum.to_le_bytes().to_vec()
         }
+        Operator::Mixed => unreachable!("tests/mixed.rs merges by it"),
     }
 }
 

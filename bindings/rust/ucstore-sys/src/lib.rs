@@ -66,6 +66,8 @@ pub const UCSTORE_SEQUENCE_GAP: i32 = 28;
 pub const UCSTORE_LOG_MISSING: i32 = 29;
 /// Folder is not open.
 pub const UCSTORE_NO_FOLDER: i32 = 30;
+/// Malformed operand.
+pub const UCSTORE_BAD_OPERAND: i32 = 31;
 
 /// The memtables: they hold a put or a deletion of the key, or a range deletion over it.
 pub const UCSTORE_MEMTABLE: u32 = 0;
@@ -73,6 +75,31 @@ pub const UCSTORE_MEMTABLE: u32 = 0;
 pub const UCSTORE_FILTERS: u32 = 1;
 /// The runs: the memtables do not answer, and a run has a write of the key.
 pub const UCSTORE_RUNS: u32 = 2;
+
+/// Adds a number.
+pub const UCSTORE_ADD: u32 = 1;
+/// Keeps the greater byte string.
+pub const UCSTORE_MAX_BYTES: u32 = 2;
+/// Keeps the lesser byte string.
+pub const UCSTORE_MIN_BYTES: u32 = 3;
+/// Replaces the value.
+pub const UCSTORE_SET: u32 = 4;
+/// Appends the delimiter and the payload.
+pub const UCSTORE_APPEND_BYTES: u32 = 5;
+/// Byte by byte, the bits of either.
+pub const UCSTORE_OR: u32 = 6;
+/// Byte by byte, the bits of both.
+pub const UCSTORE_AND: u32 = 7;
+/// Byte by byte, the bits of one of both.
+pub const UCSTORE_XOR: u32 = 8;
+/// Byte by byte, the greater byte.
+pub const UCSTORE_MAX_REGISTERS: u32 = 9;
+/// Appends the payload, and keeps the last bytes.
+pub const UCSTORE_TAIL_BYTES: u32 = 10;
+/// Keeps the greater number.
+pub const UCSTORE_MAX_U64: u32 = 11;
+/// Keeps the lesser number.
+pub const UCSTORE_MIN_U64: u32 = 12;
 
 /// A handle to a store. All zeros: no store.
 #[repr(C)]
@@ -535,6 +562,16 @@ extern "C" {
         room_length: usize,
         size: *mut usize,
     ) -> i32;
+    pub fn ucstore_operand(
+        part: u32,
+        parameter: u32,
+        payload: *const u8,
+        payload_length: usize,
+        room: *mut u8,
+        room_length: usize,
+        size: *mut usize,
+    ) -> i32;
+    pub fn ucstore_operand_check(operand: *const u8, operand_length: usize) -> i32;
     pub fn ucstore_folder_find(
         bases: *const ucstore_folder_base,
         bases_length: usize,

@@ -46,7 +46,7 @@ impl Batch {
         key: impl AsRef<[u8]>,
         value: impl AsRef<[u8]>,
     ) -> Result<&mut Batch, Error> {
-        self.add(sys::ucstore_batch_put, key.as_ref(), value.as_ref())
+        self.push(sys::ucstore_batch_put, key.as_ref(), value.as_ref())
     }
 
     /// Adds a merge.
@@ -59,7 +59,7 @@ impl Batch {
         key: impl AsRef<[u8]>,
         operand: impl AsRef<[u8]>,
     ) -> Result<&mut Batch, Error> {
-        self.add(sys::ucstore_batch_merge, key.as_ref(), operand.as_ref())
+        self.push(sys::ucstore_batch_merge, key.as_ref(), operand.as_ref())
     }
 
     /// Adds a deletion.
@@ -83,7 +83,7 @@ impl Batch {
         begin: impl AsRef<[u8]>,
         end: impl AsRef<[u8]>,
     ) -> Result<&mut Batch, Error> {
-        self.add(
+        self.push(
             sys::ucstore_batch_delete_range,
             begin.as_ref(),
             end.as_ref(),
@@ -161,7 +161,7 @@ impl Batch {
     }
 
     /// Adds an operation of two byte strings.
-    fn add(
+    fn push(
         &mut self,
         function: unsafe extern "C" fn(
             *mut sys::ucstore_batch,

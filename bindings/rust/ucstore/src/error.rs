@@ -25,6 +25,8 @@ pub enum Error {
     SequenceBack,
     /// Batch full: it has 2^32 - 1 operations.
     BatchFull,
+    /// Malformed operand.
+    BadOperand,
     /// Run limit reached: jobs hold the runs that would be compacted. End a job and retry.
     RunsClaimed,
     /// The library returned a status that the call cannot have: it has another version than this crate.
@@ -43,6 +45,7 @@ impl fmt::Display for Error {
             Error::NotABatch => "malformed write batch",
             Error::SequenceBack => "sequence number not above the last one",
             Error::BatchFull => "batch full",
+            Error::BadOperand => "malformed operand",
             Error::RunsClaimed => "run limit reached",
             Error::Unexpected(status) => return write!(formatter, "unexpected status {status}"),
         };
@@ -65,6 +68,7 @@ pub(crate) fn check(status: i32) -> Result<(), Error> {
         sys::UCSTORE_NOT_A_BATCH => Err(Error::NotABatch),
         sys::UCSTORE_SEQUENCE_BACK => Err(Error::SequenceBack),
         sys::UCSTORE_BATCH_FULL => Err(Error::BatchFull),
+        sys::UCSTORE_BAD_OPERAND => Err(Error::BadOperand),
         sys::UCSTORE_RUNS_CLAIMED => Err(Error::RunsClaimed),
         other => Err(Error::Unexpected(other)),
     }

@@ -84,4 +84,6 @@ pub enum Operator {
     Maximum = 2,
     /// The last four bytes of the byte strings joined.
     Tail = 3,
+    /// The operators that each [`Operand`](crate::Operand) names.
+    Mixed = 4,
 }
