@@ -135,7 +135,7 @@ try_pages() {
 
 try_c() {
     local name
-    for name in first logged worked test play million; do
+    for name in first logged worked operands test play million; do
         compile_c "$name"
         compile_cpp "$name"
     done
@@ -145,6 +145,8 @@ try_c() {
     run_long_logged
     "$work/worked"
     "$work/worked_cpp"
+    "$work/operands"
+    "$work/operands_cpp"
     "$work/play" "$here"/cases/*.txt
     "$work/play_cpp" "$here"/cases/*.txt
     "$work/million"
@@ -155,10 +157,11 @@ try_c() {
 
 try_sanitizers() {
     local name
-    for name in worked test play; do
+    for name in worked operands test play; do
         "${cc[@]}" -std=c99 "${strict[@]}" "${sanitizers[@]}" "$here/c/$name.c" "${static[@]}" -o "$work/${name}_san"
     done
     "$work/worked_san"
+    "$work/operands_san"
     "$work/test_san" "$operations" $((seed + 2))
     "$work/play_san" "$here"/cases/*.txt
 }
@@ -245,7 +248,7 @@ try_python() {
         "$(env -u LD_LIBRARY_PATH UCSTORE_LIBRARY="$library" "$python" "$work/first.py")"
     cp "$library" "$(dirname "$("$python" -c 'import ucstore; print(ucstore.__file__)')")"
     expect 'first.py, beside its library' "$first" "$(env -u LD_LIBRARY_PATH "$python" "$work/first.py")"
-    for tests in test_ucstore test_cases; do
+    for tests in test_ucstore test_mixed test_cases; do
         (cd "$work" && "$python" "$here/python/tests/$tests.py" --quiet)
     done
 }

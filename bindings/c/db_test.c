@@ -121,7 +121,7 @@ static void try_refused_options(void) {
     options.size = 8;
     CHECK(is_refused(ucstore_db_in_memory(&options, &db), UCSTORE_DB_BAD_SIZE, "size"));
     options = counters();
-    options.merge_operator = 4;
+    options.merge_operator = 5;
     CHECK(is_refused(ucstore_db_in_memory(&options, &db), UCSTORE_DB_UNKNOWN_OPERATOR, "operator"));
     options = counters();
     options.sync = 3;

@@ -1368,7 +1368,7 @@ static void refusals(void) {
     CHECK(ucstore_log_next(text, 1, &place, room, sizeof room, &size, &seq, &ended) == UCSTORE_BAD_PLACE && place.batches == 1);
     CHECK(ucstore_create(&store, UCSTORE_TAIL, &options) == UCSTORE_BAD_SIZE && store.at == NULL);
     CHECK(ucstore_options_init(&options) == UCSTORE_OK && options.write_buffer_size == 4194304 && options.size == sizeof options);
-    CHECK(ucstore_create(&store, 4, &options) == UCSTORE_UNKNOWN_OPERATOR && store.at == NULL);
+    CHECK(ucstore_create(&store, 5, &options) == UCSTORE_UNKNOWN_OPERATOR && store.at == NULL);
     options.min_merge_width = 1;
     CHECK(ucstore_create(&store, UCSTORE_TAIL, &options) == UCSTORE_BAD_OPTION && store.at == NULL);
     options.min_merge_width = 2;

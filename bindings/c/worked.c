@@ -340,7 +340,7 @@ static void refuse_options(void) {
     CHECK(ucstore_create(&store, UCSTORE_APPEND, &high) == UCSTORE_BAD_OPTION);
     CHECK(ucstore_create(&store, UCSTORE_APPEND, &unbuffered) == UCSTORE_BAD_OPTION);
     CHECK(ucstore_create(&store, UCSTORE_APPEND, &old) == UCSTORE_BAD_SIZE);
-    CHECK(ucstore_create(&store, 4, &options) == UCSTORE_UNKNOWN_OPERATOR);
+    CHECK(ucstore_create(&store, 5, &options) == UCSTORE_UNKNOWN_OPERATOR);
     CHECK(ucstore_open(&store, UCSTORE_APPEND, &high, history, sizeof history, &ended) == UCSTORE_BAD_OPTION && is_untold(&ended));
 }
 

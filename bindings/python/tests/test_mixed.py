@@ -120,7 +120,7 @@ class Stores(unittest.TestCase):
 
     def test_drawn_writes(self) -> None:
         rng = random.Random(13)
-        for _ in range(300):
+        for _ in range(1200):
             self.play(rng, rng.choice([5, 30, 120]))
 
     def test_calls_for_parts(self) -> None:
@@ -135,12 +135,12 @@ class Stores(unittest.TestCase):
             store.minimum(b"least", b"a")
             store.bit_or(b"seen", b"\x01")
             store.bit_or(b"seen", b"\x04\x80")
-            self.assertEqual(store.get_int(b"visits"), -2 + 2**63 - 2**64)
+            self.assertEqual(store.get_int(b"visits"), 2**63 - 2)
             self.assertIsNone(store.get_int(b"none"))
             wanted = {b"feed": b"a,b", b"best": b"010", b"least": b"a", b"seen": b"\x05\x80"}
             self.assertEqual({key: store.get(key) for key in wanted}, wanted)
 
-    def test_a_million_additions_are_one_part(self) -> None:
+    def test_many_additions(self) -> None:
         with Store(Operator.MIXED) as store:
             for _ in range(100_000):
                 store.add(b"k", 1)

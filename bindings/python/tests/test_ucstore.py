@@ -184,7 +184,7 @@ class Calls(unittest.TestCase):
             Options(compaction_trigger=5, stop_trigger=4), Options(stop_trigger=256),
         ):
             self.assertRaises(BadOption, Store, Operator.TAIL, options)
-        self.assertRaises(UnknownOperator, Store, 4)
+        self.assertRaises(UnknownOperator, Store, 5)
         self.assertRaises(TypeError, self.store.put, b"k", "v")
         self.assertRaises(TypeError, self.store.put, b"k", None)
         self.assertRaises(KeyError, self.store.write, [("k", "v")])
@@ -528,7 +528,8 @@ class Soak:
 
 class Model(unittest.TestCase):
     def test_drawn_operations(self):
-        for operator in Operator:
+        # test_mixed.py draws operands of the other one.
+        for operator in set(Operator) - {Operator.MIXED}:
             with self.subTest(operator=operator):
                 soak = Soak(operator, int(operator))
                 for _ in range(4000):

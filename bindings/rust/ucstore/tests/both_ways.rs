@@ -76,6 +76,7 @@ fn merged(operator: Operator, held: Option<&Vec<u8>>, operand: &[u8]) -> Vec<u8>
             let whole = [old, operand].concat();
             whole[whole.len().saturating_sub(4)..].to_vec()
         }
+        Operator::Mixed => unreachable!("tests/mixed.rs merges by it"),
     }
 }
 
