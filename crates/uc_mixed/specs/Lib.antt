@@ -7,3 +7,4 @@ pub mod Mixing
 pub mod ByteFunctions
 pub mod Walks
 pub mod Operands
+pub mod Additions

@@ -1,10 +1,13 @@
 //! Pairs of operands: only the parts at the seam meet.
-ghost use Rattle.std.specs.Prelude.{◌≡◌, ◌++◌, ◌∷◌, [], ◌+◌, ◌≤◌, ℕ, List, length, take, drop, false, MatchOption, IfOk};
+ghost use Rattle.std.specs.Prelude.{◌≡◌, ◌++◌, ◌∷◌, [], ◌+◌, ◌≤◌, ◌-◌, ℕ, List, length, take, drop, false, MatchOption, IfOk};
 ghost use Rattle.uc_mixed.specs.Parts as parts;
 ghost use Rattle.uc_mixed.specs.Kinds as kinds;
 ghost use Rattle.uc_mixed.specs.Mixing as mixing;
+ghost use Rattle.uc_mixed.specs.Additions.{AddsAtEnd, IsSumAtSeam};
+ghost use Rattle.std.specs.Int.{w64, to_le_bytes};
 
 use crate::combining::{combine_onto, replaced};
+use crate::number::number;
 use crate::part::cut;
 use crate::part_kind::PartKind;
 use crate::spelling::{end_part, push_part};
@@ -120,10 +123,63 @@ fn first_part(operand: &[u8]) -> Option<FirstPart<'_>>
     }
 }
 
+/// The number of bytes of an addition.
+const ADDITION: usize = 10;
+
+/// The number of an operand's last part, if that adds one.
+#[inline]
+fn addend_at_end(operand: &[u8]) -> Option<u64>
+    ensures { MatchOption result (Unit {0}) (λ n. AddsAtEnd operand.now n) }
+{
+    if operand.len() < ADDITION {
+        return None;
+    }
+    let (_, addition) = operand.split_at(operand.len() - ADDITION);
+    let (bytes, end) = addition.split_at(8);
+    if end[0] == 8 && end[1] == 1 {
+        Some(number(bytes))
+    } else {
+        None
+    }
+}
+
+/// The number that replaces those of an operand's last part and of another operand, if both add one.
+#[inline]
+fn sum_at_seam(older: &[u8], newer: &[u8]) -> Option<u64>
+    ensures { MatchOption result (Unit {0}) (λ n. IsSumAtSeam older.now newer.now n) }
+{
+    if newer.len() != ADDITION {
+        return None;
+    }
+    match addend_at_end(newer) {
+        None => None,
+        Some(amount) => match addend_at_end(older) {
+            None => None,
+            Some(sum) => Some(sum.wrapping_add(amount)),
+        },
+    }
+}
+
+/// The operand with another number in its last part, which adds one.
+#[inline]
+fn with_sum(mut operand: Vec<u8>, sum: u64) -> Result<Vec<u8>, AllocError>
+    requires { 10 ≤ length operand.items }
+    ensures { IfOk result (λ after.
+        after.items ≡ take (length operand.items - 10) operand.items ++ (to_le_bytes w64 sum ++ (8 ∷ 1 ∷ []))) }
+{
+    operand.truncate(operand.len() - ADDITION);
+    operand.extend_from_slice(&sum.to_le_bytes())?;
+    operand.extend_from_slice(&[8, 1])?;
+    Ok(operand)
+}
+
 /// An older operand and a newer one, in the memory of the older one. It looks at no more than the last part of the older one.
 pub(crate) fn pair_onto(older: Vec<u8>, newer: &[u8]) -> Result<Vec<u8>, AllocError>
     ensures { IfOk result (λ both. both.items ≡ mixing.paired older.items newer.now) }
 {
+    if let Some(sum) = sum_at_seam(older.as_slice(), newer) {
+        return with_sum(older, sum);
+    }
     match first_part(newer) {
         None => replaced(older, 0, newer),
         Some(first) => {
