@@ -1,4 +1,25 @@
 -- The operators that a part of an operand may name, and their laws.
+--
+-- | Number | Name          | Payload                        | First          | Join and pair                                |
+-- |--------|---------------|--------------------------------|----------------|----------------------------------------------|
+-- |      1 | add           | 8 bytes, low byte first        | its number     | the sum modulo 2^64                          |
+-- |      2 | max_bytes     | bytes                          | the payload    | the greater byte string                      |
+-- |      3 | min_bytes     | bytes                          | the payload    | the lesser byte string                       |
+-- |      4 | set           | bytes                          | the payload    | the newer one                                |
+-- |      5 | append        | bytes; parameter: a delimiter  | the payload    | the older one, the delimiter, the newer one  |
+-- |      6 | or            | bytes                          | the payload    | byte by byte                                 |
+-- |      7 | and           | bytes                          | the payload    | byte by byte                                 |
+-- |      8 | xor           | bytes                          | the payload    | byte by byte                                 |
+-- |      9 | max_registers | bytes                          | the payload    | byte by byte, the greater byte               |
+-- |     10 | tail          | bytes; parameter: a count      | its last bytes | the last bytes of the older one and the newer|
+-- |     11 | max_u64       | 8 bytes, low byte first        | its number     | the greater number                           |
+-- |     12 | min_u64       | 8 bytes, low byte first        | its number     | the lesser number                            |
+--
+-- A base of another shape: numbers take a value that hasn't 8 bytes for 0. Byte by byte, the shorter one is filled with zeros. All others
+-- take any bytes as they are, so a value that was put is longer than a tail until it is merged.
+--
+-- Sums that stop at a greatest number aren't here: an addition and a subtraction of signed numbers that stop don't group freely. Of
+-- numbers without a sign they would, and can be added with the number 13. Sets of byte strings aren't here yet.
 use Rattle.std.specs.Prelude.{◌≡◌, ℕ, ◌==◌, nat_lt, Bool, true, false, ◌&&◌, Option, Some, None, List, max, bit_and, bit_or, bit_xor, if◌then◌else◌}
 use Rattle.std.proofs.Common.{ap, ◌∙◌, sym, refl}
 use Rattle.std.proofs.lemmas.Bool.{eqb-true, eq-eqb}

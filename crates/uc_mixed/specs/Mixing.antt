@@ -24,7 +24,7 @@ abbrev pub after_by : Option Cut → Option (List ℕ) → List ℕ → (List �
 after_by None value bytes before = front value bytes
 after_by (Some c) value bytes before = Some (applied c.kind c.payload (before c.rest))
 
--- the value after at most so many parts at the end of some bytes
+-- the value after at most `n` parts at the end of some bytes
 abbrev pub after_in : ℕ → Option (List ℕ) → List ℕ → Option (List ℕ)
 after_in zero value bytes = front value bytes
 after_in (suc n) value bytes = after_by (cut bytes) value bytes (λ rest. after_in n value rest)

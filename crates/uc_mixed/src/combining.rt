@@ -1,4 +1,4 @@
-//! What a part does to the value before it, or to the payload of the part before it.
+//! Payloads that are combined with the value before them, or with the payload of the part before them.
 ghost use Rattle.std.specs.Prelude.{◌≡◌, ◌++◌, ◌∷◌, ◌+◌, ◌≤◌, length, take, drop, IfOk};
 ghost use Rattle.uc_oper.specs.Greatest as greatest;
 ghost use Rattle.uc_oper.specs.Tails as tails;

@@ -67,7 +67,8 @@ fn combine_last(
     requires first { place.start ≤ place.end }
     requires within { place.end ≤ length older.items }
     ensures { IfOk result (λ both. both.items ≡
-        take place.start older.items ++ parts.part_bytes kind (kinds.combined kind (drop place.start (take place.end older.items)) payload.now)) }
+        take place.start older.items
+        ++ parts.part_bytes kind (kinds.combined kind (drop place.start (take place.end older.items)) payload.now)) }
 {
     older.truncate(place.end);
     let both = combine_onto(kind, older, place.start, payload)?;

@@ -103,7 +103,7 @@ fn length_at_end(bytes: &[u8]) -> Option<(usize, &[u8])>
     }
 }
 
-/// The part of an operator whose payload is the last bytes of some, if there are so many.
+/// The part of an operator whose payload is the last `length` bytes, if there are at least `length`.
 fn payload_at_end(kind: PartKind, length: usize, bytes: &[u8]) -> Option<Part<'_>>
     ensures { MatchOption result
         (parts.cut (bytes.now ++ (parts.length_bytes length ++ parts.kind_bytes kind)) ≡ None)
