@@ -105,14 +105,47 @@ def broken(of: Any, drawn: int) -> Optional[str]:
     return None
 
 
-def round_trips(rng: random.Random) -> Optional[str]:
+# A value or none, parts, and the value after them.
+WORKED: List[Tuple[Optional[bytes], List[Part], bytes]] = [
+    (None, [Part(Kind(model.ADD), b"\x05"), Part(Kind(model.ADD), bytes([255] * 8))], bytes([255] * 8)),
+    (bytes([255] * 8), [Part(Kind(model.ADD), bytes([2, 0, 0, 0, 0, 0, 0, 0]))], bytes([1, 0, 0, 0, 0, 0, 0, 0])),
+    (None, [Part(Kind(model.MIN_BYTES), b"b")], b"b"),
+    (b"", [Part(Kind(model.MIN_BYTES), b"b")], b""),
+    (None, [Part(Kind(model.APPEND, 44), b"a"), Part(Kind(model.APPEND, 59), b"b")], b"a;b"),
+    (b"", [Part(Kind(model.APPEND, 44), b"a")], b",a"),
+    (None, [Part(Kind(model.TAIL, 2), b"abc")], b"bc"),
+    (b"\x07\x01", [Part(Kind(model.AND), b"\x06")], b"\x06\x00"),
+    (b"abc", [Part(Kind(model.MAX_U64), bytes([1] + [0] * 7))], bytes([1] + [0] * 7)),
+]
+
+
+def unworked(of: Any) -> Optional[str]:
+    """A worked case in which a model has another value."""
+    for value, parts, wanted in WORKED:
+        operand = b"".join(of.spelled(part) for part in parts)
+        if of.value_after(value, operand) != wanted:
+            return f"{parts} over {value!r} give {of.value_after(value, operand)!r}"
+    return None
+
+
+def round_trips(of: Any) -> Optional[str]:
+    """A part that isn't read as it was written, or that isn't written as it was read."""
+    rng = random.Random(1)
     for _ in range(20000):
         lengths = rng.choice([SMALL, Lengths()])
         part, rest = drawn_part(rng), drawn_operand(rng, lengths)
-        found = model.cut(rest + model.spelled(part, lengths), lengths)
+        found = of.cut(rest + of.spelled(part, lengths), lengths)
         if found is None or found.part != part or found.rest != rest:
             return f"{part} after {rest!r} is read as {found}"
+        again = of.cut(rest, lengths)
+        if again is not None and again.rest + of.spelled(again.part, lengths) != rest:
+            return f"{rest!r} is written as another operand"
     return None
+
+
+def fault_of(of: Any) -> Optional[str]:
+    """The first test that a model fails."""
+    return unworked(of) or round_trips(of) or broken(of, 40000)
 
 
 def changed(old: str, new: str) -> Any:
@@ -126,11 +159,11 @@ def changed(old: str, new: str) -> Any:
 
 
 def main() -> int:
-    fault = round_trips(random.Random(1)) or broken(model, 40000)
+    fault = fault_of(model)
     if fault:
         print(f"mixed: {fault}")
         return 1
-    missed = [name for name, edit in PLANTS.items() if not broken(changed(*edit), 40000)]
+    missed = [name for name, edit in PLANTS.items() if not fault_of(changed(*edit))]
     for name in missed:
         print(f"mixed: not found: {name}")
     print(f"mixed: the laws hold, and {len(PLANTS) - len(missed)} of {len(PLANTS)} faults were found")
