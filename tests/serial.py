@@ -3,10 +3,11 @@
 
     tests/serial.py
 
-The definitions of crates/uc_serial stand here as ordinary code: what was written since a sequence. A transaction commits if nothing that it
-read was. Clients read at snapshots, and commit in a drawn order. Three tests look at each history: each committed transaction read the state right before
-its own writes; the graph of what came before what, drawn from keys alone, has no cycle; and no transaction was refused without a write
-above its snapshot to a key that it read.
+The definitions of crates/uc_serial stand here as ordinary code: what was written since a sequence, and whether a read is unchanged. Clients
+read at snapshots, and commit in a drawn order, by one of two judges: nothing that a transaction read was written since, or all of it has
+the values that it had. Three tests look at each history: each committed transaction read the state right before its own writes; the graph of
+what came before what, drawn from keys and their values, has no cycle; and no transaction was refused
+without need: without a write above its snapshot to a key that it read, or with all values as they were.
 
 Then the definitions are changed: the tests have to find each of `PLANTS`. The last line counts.
 """
@@ -27,6 +28,15 @@ PLANTS = (
     "a write right above the snapshot is no write since",
     "a write at the snapshot is one since",
     "the last key of a range isn't noted",
+)
+VALUE_PLANTS = (
+    "the read of a key that wasn't there is forgotten",
+    "the read of a key that isn't there any more is forgotten",
+    "of a range the keys that it had are compared alone",
+    "of a range the keys that it has are compared alone",
+    "of a range the values aren't compared",
+    "the first read alone is judged",
+    "the snapshot is compared with itself",
 )
 
 planted = ""
@@ -118,6 +128,41 @@ def may_commit(log: List[Write], one: Transaction) -> bool:
     return True
 
 
+def is_unchanged(log: List[Write], one: Transaction, key: bytes, last: int) -> bool:
+    """Whether a key that was looked up has the value that it had."""
+    before = value_of(log, key, one.snapshot)
+    now = before if planted == "the snapshot is compared with itself" else value_of(log, key, last)
+    if planted == "the read of a key that wasn't there is forgotten" and before is None:
+        return True
+    if planted == "the read of a key that isn't there any more is forgotten" and now is None:
+        return True
+    return now == before
+
+
+def is_unchanged_range(log: List[Write], one: Transaction, bounds: Tuple[bytes, Optional[bytes]], last: int) -> bool:
+    """Whether a range has the rows that it had."""
+    before, now = dict(rows_of(log, *bounds, one.snapshot)), dict(rows_of(log, *bounds, last))
+    if planted == "the snapshot is compared with itself":
+        now = before
+    if planted == "of a range the keys that it had are compared alone":
+        return all(now.get(key) == value for key, value in before.items())
+    if planted == "of a range the keys that it has are compared alone":
+        return all(before.get(key) == value for key, value in now.items())
+    if planted == "of a range the values aren't compared":
+        return before.keys() == now.keys()
+    return before == now
+
+
+def first_changed(log: List[Write], one: Transaction) -> Optional[int]:
+    """The place of the first read that is changed, keys first."""
+    last = log[-1][0] if log else 0
+    unchanged = [is_unchanged(log, one, key, last) for key in one.gets]
+    unchanged += [is_unchanged_range(log, one, bounds, last) for bounds in one.scans]
+    if planted == "the first read alone is judged":
+        unchanged = unchanged[:1]
+    return unchanged.index(False) if False in unchanged else None
+
+
 def drawn_op(draw: random.Random) -> Op:
     kind = draw.choice(("put", "put", "merge", "delete", "delete_range"))
     return (kind, draw.choice(KEYS), draw.choice(KEYS) if kind == "delete_range" else b"%d" % draw.randrange(9))
@@ -132,7 +177,15 @@ def reads(log: List[Write], one: Transaction, draw: random.Random) -> None:
         one.scans[bounds] = rows_of(log, *bounds, one.snapshot)
 
 
-def history(draw: random.Random) -> Tuple[List[Write], List[Transaction], Optional[str]]:
+def needs_refusal(log: List[Write], one: Transaction, by_value: bool) -> bool:
+    """Whether a judge has to refuse a transaction: one of the keys that it read was written since, or has another value."""
+    last = log[-1][0] if log else 0
+    if by_value:
+        return any(value_of(log, key, last) != value_of(log, key, one.snapshot) for key in one.keys_read())
+    return any(seq > one.snapshot and touches(key, op) for seq, op in log for key in one.keys_read())
+
+
+def history(draw: random.Random, by_value: bool) -> Tuple[List[Write], List[Transaction], Optional[str]]:
     """Transactions beside each other: the log, those that committed, in order, and the first law that is broken."""
     log: List[Write] = []
     open_ones: List[Transaction] = []
@@ -146,8 +199,8 @@ def history(draw: random.Random) -> Tuple[List[Write], List[Transaction], Option
             reads(log, one, draw) if draw.random() < 0.6 else one.ops.append(drawn_op(draw))
         elif open_ones:
             one = open_ones.pop(draw.randrange(len(open_ones)))
-            if not may_commit(log, one):
-                if not any(seq > one.snapshot and touches(key, op) for seq, op in log for key in one.keys_read()):
+            if not (first_changed(log, one) is None if by_value else may_commit(log, one)):
+                if not needs_refusal(log, one, by_value):
                     return log, committed, "refused without need"
                 continue
             if any(value_of(log, key, last) != value for key, value in one.gets.items()) or any(rows_of(log, *bounds, last) != rows for bounds, rows in one.scans.items()):
@@ -158,9 +211,10 @@ def history(draw: random.Random) -> Tuple[List[Write], List[Transaction], Option
     return log, committed, None
 
 
-def has_cycle(committed: List[Transaction]) -> bool:
+def has_cycle(log: List[Write], committed: List[Transaction], by_value: bool) -> bool:
     """Whether some transactions come before themselves: by keys that one wrote and another read or wrote. Where a transaction read a key at
-    its snapshot, it comes after those that had written the key by then, and before those that wrote it later."""
+    its snapshot, it comes after those that had written the key by then, and before those that wrote it later. By value, if those that committed
+    before it left the key as it was, it comes after these too."""
     after: Dict[int, Set[int]] = {place: set() for place in range(len(committed))}
     for key in KEYS:
         writers = [place for place, one in enumerate(committed) if any(touches(key, op) for op in one.ops)]
@@ -168,10 +222,13 @@ def has_cycle(committed: List[Transaction]) -> bool:
             after[first].add(second)
         for place, one in enumerate(committed):
             if key in one.keys_read():
+                end = committed[place - 1].last if place > 0 else 0
+                is_as_it_was = by_value and value_of(log, key, end) == value_of(log, key, one.snapshot)
                 for writer in writers:
                     if writer != place:
-                        before, behind = (writer, place) if committed[writer].last <= one.snapshot else (place, writer)
-                        after[before].add(behind)
+                        is_before = committed[writer].last <= one.snapshot or writer < place and is_as_it_was
+                        first, second = (writer, place) if is_before else (place, writer)
+                        after[first].add(second)
     done: Set[int] = set()
     path: Set[int] = set()
 
@@ -190,31 +247,32 @@ def has_cycle(committed: List[Transaction]) -> bool:
     return any(visit(place) for place in after)
 
 
-def broken(seed: int) -> Tuple[int, Optional[str]]:
+def broken(seed: int, by_value: bool) -> Tuple[int, Optional[str]]:
     """Returns the number of transactions of a drawn history that committed, and the law that it breaks."""
-    _, committed, law = history(random.Random(seed))
-    return len(committed), law or ("a cycle" if has_cycle(committed) else None)
+    log, committed, law = history(random.Random(seed), by_value)
+    return len(committed), law or ("a cycle" if has_cycle(log, committed, by_value) else None)
 
 
 def main() -> int:
     global planted
     failures: List[str] = []
     commits = 0
-    for seed in range(HISTORIES):
-        count, law = broken(seed)
-        commits += count
-        if law is not None:
-            failures.append(f"history {seed} breaks: {law}")
+    for by_value in (False, True):
+        for seed in range(HISTORIES):
+            count, law = broken(seed, by_value)
+            commits += count
+            if law is not None:
+                failures.append(f"history {seed} breaks: {law}")
+    plants = [(plant, False) for plant in PLANTS] + [(plant, True) for plant in VALUE_PLANTS]
     found = 0
-    for plant in PLANTS:
-        planted = plant
-        if any(broken(seed)[1] for seed in range(MOST_HISTORIES)):
+    for planted, by_value in plants:
+        if any(broken(seed, by_value)[1] for seed in range(MOST_HISTORIES)):
             found += 1
         else:
-            failures.append(f"not found: {plant}")
+            failures.append(f"not found: {planted}")
     for failure in failures:
         print(failure)
-    print(f"serial: {HISTORIES:,} histories, {commits:,} commits; {found} of {len(PLANTS)} plants found")
+    print(f"serial: {2 * HISTORIES:,} histories, {commits:,} commits; {found} of {len(plants)} plants found")
     return 1 if failures else 0
 
 
