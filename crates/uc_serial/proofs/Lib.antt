@@ -1,2 +1,3 @@
 pub mod Untouched
 pub mod Ranges
+pub mod Unchanged

@@ -1,1 +1,2 @@
 pub mod Transactions
+pub mod ReadSets

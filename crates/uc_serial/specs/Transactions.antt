@@ -1,5 +1,5 @@
 -- Optimistic transactions, over a plain list of writes, oldest first.
-use Rattle.std.specs.Prelude.{◌≡◌, ℕ, ◌≤◌, ⊤, Bool, false, ◌&&◌, List, [], ◌∷◌, ◌++◌, Option, nat_lt, if◌then◌else◌}
+use Rattle.std.specs.Prelude.{◌≡◌, ℕ, ⊤, Bool, false, ◌&&◌, List, [], ◌∷◌, ◌++◌, Option, nat_lt, if◌then◌else◌}
 use Rattle.std.specs.List.{AllByRecursion, list_any}
 use Rattle.std.specs.Ordering.{is_lt}
 use Rattle.uc_bytes.specs.Bytes.{bytes_cmp}
@@ -8,7 +8,7 @@ use Rattle.uc_bytes.specs.declared.op.Op.TheVariants.{Put, Delete, Merge, Delete
 use Rattle.uc_bytes.specs.declared.write.Write.{Write}
 use Rattle.uc_oper.specs.Operation.{Operation}
 use Rattle.uc_model.specs.Meaning.{touches_key, value_of}
-use Rattle.uc_batch.specs.Rising.{IsRising, last_of}
+use Rattle.uc_batch.specs.Rising.{last_of}
 use Rattle.uc_query_read.specs.Answers.{Reads, is_below, is_in_range, reading}
 use Rattle.uc_query_read.specs.Query.{at_of}
 use Rattle.uc_query_read.specs.declared.answer.Answer.{Answer}
@@ -61,13 +61,10 @@ pub record Transaction : Type 0 where
   pub reads : List Seen
   pub writes : List Write
 
--- A transaction may commit on a log: it saw what the log answers at its snapshot, nothing that it read has changed since, and its writes go on
--- in the log.
+-- A transaction may commit on a log: it saw what the log answers at its snapshot, and nothing that it read has changed since.
 pub record MayCommit (m : Operation) (log : List Write) (t : Transaction) : Type 0 where
-  pub snapshot : AllByRecursion (λ r. at_of r.query ≤ last_of 0 log) t.reads
   pub saw : AllByRecursion (λ r. r.answer ≡ reading m log r.query) t.reads
   pub current : AllByRecursion (λ r. IsCurrent m log (last_of 0 log) r.query) t.reads
-  pub next : IsRising (last_of 0 log) t.writes
 
 -- transactions that commit one after the other
 abbrev pub AreCommitted : Operation → List Write → List Transaction → Type 0
