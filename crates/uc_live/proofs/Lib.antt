@@ -22,3 +22,4 @@ pub mod FlushEnds
 pub mod FlushesTaken
 pub mod SeenEffects
 pub mod Sourced
+pub mod Judged

@@ -13,3 +13,4 @@ pub mod LiveFlushes
 pub mod HeldFlushJobs
 pub mod Coming
 pub mod Recording
+pub mod Judging

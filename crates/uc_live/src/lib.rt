@@ -15,6 +15,9 @@
 //! A store and its views return which part answers a lookup of a key: the memtables, the filters of the runs, or the runs
 //! ([`LookupSource`], `specs/Sources.antt`, `source_laws.rt`).
 //!
+//! A transaction reads in a view. [`LiveStore::prepare_if`] prepares its batch only if what it read is as it was (`judging.rt`,
+//! `specs/Judging.antt`, `transaction_laws.rt`).
+//!
 //! A program makes it durable by a log in a file: [`LiveStore::prepare_recorded`] returns the bytes that it appends before it
 //! commits (`recording.rt`, `recorded_laws.rt`).
 //!
@@ -37,6 +40,7 @@ mod flush_laws;
 mod flushes;
 mod flushing;
 mod jobs;
+mod judging;
 mod last_reads;
 mod laws;
 mod live_options;
@@ -52,6 +56,8 @@ mod room_error;
 mod snapshots;
 mod source_laws;
 mod store_id;
+mod transaction_error;
+mod transaction_laws;
 mod view;
 mod waiting;
 mod write_error;
@@ -76,9 +82,12 @@ pub use recorded_laws::{
 pub use room_error::RoomError;
 pub use source_laws::sources_tell_what_values_come_of;
 pub use store_id::StoreId;
+pub use transaction_error::TransactionError;
+pub use transaction_laws::unchanged_transactions_may_commit;
 pub use uc_batch::{BatchError, Ended};
 pub use uc_bytes::{Bytes, OpRef};
 pub use uc_query_read::{Answer, Rows};
+pub use uc_serial::{Read, ReadSet};
 pub use uc_version::{
     FeedError, InstallError, Job, JobEnd, JobStage, Options, ReleaseError, Version,
 };
