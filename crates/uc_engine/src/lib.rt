@@ -7,7 +7,7 @@
 //! [`EngineCheckpoint`] a [`Checkpoint`](uc_checkpoint::Checkpoint). A [`TakenJob`] is an [`EngineJob`] or a [`FlushJob`].
 //!
 //! Read `specs/Engines.antt` first, then `operator_kind.rt`, `engine.rt`, `opening.rt`, `writing.rt`, `reading.rt`,
-//! `snapshots.rt`, `compacting.rt`, `engine_job.rt`, `engine_flush.rt`, `taken_job.rt`, `engine_view.rt` and
+//! `snapshots.rt`, `compacting.rt`, `engine_job.rt`, `engine_flush.rt`, `taken_job.rt`, `engine_view.rt`, `transactions.rt` and
 //! `engine_checkpoint.rt`.
 //!
 //! An `Err(AllocError)`, or a variant `Memory`, comes only if an allocation fails.
@@ -29,6 +29,7 @@ mod report;
 mod snapshots;
 mod store_job;
 mod taken_job;
+mod transactions;
 mod writing;
 
 pub use engine::Engine;
@@ -47,9 +48,10 @@ pub use uc_checkpoint::{
 };
 pub use uc_live::{
     FeedError, FlushEnd, FlushJob, GREATEST_STOP, InstallError, JobEnd, JobStage, LiveOpenError,
-    LiveOptions, LookupSource, Options, ReleaseError, RoomError, StoreId, WriteError,
-    batches_are_walked, commits_go_on, flushes_go_in, jobs_go_in, limits_have_their_numbers,
-    recorded_batch_is_recovered, sources_tell_what_values_come_of, spent_flushes_stay_spent,
+    LiveOptions, LookupSource, Options, Read, ReadSet, ReleaseError, RoomError, StoreId,
+    TransactionError, WriteError, batches_are_walked, commits_go_on, flushes_go_in, jobs_go_in,
+    limits_have_their_numbers, recorded_batch_is_recovered, sources_tell_what_values_come_of,
+    spent_flushes_stay_spent, unchanged_transactions_may_commit,
 };
 pub use uc_oper::ValueRef;
 pub use uc_query_read::{Answer, Laid, Query, RowBuffer, Rows};
