@@ -22,3 +22,4 @@ pub mod Logging
 pub mod Operands
 pub mod Checkpoints
 pub mod Folders
+pub mod Transactions

@@ -24,8 +24,8 @@
 //!
 //! Read `status.rt` and `specs/Replies.antt` first, for the results of the functions, then `opening.rt`, `batches.rt`,
 //! `writing.rt`, `snapshots.rt`, `readable.rt`, `reading.rt`, `many.rt`, `scanning.rt`, `views.rt`, `view_reading.rt`,
-//! `sources.rt`, `checkpoints.rt`, `compacting.rt`, `jobs.rt`, `job_laws.rt`, `c_report.rt`, with `specs/LogWalk.antt`, `logs.rt`
-//! and `replaying.rt`, `log_ends.rt`, `logging.rt`, `folders.rt` and `operands.rt`.
+//! `sources.rt`, `reads.rt`, `transactions.rt`, `checkpoints.rt`, `compacting.rt`, `jobs.rt`, `job_laws.rt`, `c_report.rt`, with
+//! `specs/LogWalk.antt`, `logs.rt` and `replaying.rt`, `log_ends.rt`, `logging.rt`, `folders.rt` and `operands.rt`.
 //!
 //! Tests: `bindings/c/worked.c`, `bindings/c/test.c`.
 #![tactic(auto)]
@@ -50,12 +50,14 @@ mod opening;
 mod operands;
 mod readable;
 mod reading;
+mod reads;
 mod replaying;
 mod room;
 mod scanning;
 mod snapshots;
 mod sources;
 mod status;
+mod transactions;
 mod version;
 mod view_reading;
 mod views;

@@ -19,7 +19,7 @@ use uc_handle::Handle;
 const MOST_SORTED: usize = 256;
 
 /// The end of a scan, if it is bounded.
-fn bound(alloc: Global, high: &[u8], bounded: bool) -> Result<Option<Bytes>, AllocError>
+pub fn bound(alloc: Global, high: &[u8], bounded: bool) -> Result<Option<Bytes>, AllocError>
     ensures { IfOk result (λ bound. bound ≡ (if bounded then Some high.now else None)) }
 {
     if bounded {

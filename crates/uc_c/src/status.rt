@@ -101,6 +101,8 @@ pub const NO_FOLDER: i32 = 30;
 
 /// The payload or the operand isn't one of its operator.
 pub const BAD_OPERAND: i32 = 31;
+/// A read of the transaction is changed.
+pub const READ_CHANGED: i32 = 32;
 
 /// The statuses have the numbers that `enum ucstore_status` gives them, in its order.
 pub fn statuses_are_numbered()
@@ -118,6 +120,7 @@ pub fn statuses_are_numbered()
     ensures checkpoints { statuses.NO_CHECKPOINT ∷ statuses.HAS_CHECKPOINT ∷ [] ≡ pos 26 ∷ pos 27 ∷ [] }
     ensures logs { statuses.SEQUENCE_GAP ∷ statuses.LOG_MISSING ∷ statuses.NO_FOLDER ∷ [] ≡ pos 28 ∷ pos 29 ∷ pos 30 ∷ [] }
     ensures operands { statuses.BAD_OPERAND ≡ pos 31 }
+    ensures transactions { statuses.READ_CHANGED ≡ pos 32 }
 {}
 
 /// The status if a run can't be added.
