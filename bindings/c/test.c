@@ -704,6 +704,62 @@ static void scan(struct moment *of) {
     CHECK(status == UCSTORE_OK && shown == wanted.count && size == wanted.size && memcmp(room, wanted.bytes, wanted.fits) == 0);
 }
 
+/* Transactions. */
+
+static bool is_unchanged(const struct moment *of, int key) {
+    const struct value *before = &of->now.at[key], *now = &live.now.at[key];
+    return before->held == now->held && (!now->held || (before->size == now->size && memcmp(before->bytes, now->bytes, now->size) == 0));
+}
+
+/* Adds a drawn read of a view to a read set, and returns true if it is unchanged in the store. */
+static bool draw_read(const struct moment *of, struct ucstore_reads *reads) {
+    uint8_t text[TEXT];
+    struct write range;
+    int key = (int)draw(KEYS);
+    bool bounded = draw(4) > 0, unchanged = true;
+    if (draw(2) == 0) {
+        CHECK(ucstore_reads_key(reads, text, key_text(key, text)) == UCSTORE_OK);
+        return is_unchanged(of, key);
+    }
+    range.key_length = draw_key(range.key);
+    range.value_length = draw_key(range.value);
+    CHECK(ucstore_reads_range(reads, range.key, range.key_length, range.value, range.value_length, bounded) == UCSTORE_OK);
+    for (key = 0; key < KEYS; key++) {
+        unchanged = unchanged && (!is_within(key, &range, bounded) || is_unchanged(of, key));
+    }
+    return unchanged;
+}
+
+/* Judges drawn reads of a view, and prepares a batch if they are unchanged. */
+static void judge(struct moment *of) {
+    const uint8_t batch[12] = {0};
+    struct ucstore_reads reads = {0};
+    uint8_t room[64];
+    size_t size = 99, length = (size_t)draw(4), wanted = SIZE_MAX, changed = 99, counted = 99;
+    int32_t status;
+    if (of == &live || of->view.at == NULL) {
+        return;
+    }
+    for (size_t place = 0; place < length; place++) {
+        if (!draw_read(of, &reads) && wanted == SIZE_MAX) {
+            wanted = place;
+        }
+    }
+    CHECK(ucstore_reads_count(&reads, &counted) == UCSTORE_OK && counted == length);
+    status = ucstore_first_changed(&store, &of->view, &reads, &changed);
+    CHECK(wanted == SIZE_MAX ? status == UCSTORE_OK && changed == 99 : status == UCSTORE_READ_CHANGED && changed == wanted);
+    changed = 99;
+    status = ucstore_prepare_if(&store, &of->view, &reads, batch, sizeof batch, 0, room, sizeof room, &size, &changed);
+    if (wanted == SIZE_MAX) {
+        CHECK(status == UCSTORE_OK && changed == 99 && size == 19);
+        CHECK(ucstore_give_up(&store) == UCSTORE_OK);
+    } else {
+        CHECK(status == UCSTORE_READ_CHANGED && changed == wanted && size == 99);
+    }
+    CHECK(ucstore_reads_clear(&reads) == UCSTORE_OK && ucstore_reads_count(&reads, &counted) == UCSTORE_OK && counted == 0);
+    CHECK(ucstore_reads_close(&reads) == UCSTORE_OK && reads.at == NULL);
+}
+
 /* Logs. */
 
 /* Format of a write in the output of ucstore_log_next. */
@@ -1050,8 +1106,10 @@ static void step(void) {
         get(draw_moment());
     } else if (choice < 96) {
         get_many(draw_moment());
-    } else if (choice < 100) {
+    } else if (choice < 99) {
         scan(draw_moment());
+    } else if (choice < 101) {
+        judge(draw_moment());
     } else if (choice < 104) {
         view();
         check_checkpoint(draw_moment());
@@ -1185,6 +1243,8 @@ static void nothing_is_read(void) {
 /* Statuses of a handle without a store. */
 static void without_store(void) {
     struct ucstore_batch batch = {0};
+    struct ucstore_view shown = {0};
+    struct ucstore_reads reads = {0};
     struct ucstore_report report;
     const uint8_t text[] = {'a'};
     const uint64_t length = 1;
@@ -1204,6 +1264,8 @@ static void without_store(void) {
     CHECK(ucstore_get_many(&store, text, 1, &length, 1, &seq, 1, room, sizeof room, &size) == UCSTORE_NO_STORE && seq == 7);
     CHECK(ucstore_prepare_bytes(&store, text, 1, 0, room, sizeof room, &size) == UCSTORE_NO_STORE && size == 0);
     CHECK(ucstore_prepare_marked(&store, text, 1, 0, 0, room, sizeof room, &size) == UCSTORE_NO_STORE && size == 0);
+    CHECK(ucstore_prepare_if(&store, &shown, &reads, text, 1, 0, room, sizeof room, &size, &found) == UCSTORE_NO_STORE);
+    CHECK(ucstore_first_changed(&store, &shown, &reads, &found) == UCSTORE_NO_STORE && size == 0 && found == 7);
     CHECK(ucstore_commit(&store) == UCSTORE_NO_STORE);
     CHECK(ucstore_commit_report(&store, &report) == UCSTORE_NO_STORE);
     CHECK(ucstore_give_up(&store) == UCSTORE_NO_STORE);
@@ -1257,7 +1319,45 @@ static void without_checkpoint(void) {
     CHECK(ucstore_checkpoint_next(&none, 0, 9, room, sizeof room, &size, &done) == UCSTORE_NO_CHECKPOINT);
     CHECK(ucstore_checkpoint_close(&none) == UCSTORE_NO_CHECKPOINT && room[0] == 0xAA && size == 99 && done);
     CHECK(strcmp(ucstore_status_text(UCSTORE_NO_CHECKPOINT), "checkpoint is not open") == 0);
-    CHECK(strcmp(ucstore_status_text(UCSTORE_BAD_OPERAND + 1), ucstore_status_text(-1)) == 0);
+    CHECK(strcmp(ucstore_status_text(UCSTORE_READ_CHANGED + 1), ucstore_status_text(-1)) == 0);
+}
+
+/* A transaction that reads in a view, and is prepared in its store. */
+static void transactions(void) {
+    struct ucstore opened = {0};
+    struct ucstore_view shown = {0};
+    struct ucstore_reads reads = {0};
+    struct ucstore_options options;
+    const uint8_t batch[] = {0, 0, 0, 0, 0, 0, 0, 0, 1, 0, 0, 0, 1, 1, 'r', 1, '1'}, faulty[] = {1};
+    uint8_t room[64] = {0};
+    size_t size = 99, changed = 99;
+    uint64_t last = 0;
+    CHECK(ucstore_options_init(&options) == UCSTORE_OK && ucstore_create(&opened, UCSTORE_APPEND, &options) == UCSTORE_OK);
+    CHECK(ucstore_prepare_if(&opened, &shown, &reads, batch, sizeof batch, 0, room, 64, &size, &changed) == UCSTORE_NO_VIEW);
+    CHECK(ucstore_first_changed(&opened, &shown, &reads, &changed) == UCSTORE_NO_VIEW && changed == 99);
+    CHECK(ucstore_put(&opened, (const uint8_t *)"b", 1, (const uint8_t *)"1", 1) == UCSTORE_OK);
+    CHECK(ucstore_view(&opened, &shown) == UCSTORE_OK);
+    CHECK(ucstore_reads_key(&reads, (const uint8_t *)"a", 1) == UCSTORE_OK);
+    CHECK(ucstore_reads_range(&reads, (const uint8_t *)"b", 1, (const uint8_t *)"b\0", 2, true) == UCSTORE_OK);
+    CHECK(ucstore_prepare_if(&opened, &shown, &reads, faulty, 1, 0, room, 64, &size, &changed) == UCSTORE_NOT_A_BATCH);
+    CHECK(ucstore_prepare_if(&opened, &shown, &reads, batch, sizeof batch, 0, room, 1, &size, &changed) == UCSTORE_ROOM);
+    CHECK(size == 24 && changed == 99 && room[0] == 0);
+    /* A key outside of what was read, and one that has its value again. */
+    CHECK(ucstore_put(&opened, (const uint8_t *)"b\0", 2, (const uint8_t *)"1", 1) == UCSTORE_OK);
+    CHECK(ucstore_delete_range(&opened, (const uint8_t *)"", 0, (const uint8_t *)"z", 1) == UCSTORE_OK);
+    CHECK(ucstore_put(&opened, (const uint8_t *)"b", 1, (const uint8_t *)"1", 1) == UCSTORE_OK);
+    CHECK(ucstore_prepare_if(&opened, &shown, &reads, batch, sizeof batch, 0, room, 64, &size, &changed) == UCSTORE_OK);
+    CHECK(size == 24 && changed == 99);
+    CHECK(ucstore_commit(&opened) == UCSTORE_OK && ucstore_last(&opened, &last) == UCSTORE_OK && last == 5);
+    CHECK(ucstore_get(&opened, (const uint8_t *)"r", 1, room, 64, &size) == UCSTORE_OK && size == 1);
+    /* A range deletion changes the range, and a put the key that was not there. */
+    CHECK(ucstore_delete_range(&opened, (const uint8_t *)"b", 1, (const uint8_t *)"c", 1) == UCSTORE_OK);
+    CHECK(ucstore_prepare_if(&opened, &shown, &reads, batch, sizeof batch, 0, room, 64, &size, &changed) == UCSTORE_READ_CHANGED);
+    CHECK(changed == 1 && size == 1);
+    CHECK(ucstore_put(&opened, (const uint8_t *)"a", 1, (const uint8_t *)"", 0) == UCSTORE_OK);
+    CHECK(ucstore_first_changed(&opened, &shown, &reads, &changed) == UCSTORE_READ_CHANGED && changed == 0);
+    CHECK(ucstore_reads_close(&reads) == UCSTORE_OK && ucstore_view_close(&shown) == UCSTORE_OK);
+    CHECK(ucstore_close(&opened) == UCSTORE_OK);
 }
 
 /* A store of 255 runs, whose next compaction has all of them. */
@@ -1411,6 +1511,7 @@ int main(int argc, char **argv) {
     without_store();
     without_view();
     without_checkpoint();
+    transactions();
     refusals();
     refused_jobs();
     flush_jobs();

@@ -6,8 +6,8 @@
  *
  * Each function of a store takes a pointer to the handle first. Each function except `ucstore_version` returns one of the statuses
  * below. On any status but UCSTORE_OK no write takes effect and no output is written, except as stated at `ucstore_prepare`,
- * `ucstore_prepare_bytes`, `ucstore_checkpoint_next`, `ucstore_log_next`, `ucstore_replay`, `ucstore_log_mark_bytes` and
- * `ucstore_operand`.
+ * `ucstore_prepare_bytes`, `ucstore_prepare_marked`, `ucstore_prepare_if`, `ucstore_checkpoint_next`, `ucstore_log_next`,
+ * `ucstore_replay`, `ucstore_log_mark_bytes` and `ucstore_operand`.
  *
  * Writes go to a memtable, which is flushed to a run when it is full, and runs are compacted. By default the calling thread does
  * both, automatically. With jobs, other threads do.
@@ -85,6 +85,11 @@ struct ucstore_batch {
     void *at;
 };
 
+/* The reads of a transaction. All zeros: no reads. */
+struct ucstore_reads {
+    void *at;
+};
+
 /* A handle to a view. All zeros: no view. */
 struct ucstore_view {
     void *at;
@@ -133,7 +138,8 @@ enum ucstore_status {
     UCSTORE_SEQUENCE_GAP = 28,     /* Gap in sequence numbers: the next batch of the log does not follow the last write. */
     UCSTORE_LOG_MISSING = 29,      /* Log missing: the folder lists later logs, and not this one. */
     UCSTORE_NO_FOLDER = 30,        /* Folder is not open: its state was not set, or was changed. */
-    UCSTORE_BAD_OPERAND = 31       /* Malformed operand. */
+    UCSTORE_BAD_OPERAND = 31,      /* Malformed operand. */
+    UCSTORE_READ_CHANGED = 32      /* Read has changed: a key of the transaction has another value now. */
 };
 
 /* Merge operators. An operator combines a key's operands and its value. */
@@ -204,6 +210,7 @@ static inline const char *ucstore_status_text(int32_t status) {
         "log missing",
         "folder is not open",
         "malformed operand",
+        "read has changed",
     };
     return status >= 0 && (size_t)status < sizeof texts / sizeof texts[0] ? texts[status] : "unknown status";
 }
@@ -431,6 +438,38 @@ int32_t ucstore_prepare_bytes(struct ucstore *store, const uint8_t *batch, size_
  * UCSTORE_ROOM, UCSTORE_BAD_PLACE (`unsynced` is 2^63 or more), and those of `ucstore_write_bytes`. */
 int32_t ucstore_prepare_marked(struct ucstore *store, const uint8_t *batch, size_t batch_length, uint64_t unsynced,
                                uint64_t log_length, uint8_t *room, size_t room_length, size_t *size);
+
+/* Adds the read of a key, found or not, to the reads of a transaction. On failure they are unchanged.
+ * UCSTORE_OUT_OF_MEMORY. */
+int32_t ucstore_reads_key(struct ucstore_reads *reads, const uint8_t *key, size_t key_length);
+
+/* Adds the scan of the keys from `low` to below `high`, or to the last key if `bounded` is false. A scan that stopped early has read the
+ * keys up to its last row: `high` is then that row's key with a zero byte after it. Otherwise like `ucstore_reads_key`. */
+int32_t ucstore_reads_range(struct ucstore_reads *reads, const uint8_t *low, size_t low_length, const uint8_t *high,
+                            size_t high_length, bool bounded);
+
+/* Removes all reads, and keeps the memory of their list for new ones. Returns UCSTORE_OK. */
+int32_t ucstore_reads_clear(struct ucstore_reads *reads);
+
+/* Stores the number of reads in `count`. Returns UCSTORE_OK. */
+int32_t ucstore_reads_count(struct ucstore_reads *reads, size_t *count);
+
+/* Frees the reads. They are all zeros then, and can be used again. Returns UCSTORE_OK. */
+int32_t ucstore_reads_close(struct ucstore_reads *reads);
+
+/* Prepares a batch in RocksDB's format, as `ucstore_prepare_bytes` does, if each key that was read has the value that it has in `view`.
+ * So a transaction that reads in a view, and commits by this, is serial: it reads as right before its own writes. The view must be one
+ * of this store. The view and the reads are not changed.
+ * UCSTORE_READ_CHANGED: nothing happens, and `changed` gets the place of the first read that has changed, counted from 0.
+ * UCSTORE_NO_VIEW, and those of `ucstore_prepare_bytes`. */
+int32_t ucstore_prepare_if(struct ucstore *store, struct ucstore_view *view, struct ucstore_reads *reads, const uint8_t *batch,
+                           size_t batch_length, uint64_t log_length, uint8_t *room, size_t room_length, size_t *size,
+                           size_t *changed);
+
+/* Judges the reads alone, as `ucstore_prepare_if` does.
+ * UCSTORE_READ_CHANGED: `changed` gets the place of the first read that has changed.
+ * UCSTORE_NO_STORE, UCSTORE_NO_VIEW, UCSTORE_OUT_OF_MEMORY. */
+int32_t ucstore_first_changed(struct ucstore *store, struct ucstore_view *view, struct ucstore_reads *reads, size_t *changed);
 
 /* Makes the prepared batch visible. Does nothing if there is none. Allocates no memory.
  * UCSTORE_NO_STORE. */

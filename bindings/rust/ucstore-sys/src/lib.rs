@@ -68,6 +68,8 @@ pub const UCSTORE_LOG_MISSING: i32 = 29;
 pub const UCSTORE_NO_FOLDER: i32 = 30;
 /// Malformed operand.
 pub const UCSTORE_BAD_OPERAND: i32 = 31;
+/// Read has changed.
+pub const UCSTORE_READ_CHANGED: i32 = 32;
 
 /// The memtables: they hold a put or a deletion of the key, or a range deletion over it.
 pub const UCSTORE_MEMTABLE: u32 = 0;
@@ -110,6 +112,12 @@ pub struct ucstore {
 /// A batch. All zeros: no operations.
 #[repr(C)]
 pub struct ucstore_batch {
+    pub at: *mut c_void,
+}
+
+/// The reads of a transaction. All zeros: no reads.
+#[repr(C)]
+pub struct ucstore_reads {
     pub at: *mut c_void,
 }
 
@@ -343,6 +351,36 @@ extern "C" {
         room: *mut u8,
         room_length: usize,
         size: *mut usize,
+    ) -> i32;
+    pub fn ucstore_reads_key(reads: *mut ucstore_reads, key: *const u8, key_length: usize) -> i32;
+    pub fn ucstore_reads_range(
+        reads: *mut ucstore_reads,
+        low: *const u8,
+        low_length: usize,
+        high: *const u8,
+        high_length: usize,
+        bounded: bool,
+    ) -> i32;
+    pub fn ucstore_reads_clear(reads: *mut ucstore_reads) -> i32;
+    pub fn ucstore_reads_count(reads: *mut ucstore_reads, count: *mut usize) -> i32;
+    pub fn ucstore_reads_close(reads: *mut ucstore_reads) -> i32;
+    pub fn ucstore_prepare_if(
+        store: *mut ucstore,
+        view: *mut ucstore_view,
+        reads: *mut ucstore_reads,
+        batch: *const u8,
+        batch_length: usize,
+        log_length: u64,
+        room: *mut u8,
+        room_length: usize,
+        size: *mut usize,
+        changed: *mut usize,
+    ) -> i32;
+    pub fn ucstore_first_changed(
+        store: *mut ucstore,
+        view: *mut ucstore_view,
+        reads: *mut ucstore_reads,
+        changed: *mut usize,
     ) -> i32;
     pub fn ucstore_commit(store: *mut ucstore) -> i32;
     pub fn ucstore_commit_report(store: *mut ucstore, report: *mut ucstore_report) -> i32;

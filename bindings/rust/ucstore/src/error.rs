@@ -29,6 +29,11 @@ pub enum Error {
     BadOperand,
     /// Run limit reached: jobs hold the runs that would be compacted. End a job and retry.
     RunsClaimed,
+    /// Read has changed.
+    ReadChanged {
+        /// The place of the first such read, counted from 0.
+        read: usize,
+    },
     /// The library returned a status that the call cannot have: it has another version than this crate.
     Unexpected(i32),
 }
@@ -47,6 +52,7 @@ impl fmt::Display for Error {
             Error::BatchFull => "batch full",
             Error::BadOperand => "malformed operand",
             Error::RunsClaimed => "run limit reached",
+            Error::ReadChanged { read } => return write!(formatter, "read {read} has changed"),
             Error::Unexpected(status) => return write!(formatter, "unexpected status {status}"),
         };
         formatter.write_str(text)
