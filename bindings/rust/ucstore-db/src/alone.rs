@@ -26,7 +26,7 @@ impl Shared {
         // A group of its own: with others in it, the batch would lose its sequence.
         let groups = Groups::default();
         groups.join(batch, is_synced);
-        let outcome = self.take(&mut log, &groups.close());
+        let outcome = self.take(&mut log, &mut groups.close());
         drop(log);
         self.events.tell();
         outcome

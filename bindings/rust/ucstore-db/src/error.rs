@@ -1,5 +1,6 @@
 //! [`Error`]: why a call is refused.
 
+use crate::conflict::Conflict;
 use crate::operator_file::{word, OPERATOR};
 use std::fmt;
 use std::io;
@@ -46,6 +47,8 @@ pub enum Error {
         /// The fault.
         fault: String,
     },
+    /// Conflict with another write: a key or a range that the transaction read has changed.
+    Conflict(Conflict),
     /// The snapshot is one of another database.
     OtherDatabase,
     /// The folder was made with another operator. Nothing was changed.
@@ -119,6 +122,7 @@ impl fmt::Display for Error {
                 offset,
                 fault,
             } => write!(formatter, "{file} can't be recovered at {offset}: {fault}"),
+            Error::Conflict(conflict) => write!(formatter, "conflict: {conflict}"),
             Error::OtherDatabase => formatter.write_str("the snapshot is one of another database"),
             Error::OtherOperator { made, asked } => write!(
                 formatter,

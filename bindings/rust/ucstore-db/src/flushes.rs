@@ -75,6 +75,15 @@ impl Shared {
         }
     }
 
+    /// Makes a run of what is gathered, as [`flush_for_scans`](Shared::flush_for_scans) does, for a transaction's ranges. Requires `log`
+    /// held.
+    pub(crate) fn flush_to_judge(&self) -> Result<(), Error> {
+        match self.is_much_to_sort() {
+            true => self.flush_gathered(),
+            false => Ok(()),
+        }
+    }
+
     /// Whether a scan has much to sort, no flush is under way, and one run more slows no write.
     fn is_much_to_sort(&self) -> bool {
         self.gathered.load(Ordering::Relaxed) >= MOST_SORTED

@@ -3,6 +3,7 @@
 use crate::error::Error;
 use crate::header::{count_of, HEADER_SIZE};
 use crate::lock;
+use crate::member::{Candidate, Member};
 use crate::spin_wait::SpinWait;
 use std::sync::{Arc, Mutex, OnceLock};
 
@@ -19,6 +20,8 @@ pub(crate) struct Group {
     pub(crate) batches: u64,
     /// There is one once another writer waits for it.
     outcome: Option<Arc<Outcome>>,
+    /// The transactions among its batches, in their order.
+    pub(crate) members: Vec<Member>,
 }
 
 /// The outcome of a group, which its writers wait for.
@@ -37,6 +40,16 @@ pub(crate) enum Role {
     Waits(Arc<Outcome>, Vec<u8>),
 }
 
+/// The role of a transaction that is to be written.
+pub(crate) enum Turn {
+    /// It writes its group, as [`Role::Leads`] says, and has an outcome of its own then.
+    Leads(Arc<Outcome>),
+    /// It waits for its outcome.
+    Follows(Arc<Outcome>),
+    /// The group can't take it: it waits until that is written, and joins again.
+    Waits(Arc<Outcome>, Candidate),
+}
+
 /// The group that writers join now, if there is one. Its leader waits until the one before is written.
 #[derive(Default)]
 pub(crate) struct Groups {
@@ -48,12 +61,7 @@ impl Groups {
     pub(crate) fn join(&self, batch: Vec<u8>, is_synced: bool) -> Role {
         let mut open = lock(&self.open);
         let Some(group) = &mut *open else {
-            *open = Some(Group {
-                batch,
-                is_synced,
-                batches: 1,
-                outcome: None,
-            });
+            *open = Some(Group::of(batch, is_synced));
             return Role::Leads;
         };
         let outcome = Arc::clone(group.outcome.get_or_insert_default());
@@ -64,6 +72,23 @@ impl Groups {
         Role::Follows(outcome)
     }
 
+    /// Joins the group that is open, unless that touches what the transaction has read, or opens one.
+    pub(crate) fn join_if(&self, candidate: Candidate, is_synced: bool) -> Turn {
+        let mut open = lock(&self.open);
+        let Some(group) = &mut *open else {
+            let (group, outcome) = Group::of_transaction(candidate, is_synced);
+            *open = Some(group);
+            return Turn::Leads(outcome);
+        };
+        let begin = group.batch.len();
+        if !candidate.is_beside(&group.batch) || !group.add(&candidate.batch) {
+            let outcome = group.outcome.get_or_insert_default();
+            return Turn::Waits(Arc::clone(outcome), candidate);
+        }
+        group.is_synced |= is_synced;
+        Turn::Follows(group.push_member(candidate.into_parts(begin).1))
+    }
+
     /// Takes the open group, so that none joins it any more. Only its leader calls this.
     pub(crate) fn close(&self) -> Group {
         lock(&self.open).take().expect("the leader's group is open")
@@ -71,14 +96,41 @@ impl Groups {
 }
 
 impl Group {
+    /// A group of one batch.
+    fn of(batch: Vec<u8>, is_synced: bool) -> Group {
+        Group {
+            batch,
+            is_synced,
+            batches: 1,
+            outcome: None,
+            members: Vec::new(),
+        }
+    }
+
     /// The most bytes that a store gathers for it: 8 for each operation's sequence, and its keys and values. In the batch each
     /// operation has a tag and at least one length beside these.
     pub(crate) fn memory(&self) -> u64 {
         (self.batch.len() - HEADER_SIZE) as u64 + (8 - 2) * u64::from(count_of(&self.batch))
     }
 
+    /// A group of one transaction, and the outcome of that.
+    pub(crate) fn of_transaction(candidate: Candidate, is_synced: bool) -> (Group, Arc<Outcome>) {
+        let (batch, member) = candidate.into_parts(HEADER_SIZE);
+        let mut group = Group::of(batch, is_synced);
+        let outcome = group.push_member(member);
+        (group, outcome)
+    }
+
+    /// Adds a transaction whose operations it has, and returns its outcome.
+    fn push_member(&mut self, member: Member) -> Arc<Outcome> {
+        let outcome = member.outcome();
+        self.members.push(member);
+        outcome
+    }
+
     /// Tells the writers that wait what became of it, once it is written or refused.
     pub(crate) fn tell(self, told: &Result<(), Error>) {
+        self.tell_members(told);
         if let Some(outcome) = self.outcome {
             outcome.tell(told.clone());
         }
@@ -110,7 +162,7 @@ impl Outcome {
     }
 
     /// Tells those who wait.
-    fn tell(&self, told: Result<(), Error>) {
+    pub(crate) fn tell(&self, told: Result<(), Error>) {
         self.told.set(told).expect("it is told once");
     }
 }

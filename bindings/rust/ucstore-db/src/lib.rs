@@ -36,6 +36,12 @@
 //! and then the first read may wait. A scan flushes what is gathered, from 32 KiB on, and sorts less than that. Views are released when
 //! the runs change, so threads that read no more keep nothing.
 //!
+//! # Transactions
+//!
+//! A [`Transaction`] reads in a view, and notes its reads. Its commit joins a group, as a batch does, if no batch of the group touches what it
+//! has read. The leader judges it when all groups before are taken: each key that it has read has to have the value that it has in the view,
+//! and each range the rows, as far as it was walked. One that doesn't pass is left out of the group, and gets [`Error::Conflict`].
+//!
 //! # What it tells
 //!
 //! [`Options::progress`] is told how far an opening is, and [`Options::events`] of flushes, compactions, checkpoints, stalls
@@ -67,6 +73,7 @@ mod cache_padded;
 mod checkpoint;
 mod checksum;
 mod compactor;
+mod conflict;
 mod counts;
 mod db;
 mod disk_folder;
@@ -86,11 +93,14 @@ mod kept;
 mod log;
 mod lookups;
 mod mark;
+mod member;
 mod name;
 mod newest;
+mod noted_reads;
 mod operands;
 mod operator_file;
 mod options;
+mod own_writes;
 mod partial;
 mod pending_cleanup;
 mod reading;
@@ -109,9 +119,13 @@ mod striped;
 mod sync_times;
 mod syncing;
 mod touched;
+mod transact;
+mod transaction;
+mod transaction_rows;
 mod windows;
 mod workers;
 
+pub use conflict::Conflict;
 pub use db::{Db, WeakDb};
 pub use disk_folder::DiskFolder;
 pub use error::Error;
@@ -122,6 +136,8 @@ pub use operator_file::operator_of;
 pub use options::{Options, Sync};
 pub use snapshot::{Rows, Snapshot};
 pub use stats::Stats;
+pub use transaction::Transaction;
+pub use transaction_rows::TransactionRows;
 pub use ucstore;
 pub use ucstore::{Batch, KeyValue, MergeParts, Operand, Operator, Part};
 

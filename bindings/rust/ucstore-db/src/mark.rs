@@ -2,13 +2,19 @@
 //! right after the header. The library writes and reads them, and finds by them what is damage, and not what a crash left.
 
 use crate::header::HEADER_SIZE;
-use ucstore::{Operator, Store};
+use ucstore::{mark_bytes, Operator, Store};
 
 /// The tag of log data in a batch: bytes that are no operation (RocksDB, `write_batch.cc`).
 pub(crate) const LOG_DATA: u8 = 3;
 
 /// The most bytes of a mark.
 pub(crate) const MOST_SIZE: usize = 12;
+
+/// A batch with a mark: this many bytes before its record aren't known to be on the device.
+pub(crate) fn with_mark(batch: &[u8], unsynced: u64) -> Result<Vec<u8>, ucstore::Error> {
+    let (header, body) = batch.split_at(HEADER_SIZE);
+    Ok([header, &mark_bytes(unsynced)?, body].concat())
+}
 
 /// The record by which a close says that a log of some length is on the device, up to a last sequence: a batch without operations. It
 /// is numbered as the next one would be.
@@ -23,14 +29,14 @@ pub(crate) fn closing_record(length: u64, last: u64) -> Result<Vec<u8>, ucstore:
 #[cfg(test)]
 mod tests {
     use super::*;
-    use ucstore::{mark_bytes, mark_of};
+    use ucstore::mark_of;
 
     #[test]
     fn marks_are_read_as_they_are_written() {
         for unsynced in [0, 1, 127, 128, 300, 1 << 20, 1 << 40, (1 << 63) - 1] {
-            let mark = mark_bytes(unsynced).unwrap();
-            assert!(mark.len() <= MOST_SIZE);
-            let marked = [&[7; HEADER_SIZE][..], &mark, &[7; 4]].concat();
+            let marked = with_mark(&[7; HEADER_SIZE + 4], unsynced).unwrap();
+            assert!(marked.len() <= HEADER_SIZE + 4 + MOST_SIZE);
+            assert!(marked.starts_with(&[7; HEADER_SIZE]) && marked.ends_with(&[7; 4]));
             assert_eq!(mark_of(&marked), Some(unsynced));
         }
         assert_eq!(mark_bytes(0).unwrap(), [3, 2, b's', 0]);

@@ -11,6 +11,7 @@ use crate::holder::Holder;
 use crate::kept::SetAside;
 use crate::lock;
 use crate::log::{Log, Refusal};
+use crate::mark;
 use crate::newest::Newest;
 use crate::options::{Options, Sync};
 use crate::recovery::Recovery;
@@ -42,7 +43,7 @@ pub(crate) struct Shared {
     /// Whether a group is written now, as far as who waits for the log has to know.
     is_writing: CachePadded<AtomicBool>,
     /// The writers that come together.
-    groups: CachePadded<Groups>,
+    pub(crate) groups: CachePadded<Groups>,
     /// Why nothing can be written any more.
     failure: OnceLock<Error>,
     /// Whether the directory was opened to be read alone, or is damaged.
@@ -161,13 +162,13 @@ impl Shared {
     }
 
     /// Writes the open group after those before it.
-    fn lead(&self, wait: SpinWait) -> Result<(), Error> {
+    pub(crate) fn lead(&self, wait: SpinWait) -> Result<(), Error> {
         // A thread that looks at the lock takes its cache line from the thread that has it.
         wait.spin_until(|| (!self.is_writing.load(Ordering::Relaxed)).then_some(()));
         let mut log = wait.lock(&self.log);
         self.is_writing.store(true, Ordering::Relaxed);
-        let group = self.groups.close();
-        let told = self.take(&mut log, &group);
+        let mut group = self.groups.close();
+        let told = self.take(&mut log, &mut group);
         self.is_writing.store(false, Ordering::Relaxed);
         drop(log);
         group.tell(&told);
@@ -180,11 +181,16 @@ impl Shared {
         self.is_writing.load(Ordering::Relaxed)
     }
 
-    /// Takes a group, after its record in the log if there is one.
-    pub(crate) fn take(&self, log: &mut Option<Log>, group: &Group) -> Result<(), Error> {
+    /// Takes a group, after its record in the log if there is one. `log` is held since before: so its transactions are judged by what each
+    /// group before it has left.
+    pub(crate) fn take(&self, log: &mut Option<Log>, group: &mut Group) -> Result<(), Error> {
         self.check()?;
         self.slow_down();
         self.make_space()?;
+        self.judge(group)?;
+        if group.batches == 0 {
+            return Ok(());
+        }
         if group.batch.len() >= LONG_GROUP {
             self.newest.renew(&self.store)?;
         }
@@ -192,7 +198,13 @@ impl Shared {
         let is_flushed = match log {
             Some(log) => self.take_logged(log, group)?,
             None => self.call(|store| {
-                store.write_bytes(&group.batch)?;
+                match group.lone_condition() {
+                    Some(condition) => {
+                        condition.prepare(store, 0, &group.batch)?;
+                        store.commit();
+                    }
+                    None => store.write_bytes(&group.batch)?,
+                }
                 Ok(self.tell_taken(store, group, &store.report()))
             })?,
         };
@@ -207,8 +219,14 @@ impl Shared {
 
     /// Logs a group, and takes it. Views and jobs are taken while it is logged. Returns whether the store has flushed by itself.
     fn take_logged(&self, log: &mut Log, group: &Group) -> Result<bool, Error> {
-        let record = self
-            .call(|store| store.prepare_marked(log.length, &group.batch, log.unsynced()))?;
+        let (length, unsynced) = (log.length, log.unsynced());
+        let record = self.call(|store| match group.lone_condition() {
+            Some(condition) => {
+                let batch = mark::with_mark(&group.batch, unsynced)?;
+                condition.prepare(store, length, &batch)
+            }
+            None => store.prepare_marked(length, &group.batch, unsynced),
+        })?;
         if let Err(refusal) = log.append(&record, group.is_synced) {
             lock(&self.store).give_up();
             return Err(self.refuse(refusal));

@@ -97,13 +97,13 @@ fn hash_of(key: &[u8]) -> u64 {
 }
 
 /// The keys of a batch's operations, one by one; none in place of one that isn't noted so.
-struct Keys<'a> {
+pub(crate) struct Keys<'a> {
     rest: &'a [u8],
 }
 
 impl<'a> Keys<'a> {
     /// The keys after the header of a batch.
-    fn of(batch: &'a [u8]) -> Keys<'a> {
+    pub(crate) fn of(batch: &'a [u8]) -> Keys<'a> {
         Keys {
             rest: &batch[HEADER_SIZE..],
         }

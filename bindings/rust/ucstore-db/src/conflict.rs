@@ -1,0 +1,80 @@
+//! [`Conflict`] and [`Condition`]: what a transaction read, and whether it is unchanged.
+
+use crate::error::Error;
+use crate::noted_reads::NotedReads;
+use std::fmt;
+use ucstore::{ReadSet, Store, View};
+
+/// A key or range that a transaction read and another write changed, so that the transaction isn't committed.
+#[derive(Clone, Debug, PartialEq, Eq, Hash)]
+#[non_exhaustive]
+pub enum Conflict {
+    /// A key has another value now, or none any more, or one where it had none.
+    Key(Vec<u8>),
+    /// A range has other rows now, as far as it was walked.
+    Range {
+        /// The first key of the range.
+        low: Vec<u8>,
+        /// The end of the range, exclusive; `None` after the last key.
+        high: Option<Vec<u8>>,
+    },
+}
+
+impl fmt::Display for Conflict {
+    fn fmt(&self, formatter: &mut fmt::Formatter<'_>) -> fmt::Result {
+        match self {
+            Conflict::Key(key) => write!(formatter, "key \"{}\" has changed", key.escape_ascii()),
+            Conflict::Range { low, high: None } => {
+                let low = low.escape_ascii();
+                write!(formatter, "range from \"{low}\" has changed")
+            }
+            Conflict::Range {
+                low,
+                high: Some(high),
+            } => {
+                let (low, high) = (low.escape_ascii(), high.escape_ascii());
+                write!(formatter, "range \"{low}\" to \"{high}\" has changed")
+            }
+        }
+    }
+}
+
+/// The reads of a transaction, made in a view, that have to be unchanged when its batch is taken.
+pub(crate) struct Condition {
+    view: View,
+    noted: NotedReads,
+    reads: ReadSet,
+}
+
+impl Condition {
+    /// The condition of reads in a view.
+    pub(crate) fn of(view: View, noted: NotedReads) -> Result<Condition, Error> {
+        let reads = noted.to_read_set()?;
+        Ok(Condition { view, noted, reads })
+    }
+
+    /// The reads, as they were noted.
+    pub(crate) fn noted(&self) -> &NotedReads {
+        &self.noted
+    }
+
+    /// Prepares a batch if the reads are unchanged, and returns its record in a log of some bytes.
+    pub(crate) fn prepare(
+        &self,
+        store: &Store,
+        length: u64,
+        batch: &[u8],
+    ) -> Result<Vec<u8>, ucstore::Error> {
+        store.prepare_if(&self.view, &self.reads, length, batch)
+    }
+
+    /// The place of the first read that has changed.
+    pub(crate) fn first_changed(&self, store: &Store) -> Result<Option<usize>, ucstore::Error> {
+        store.first_changed(&self.view, &self.reads)
+    }
+
+    /// The error for the transaction, where a read at a place has changed.
+    pub(crate) fn conflict(&self, place: usize) -> Error {
+        Error::Conflict(self.noted.conflict(place))
+    }
+}
