@@ -174,6 +174,7 @@ use_python() {
 try_python() {
     use_python
     python3 "$here/python/tests/test_db.py" --quiet
+    python3 "$here/python/tests/test_transactions.py" --quiet
     TMPDIR=$room python3 "$here/python/tests/test_db_cases.py" "${played[@]}" "$work/drawn.txt"
     rm -rf "$work/visits"
     expect db_first.py '5 visits, 2 before' "$(cd "$work" && python3 "$here/python/db_first.py")"

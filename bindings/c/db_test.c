@@ -361,6 +361,73 @@ static void try_snapshots(struct ucstore_db *db) {
     OK(ucstore_db_cursor_close(cursor));
 }
 
+/* Begins a transaction that has read a key, and puts another one. */
+static struct ucstore_db_transaction *begin(struct ucstore_db *db, const char *read, const char *put) {
+    struct ucstore_db_transaction *transaction = NULL;
+    char room[8];
+    size_t size = 0;
+    OK(ucstore_db_transaction_begin(db, &transaction));
+    ucstore_db_transaction_get(transaction, read, strlen(read), room, sizeof room, &size);
+    OK(ucstore_db_transaction_put(transaction, put, strlen(put), "1", 1));
+    return transaction;
+}
+
+static void try_transactions(void) {
+    struct ucstore_db *db = open_texts("transactions");
+    struct ucstore_db_transaction *one = NULL, *none = NULL;
+    uint64_t lengths[6];
+    char room[16];
+    size_t rows = 9, size = 0;
+    CHECK(ucstore_db_transaction_begin(NULL, &one) == UCSTORE_DB_NULL && ucstore_db_transaction_begin(db, NULL) == UCSTORE_DB_NULL);
+    CHECK(ucstore_db_transaction_commit(NULL) == UCSTORE_DB_NULL && ucstore_db_transaction_rollback(none) == UCSTORE_DB_NULL);
+    OK(ucstore_db_transaction_close(NULL));
+    put(db, "a", "1");
+    put(db, "b", "2");
+    /* Own writes are read, and written at the commit. */
+    one = begin(db, "a", "c");
+    OK(ucstore_db_transaction_merge(one, "b", 1, "3", 1));
+    OK(ucstore_db_transaction_delete(one, "a", 1));
+    OK(ucstore_db_transaction_delete_range(one, "x", 1, "y", 1));
+    CHECK(ucstore_db_transaction_get(one, "a", 1, room, 16, &size) == UCSTORE_DB_NOT_FOUND);
+    OK(ucstore_db_transaction_get_unchecked(one, "b", 1, room, 2, &size));
+    CHECK(size == 3 && memcmp(room, "2,", 2) == 0);
+    CHECK(ucstore_db_transaction_page(one, NULL, 0, NULL, 0, false, lengths, 6, room, 1, &rows, &size) == UCSTORE_DB_ROOM);
+    CHECK(rows == 9 && size == 4);
+    OK(ucstore_db_transaction_page(one, NULL, 0, NULL, 0, false, lengths, 2, room, 16, &rows, &size));
+    CHECK(rows == 1 && size == 4 && memcmp(room, "b2,3", 4) == 0 && lengths[0] == 1 && lengths[1] == 3);
+    OK(ucstore_db_transaction_page(one, "b\0", 2, "d", 1, true, lengths, 6, room, 16, &rows, &size));
+    CHECK(rows == 1 && size == 2 && memcmp(room, "c1", 2) == 0);
+    OK(ucstore_db_transaction_page(one, "c\0", 2, NULL, 0, false, lengths, 6, room, 16, &rows, &size));
+    CHECK(rows == 0 && size == 0 && has(db, "a", "1"));
+    OK(ucstore_db_transaction_commit(one));
+    CHECK(ucstore_db_transaction_commit(one) == UCSTORE_DB_CLOSED && ucstore_db_transaction_rollback(one) == UCSTORE_DB_CLOSED);
+    CHECK(ucstore_db_transaction_put(one, "a", 1, "1", 1) == UCSTORE_DB_CLOSED);
+    OK(ucstore_db_transaction_close(one));
+    CHECK(has(db, "b", "2,3") && has(db, "c", "1") && !has(db, "a", "1"));
+    /* A read that has changed is a conflict. */
+    one = begin(db, "a", "d");
+    put(db, "a", "1");
+    CHECK(is_refused(ucstore_db_transaction_commit(one), UCSTORE_DB_CONFLICT, "conflict: key \"a\" has changed"));
+    OK(ucstore_db_transaction_close(one));
+    one = begin(db, "a", "d");
+    OK(ucstore_db_transaction_page(one, "b", 1, "c", 1, true, lengths, 6, room, 16, &rows, &size));
+    put(db, "bb", "1");
+    CHECK(is_refused(ucstore_db_transaction_commit(one), UCSTORE_DB_CONFLICT, "range \"b\" to \"c\" has changed"));
+    OK(ucstore_db_transaction_close(one));
+    /* One that is rolled back, or closed, writes nothing. */
+    one = begin(db, "a", "d");
+    OK(ucstore_db_transaction_rollback(one));
+    OK(ucstore_db_transaction_close(one));
+    OK(ucstore_db_transaction_close(begin(db, "a", "d")));
+    CHECK(!has(db, "d", "1"));
+    /* A transaction outlives its database, and is refused. */
+    one = begin(db, "a", "d");
+    OK(ucstore_db_end(db));
+    CHECK(ucstore_db_transaction_commit(one) == UCSTORE_DB_CLOSED && ucstore_db_transaction_begin(db, &none) == UCSTORE_DB_CLOSED);
+    OK(ucstore_db_transaction_close(one));
+    OK(ucstore_db_close(db));
+}
+
 /* The events and the progress that callbacks have reported, and the last text. */
 struct told {
     pthread_mutex_t lock;
@@ -723,6 +790,7 @@ int main(int argc, char **argv) {
     try_back(db);
     try_pages(db);
     try_snapshots(db);
+    try_transactions();
     try_sources();
     try_backup();
     try_recovery();

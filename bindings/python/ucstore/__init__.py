@@ -33,8 +33,8 @@ from typing import (
 from ._operands import MergesParts, Part, checked, int_of
 
 __all__ = [
-    "BadOperand", "BadOption", "BatchFault", "BatchFull", "Checkpoint", "Closed", "Damaged", "Db", "DbBatch", "DbError",
-    "DbOptions", "DbSnapshot", "DbStats", "Delete", "DeleteRange", "End", "Ended", "Event", "EventKind", "FileFault",
+    "BadOperand", "BadOption", "BatchFault", "BatchFull", "Checkpoint", "Closed", "Conflict", "Damaged", "Db", "DbBatch", "DbError",
+    "DbOptions", "DbSnapshot", "DbStats", "DbTransaction", "Delete", "DeleteRange", "End", "Ended", "Event", "EventKind", "FileFault",
     "Forked", "IdsSpent", "Job", "Locked", "LogFault", "LogWrites", "LookupSource", "Merge", "Missing", "NoCheckpoint",
     "NoJob", "NoStore", "NoView", "NotABatch", "NotProtected", "NotRecoverable", "Operation", "Operator", "Options",
     "OtherDatabase", "OtherOperator", "OutOfMemory", "Part", "Progress", "Put", "ReadOnly", "Report", "RunsClaimed",
@@ -1319,7 +1319,8 @@ def log_writes(log: bytes) -> LogWrites:
 
 # At the end, since they import this module.
 from ._db import Db, DbBatch, DbSnapshot  # noqa: E402
+from ._db_transaction import DbTransaction  # noqa: E402
 from ._db_types import (  # noqa: E402
-    Closed, Damaged, DbError, DbOptions, DbStats, Event, EventKind, FileFault, Forked, Locked, Missing, NotRecoverable,
-    OtherDatabase, OtherOperator, Progress, ReadOnly, Sync,
+    Closed, Conflict, Damaged, DbError, DbOptions, DbStats, Event, EventKind, FileFault, Forked, Locked, Missing,
+    NotRecoverable, OtherDatabase, OtherOperator, Progress, ReadOnly, Sync,
 )

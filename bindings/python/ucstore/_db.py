@@ -12,15 +12,17 @@ import ctypes
 import os
 import weakref
 from types import TracebackType
-from typing import Callable, Iterable, Mapping, MutableMapping, Optional, Sequence, Tuple, Type, Union
+from typing import Callable, Iterable, Mapping, MutableMapping, Optional, Sequence, Tuple, Type, TypeVar, Union
 
 from . import Operator, UcstoreError
 from ._db_library import OK, Options, Stats, event_function, library, progress_function
 from ._db_reader import Alone, Bytes, Cursor, Reader, bytes_of
+from ._db_transaction import DbTransaction, transact
 from ._db_types import Closed, DbOptions, DbStats, Event, Progress
 from ._operands import MergesParts, Part, checked, int_of
 
 _Size, _U64 = ctypes.c_size_t, ctypes.c_uint64
+_Result = TypeVar("_Result")
 
 
 def _name(folder: Union[str, bytes, os.PathLike[str]]) -> bytes:
@@ -151,7 +153,7 @@ class Db(Reader, MutableMapping[bytes, bytes], MergesParts):
     [(b'colour', b'blue')]
 
     It is a `MutableMapping`. `len` reads all rows, and deleting a key that has no value is no error. `pop`, `popitem` and
-    `setdefault` read and then write, so a write of another thread may come in between.
+    `setdefault` read and then write, so a write of another thread may come in between: use `transact`.
 
     Keys and values are bytes or bytes-like. When a write returns, it is acknowledged, and durable unless the options say
     otherwise. Calls release the interpreter lock. After a fork only the parent can use the database: in the child its
@@ -298,6 +300,43 @@ class Db(Reader, MutableMapping[bytes, bytes], MergesParts):
         """
         text = bytes_of(batch)
         self._call("write_bytes", text, len(text), synced)
+
+    def transaction(self) -> DbTransaction:
+        """Begins a transaction, which commits when its `with` block ends without an exception. Raises `OutOfMemory`."""
+        if self._is_closed:
+            raise Closed()
+        return DbTransaction(self)
+
+    def transact(self, function: Callable[[DbTransaction], _Result]) -> _Result:
+        """Runs a function with a transaction, commits, and returns its result.
+
+        On a conflict it runs the function again, with a new transaction, at most 100 times, and waits longer each time. An
+        exception of the function ends it without a write. Raises `Conflict` after the last time, and what `write` does.
+
+        >>> with Db.in_memory() as db:
+        ...     db.transact(lambda t: t.put(b"count", t.get(b"count", b"") + b"|"))
+        ...     db[b"count"]
+        b'|'
+        """
+        if self._is_closed:
+            raise Closed()
+        return transact(self, function)
+
+    def compare_and_put(self, key: Bytes, expected: Optional[Bytes], new: Bytes) -> bool:
+        """Sets a key to a value if it has the expected one, None for none, and returns True if it had. Raises what `transact` does."""
+        wanted = None if expected is None else bytes_of(expected)
+
+        def put(transaction: DbTransaction) -> bool:
+            is_expected = transaction.get(key) == wanted
+            if is_expected:
+                transaction.put(key, new)
+            return is_expected
+
+        return self.transact(put)
+
+    def insert_if_absent(self, key: Bytes, value: Bytes) -> bool:
+        """Sets a key to a value if it has none, and returns True if it had none. Raises what `transact` does."""
+        return self.compare_and_put(key, None, value)
 
     def snapshot(self) -> DbSnapshot:
         """Takes a snapshot of the database as it is now; `with` closes it."""

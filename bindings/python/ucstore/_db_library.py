@@ -125,6 +125,17 @@ _SIGNATURES: Dict[str, Sequence[Any]] = {
     "cursor_last": (_Pointer,),
     "cursor_page": (_Pointer, *_PLACE, *_PLACE, _Pointer, _Pointer),
     "cursor_close": (_Pointer,),
+    "transaction_begin": (_Pointer, _Pointer),
+    "transaction_get": _GET,
+    "transaction_get_unchecked": _GET,
+    "transaction_page": (_Pointer, *_TEXT, *_TEXT, ctypes.c_bool, *_PLACE, *_PLACE, _Pointer, _Pointer),
+    "transaction_put": (_Pointer, *_TEXT, *_TEXT),
+    "transaction_merge": (_Pointer, *_TEXT, *_TEXT),
+    "transaction_delete": (_Pointer, *_TEXT),
+    "transaction_delete_range": (_Pointer, *_TEXT, *_TEXT),
+    "transaction_commit": (_Pointer,),
+    "transaction_rollback": (_Pointer,),
+    "transaction_close": (_Pointer,),
 }
 
 # Version of the library's binary interface.

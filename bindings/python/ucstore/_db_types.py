@@ -75,11 +75,18 @@ class OtherDatabase(DbError, ValueError):
     status, text = 75, "snapshot of another database"
 
 
+class Conflict(DbError):
+    """A key or a range that the transaction read has changed since it began. Its message names it."""
+
+    status, text = 76, "conflict with another write"
+
+
 _ERRORS: Dict[int, Type[UcstoreError]] = {
     error.status: error
     for error in (
         OutOfMemory, NotProtected, UnknownOperator, BadOption, IdsSpent, SequencesSpent, TooLong, NotABatch, SequenceBack, BatchFull,
         BadOperand, FileFault, Locked, Damaged, Missing, OtherOperator, ReadOnly, Closed, Forked, NotRecoverable, OtherDatabase,
+        Conflict,
     )
 }
 

@@ -184,14 +184,14 @@ impl Cursor {
 }
 
 /// Rows that are copied: the lengths of each key and each value, and their bytes.
-struct Page {
-    lengths: Room<u64>,
-    bytes: Room<u8>,
+pub(crate) struct Page {
+    pub(crate) lengths: Room<u64>,
+    pub(crate) bytes: Room<u8>,
 }
 
 impl Page {
     /// Adds a row, and tells whether it fitted.
-    fn add(&mut self, key: &[u8], value: &[u8]) -> bool {
+    pub(crate) fn add(&mut self, key: &[u8], value: &[u8]) -> bool {
         if self.lengths.left() < 2 || self.bytes.left() < key.len() + value.len() {
             return false;
         }
@@ -203,7 +203,7 @@ impl Page {
     }
 
     /// The number of rows.
-    fn rows(&self) -> usize {
+    pub(crate) fn rows(&self) -> usize {
         self.lengths.filled() / 2
     }
 }
@@ -213,7 +213,7 @@ impl Page {
 /// # Safety
 ///
 /// As for [`text`].
-unsafe fn bounds<'a>(
+pub(crate) unsafe fn bounds<'a>(
     low: *const c_void,
     low_length: usize,
     high: *const c_void,
@@ -229,7 +229,7 @@ unsafe fn bounds<'a>(
 }
 
 /// The end of a range below a key, if there is one.
-fn below(high: Option<&[u8]>) -> Bound<&[u8]> {
+pub(crate) fn below(high: Option<&[u8]>) -> Bound<&[u8]> {
     high.map_or(Bound::Unbounded, Bound::Excluded)
 }
 

@@ -4,7 +4,7 @@ use crate::call::Refusal;
 use crate::cursor::Cursor;
 use crate::process::Process;
 use crate::status::Status;
-use db::{Batch, Db, Snapshot};
+use db::{Batch, Db, Snapshot, Transaction};
 use std::sync::{Mutex, MutexGuard, PoisonError};
 
 /// Something that C holds the address of, and the process that has it.
@@ -21,6 +21,8 @@ pub type BatchHandle = Handle<Batch>;
 pub type SnapshotHandle = Handle<Mutex<Snapshot>>;
 /// `struct ucstore_db_cursor`.
 pub type CursorHandle = Handle<Cursor>;
+/// `struct ucstore_db_transaction`: none once it has ended.
+pub type TransactionHandle = Handle<Option<Transaction>>;
 
 // The header lets any thread use a database and a snapshot, and the others go from thread to thread.
 const _: () = {
@@ -30,6 +32,7 @@ const _: () = {
     is_shared::<Mutex<Snapshot>>();
     is_sent::<Batch>();
     is_sent::<Cursor>();
+    is_sent::<Transaction>();
 };
 
 impl SnapshotHandle {

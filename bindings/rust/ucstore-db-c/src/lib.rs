@@ -24,18 +24,20 @@ mod process;
 mod snapshot;
 mod stats;
 mod status;
+mod transaction;
 
 pub use batch::*;
 pub use call::ucstore_db_error_text;
 pub use cursor::*;
 pub use database::*;
 pub use events::{CEvent, CProgress, EventFunction, ProgressFunction};
-pub use handle::{BatchHandle, CursorHandle, DbHandle, Handle, SnapshotHandle};
+pub use handle::{BatchHandle, CursorHandle, DbHandle, Handle, SnapshotHandle, TransactionHandle};
 pub use operands::*;
 pub use options::{ucstore_db_options_init, COptions};
 pub use snapshot::*;
 pub use stats::{ucstore_db_stats, ucstore_db_stats_text, CStats};
 pub use status::Status;
+pub use transaction::*;
 
 /// The version of the binary interface. It changes when a function or a status changes its meaning.
 pub const ABI: u32 = 2;

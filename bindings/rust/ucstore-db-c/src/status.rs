@@ -63,6 +63,8 @@ pub enum Status {
     NotRecoverable = 74,
     /// Snapshot of another database.
     OtherDatabase = 75,
+    /// Conflict with another write.
+    Conflict = 76,
 }
 
 impl Status {
@@ -97,6 +99,7 @@ impl Status {
             Status::Internal => c"internal error",
             Status::NotRecoverable => c"cannot recover to the given sequence number",
             Status::OtherDatabase => c"snapshot of another database",
+            Status::Conflict => c"conflict with another write",
         }
     }
 }
@@ -111,6 +114,7 @@ impl From<&Error> for Status {
             Error::Missing { .. } => Status::Missing,
             Error::NotRecoverable { .. } => Status::NotRecoverable,
             Error::OtherDatabase => Status::OtherDatabase,
+            Error::Conflict(_) => Status::Conflict,
             Error::OtherOperator { .. } => Status::OtherOperator,
             Error::ReadOnly { .. } => Status::ReadOnly,
             Error::Closed => Status::Closed,
