@@ -17,7 +17,7 @@ import ucstore
 from ucstore import (
     BadOption, BatchFull, Closed, Damaged, Db, DbOptions, Delete, EventKind, FileFault, Forked, Locked, Merge, Missing, NotABatch,
     NotProtected, NotRecoverable, Operator, OtherDatabase, OtherOperator, Progress, Put, ReadOnly, SequenceBack, Sync, TooLong,
-    UcstoreError, UnknownOperator, _db, _db_library, _db_reader, batch_bytes,
+    UcstoreError, UnknownOperator, _db, _db_library, _db_reader, _db_transaction, batch_bytes,
 )
 
 THREADS = 8
@@ -735,7 +735,7 @@ class Speed(InFolder):
 
 class Pages(unittest.TestCase):
     def test_the_examples_of_the_pages(self):
-        for module in _db, _db_reader, ucstore:
+        for module in _db, _db_reader, _db_transaction, ucstore:
             failures, tried = doctest.testmod(module)
             self.assertEqual(failures, 0)
         self.assertGreater(tried, 0)
