@@ -987,6 +987,61 @@ static void folder_machine(void) {
     CHECK(memcmp(&folder, &old, sizeof old) == 0);
 }
 
+/* The run files that an opening finds, and a run that is missing. */
+static void run_folder_files(void) {
+    const uint64_t named[] = {3, 7}, listed[] = {9, 7, 3}, last[] = {UINT64_MAX};
+    uint64_t next = 77, missing = 77;
+    CHECK(ucstore_run_folder_find(named, 2, listed, 3, &next, &missing) == UCSTORE_OK && next == 10 && missing == 0);
+    CHECK(ucstore_run_folder_find(named, 2, listed, 2, &next, &missing) == UCSTORE_OK && next == 0 && missing == 3);
+    CHECK(ucstore_run_folder_find(NULL, 0, NULL, 0, &next, &missing) == UCSTORE_OK && next == 1 && missing == 0);
+    CHECK(ucstore_run_folder_find(NULL, 0, last, 1, &next, &missing) == UCSTORE_OK && next == 0 && missing == 0);
+}
+
+/* The checkpointer's next operation is this one, and is done. */
+static void expect_run_step(struct ucstore_folder_state *folder, struct ucstore_run_folder_state *runs, uint32_t kind, uint64_t number) {
+    struct ucstore_folder_step step = {99, 99, 99};
+    CHECK(ucstore_run_folder_next_checkpoint(folder, runs, &step) == UCSTORE_OK);
+    CHECK(step.kind == kind && step.number == number && step.count == 0);
+    CHECK(ucstore_run_folder_told_checkpoint(folder, runs, true) == UCSTORE_OK);
+}
+
+/* The machine of a folder whose checkpoint is a list: two runs, one of which the next list keeps. */
+static void run_folder_machine(void) {
+    const struct ucstore_folder_found found = {1, 0, 1, 2, 2, true};
+    const uint64_t named[] = {5, 6};
+    struct ucstore_folder_state folder;
+    struct ucstore_run_folder_state runs, old;
+    struct ucstore_folder_step step = {99, 99, 99};
+    CHECK(ucstore_folder_open(&found, 0, true, &folder) == UCSTORE_OK && ucstore_run_folder_open(&folder, 5, &runs) == UCSTORE_OK);
+    expect_step(&folder, ucstore_folder_next_write, ucstore_folder_told_write, UCSTORE_FOLDER_SYNC_NAMES, 0, 0);
+    expect_step(&folder, ucstore_folder_next_write, ucstore_folder_told_write, UCSTORE_FOLDER_SYNC_NAMES, 0, 0);
+    CHECK(ucstore_run_folder_ask_checkpoint(&folder, &runs, 2, 0, named, 1, NULL, 0, 2) == UCSTORE_OK && runs.next == 5);
+    CHECK(ucstore_run_folder_ask_checkpoint(&folder, &runs, 2, 0, NULL, 0, NULL, 0, 2) == UCSTORE_OK && runs.next == 7);
+    for (uint64_t run = 5; run < 7; run++) {
+        expect_run_step(&folder, &runs, UCSTORE_RUN_FOLDER_WRITE_RUN, run);
+        expect_run_step(&folder, &runs, UCSTORE_RUN_FOLDER_SYNC_RUN, run);
+    }
+    expect_run_step(&folder, &runs, UCSTORE_FOLDER_SYNC_NAMES, 0);
+    expect_run_step(&folder, &runs, UCSTORE_FOLDER_WRITE_BASE, 2);
+    expect_run_step(&folder, &runs, UCSTORE_FOLDER_SYNC_BASE, 0);
+    expect_run_step(&folder, &runs, UCSTORE_FOLDER_NAME_BASE, 2);
+    expect_run_step(&folder, &runs, UCSTORE_FOLDER_SYNC_NAMES, 0);
+    CHECK(!runs.is_read && folder.base == 2);
+    CHECK(ucstore_run_folder_next_removal(&folder, &runs, 4, named, 2, &step) == UCSTORE_OK && step.kind == UCSTORE_FOLDER_NOTHING);
+    expect_run_step(&folder, &runs, UCSTORE_RUN_FOLDER_READ_BACK, 0);
+    expect_run_step(&folder, &runs, UCSTORE_FOLDER_REMOVE_LOG, 1);
+    expect_run_step(&folder, &runs, UCSTORE_FOLDER_REMOVE_BASE, 1);
+    CHECK(ucstore_run_folder_next_removal(&folder, &runs, 5, named, 2, &step) == UCSTORE_OK && step.kind == UCSTORE_FOLDER_NOTHING);
+    CHECK(ucstore_run_folder_next_removal(&folder, &runs, 4, named, 2, &step) == UCSTORE_OK);
+    CHECK(step.kind == UCSTORE_RUN_FOLDER_REMOVE_RUN && step.number == 4);
+    runs.phase = 99;
+    old = runs;
+    step.kind = 77;
+    CHECK(ucstore_run_folder_next_checkpoint(&folder, &runs, &step) == UCSTORE_NO_FOLDER && step.kind == 77);
+    CHECK(ucstore_run_folder_told_checkpoint(&folder, &runs, true) == UCSTORE_NO_FOLDER);
+    CHECK(memcmp(&runs, &old, sizeof old) == 0);
+}
+
 /* The machine of a folder of whose last log five batches are kept. */
 static void folder_gives_up(void) {
     const struct ucstore_folder_found found = {1, 0, 1, 2, 3, true};
@@ -1523,6 +1578,8 @@ int main(int argc, char **argv) {
     folder_files();
     folder_machine();
     folder_gives_up();
+    run_folder_files();
+    run_folder_machine();
     for (uint32_t one = UCSTORE_APPEND; one <= UCSTORE_TAIL; one++) {
         soak(one, operations);
     }

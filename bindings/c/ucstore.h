@@ -337,6 +337,26 @@ enum ucstore_folder_kind {
     UCSTORE_FOLDER_REMOVE_BASE = 14  /* Remove the bases of number N, if there are any. */
 };
 
+/* The machine of a folder whose checkpoints are lists of run files, beside its `struct ucstore_folder_state`.
+ * `ucstore_run_folder_open` sets it, and only the functions of these folders change it. */
+struct ucstore_run_folder_state {
+    uint64_t next;          /* Number of the next run. */
+    uint64_t number;        /* The fields from here on are the phase. */
+    uint64_t past;
+    uint64_t run;
+    uint64_t last;
+    uint32_t phase;
+    bool is_read;           /* True if the newest list was read back with its runs. */
+};
+
+/* File operations on runs, after those of `enum ucstore_folder_kind`. N is `number`. */
+enum ucstore_run_folder_kind {
+    UCSTORE_RUN_FOLDER_WRITE_RUN = 15,  /* Write run N to a new file. */
+    UCSTORE_RUN_FOLDER_SYNC_RUN = 16,   /* Sync that file. */
+    UCSTORE_RUN_FOLDER_READ_BACK = 17,  /* Read the newest list and its runs, and compare their checksums. */
+    UCSTORE_RUN_FOLDER_REMOVE_RUN = 18  /* Remove run N, if it is there. */
+};
+
 /* Returns UCSTORE_ABI of the linked library. It changes when a function or a status changes its meaning, or a struct its size. A shared
  * library with another number has another name. */
 uint32_t ucstore_version(void);
@@ -767,6 +787,42 @@ int32_t ucstore_folder_ask_checkpoint(struct ucstore_folder_state *state, uint64
 /* Asks for an append of a batch, as `ucstore_folder_submit` does, and returns the writer's next operation.
  * UCSTORE_NO_FOLDER. */
 int32_t ucstore_folder_append(struct ucstore_folder_state *state, struct ucstore_folder_step *step);
+
+/* Sets `next` to the number of the next run of a folder that lists the run files `listed`, in any order, and whose newest list names the
+ * runs `named`; and `missing` to 0. If a run of the list is not listed, `missing` gets its number, and `next` 0. If a run has the greatest
+ * number, no number follows, and both get 0. */
+int32_t ucstore_run_folder_find(const uint64_t *named, size_t named_length, const uint64_t *listed, size_t listed_length,
+                                uint64_t *next, uint64_t *missing);
+
+/* Sets `runs` to the machine of a folder that `ucstore_folder_open` has opened. Its checkpoints are lists, each of which is a base for
+ * `state`: a file that names runs. A run is written once, to a file of its own number. `next` is the number from
+ * `ucstore_run_folder_find`. The checkpointer of `state` is asked by these functions alone, its other operations as before.
+ * UCSTORE_NO_FOLDER. */
+int32_t ucstore_run_folder_open(const struct ucstore_folder_state *state, uint64_t next, struct ucstore_run_folder_state *runs);
+
+/* Returns the next operation of the checkpointer: of `enum ucstore_folder_kind`, where a base is a list, or of
+ * `enum ucstore_run_folder_kind`. Nothing is removed before UCSTORE_RUN_FOLDER_READ_BACK is reported as done.
+ * UCSTORE_NO_FOLDER. */
+int32_t ucstore_run_folder_next_checkpoint(const struct ucstore_folder_state *state, const struct ucstore_run_folder_state *runs,
+                                           struct ucstore_folder_step *step);
+
+/* Reports whether that operation was done. The number of a run that failed is not used again.
+ * UCSTORE_NO_FOLDER. */
+int32_t ucstore_run_folder_told_checkpoint(struct ucstore_folder_state *state, struct ucstore_run_folder_state *runs, bool is_done);
+
+/* Asks for a list of the logs before `number`, and of `past` batches of the log of that number. It names the runs `kept`, each of which
+ * is one of the newest list's (`named`), and `count` new ones, with the numbers from `runs->next` on. Nothing changes if this is not
+ * possible now: `number` has to exceed that of each list before, and nothing is kept of a list that could not be read back.
+ * UCSTORE_NO_FOLDER. */
+int32_t ucstore_run_folder_ask_checkpoint(const struct ucstore_folder_state *state, struct ucstore_run_folder_state *runs,
+                                          uint64_t number, uint64_t past, const uint64_t *kept, size_t kept_length,
+                                          const uint64_t *named, size_t named_length, uint64_t count);
+
+/* Returns the operation that removes a run, if the newest list, which names the runs `named`, is the only one that can be read, and was
+ * read back, and does not name it. Otherwise there is nothing to do.
+ * UCSTORE_NO_FOLDER. */
+int32_t ucstore_run_folder_next_removal(const struct ucstore_folder_state *state, const struct ucstore_run_folder_state *runs,
+                                        uint64_t run, const uint64_t *named, size_t named_length, struct ucstore_folder_step *step);
 
 #ifdef __cplusplus
 }

@@ -23,3 +23,4 @@ pub mod Operands
 pub mod Checkpoints
 pub mod Folders
 pub mod Transactions
+pub mod RunFolders

@@ -246,6 +246,19 @@ pub struct ucstore_folder_step {
     pub kind: u32,
 }
 
+/// The machine of a folder whose checkpoints are lists of run files.
+#[repr(C)]
+#[derive(Clone, Copy, Debug, Default, PartialEq, Eq)]
+pub struct ucstore_run_folder_state {
+    pub next: u64,
+    pub number: u64,
+    pub past: u64,
+    pub run: u64,
+    pub last: u64,
+    pub phase: u32,
+    pub is_read: bool,
+}
+
 extern "C" {
     pub fn ucstore_version() -> u32;
     pub fn ucstore_options_init(options: *mut ucstore_options) -> i32;
@@ -656,5 +669,47 @@ extern "C" {
         state: *mut ucstore_folder_state,
         number: u64,
         past: u64,
+    ) -> i32;
+    pub fn ucstore_run_folder_find(
+        named: *const u64,
+        named_length: usize,
+        listed: *const u64,
+        listed_length: usize,
+        next: *mut u64,
+        missing: *mut u64,
+    ) -> i32;
+    pub fn ucstore_run_folder_open(
+        state: *const ucstore_folder_state,
+        next: u64,
+        runs: *mut ucstore_run_folder_state,
+    ) -> i32;
+    pub fn ucstore_run_folder_next_checkpoint(
+        state: *const ucstore_folder_state,
+        runs: *const ucstore_run_folder_state,
+        step: *mut ucstore_folder_step,
+    ) -> i32;
+    pub fn ucstore_run_folder_told_checkpoint(
+        state: *mut ucstore_folder_state,
+        runs: *mut ucstore_run_folder_state,
+        is_done: bool,
+    ) -> i32;
+    pub fn ucstore_run_folder_ask_checkpoint(
+        state: *const ucstore_folder_state,
+        runs: *mut ucstore_run_folder_state,
+        number: u64,
+        past: u64,
+        kept: *const u64,
+        kept_length: usize,
+        named: *const u64,
+        named_length: usize,
+        count: u64,
+    ) -> i32;
+    pub fn ucstore_run_folder_next_removal(
+        state: *const ucstore_folder_state,
+        runs: *const ucstore_run_folder_state,
+        run: u64,
+        named: *const u64,
+        named_length: usize,
+        step: *mut ucstore_folder_step,
     ) -> i32;
 }
