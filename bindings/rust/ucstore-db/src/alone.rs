@@ -25,7 +25,7 @@ impl Shared {
         };
         // A group of its own: with others in it, the batch would lose its sequence.
         let groups = Groups::default();
-        groups.join(batch, is_synced);
+        groups.join(batch, is_synced, false);
         let outcome = self.take(&mut log, &mut groups.close());
         drop(log);
         self.events.tell();

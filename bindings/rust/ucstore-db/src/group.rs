@@ -10,6 +10,10 @@ use std::sync::{Arc, Mutex, OnceLock};
 /// The most bytes of a group that isn't a single batch.
 const MOST_BYTES: usize = 1 << 20;
 
+/// The size in bytes up to which the leader's batch is small, and the most bytes that others may add to it: a small write doesn't wait for
+/// large ones.
+const SMALL_BYTES: usize = 128 << 10;
+
 /// Batches that are written as one.
 pub(crate) struct Group {
     /// A batch with their operations.
@@ -18,6 +22,8 @@ pub(crate) struct Group {
     pub(crate) is_synced: bool,
     /// The number of its batches.
     pub(crate) batches: u64,
+    /// The most bytes that it may have with others.
+    most: usize,
     /// There is one once another writer waits for it.
     outcome: Option<Arc<Outcome>>,
     /// The transactions among its batches, in their order.
@@ -57,23 +63,23 @@ pub(crate) struct Groups {
 }
 
 impl Groups {
-    /// Joins the group that is open, or opens one.
-    pub(crate) fn join(&self, batch: Vec<u8>, is_synced: bool) -> Role {
+    /// Joins the group that is open, or opens one. A writer that has waited for a group joins the next one also if that has to be synced for
+    /// it, or gets large by it: so it waits once.
+    pub(crate) fn join(&self, batch: Vec<u8>, is_synced: bool, has_waited: bool) -> Role {
         let mut open = lock(&self.open);
         let Some(group) = &mut *open else {
             *open = Some(Group::of(batch, is_synced));
             return Role::Leads;
         };
         let outcome = Arc::clone(group.outcome.get_or_insert_default());
-        if !group.add(&batch) {
+        if !group.add(&batch, is_synced, has_waited) {
             return Role::Waits(outcome, batch);
         }
-        group.is_synced |= is_synced;
         Role::Follows(outcome)
     }
 
     /// Joins the group that is open, unless that touches what the transaction has read, or opens one.
-    pub(crate) fn join_if(&self, candidate: Candidate, is_synced: bool) -> Turn {
+    pub(crate) fn join_if(&self, candidate: Candidate, is_synced: bool, has_waited: bool) -> Turn {
         let mut open = lock(&self.open);
         let Some(group) = &mut *open else {
             let (group, outcome) = Group::of_transaction(candidate, is_synced);
@@ -81,11 +87,11 @@ impl Groups {
             return Turn::Leads(outcome);
         };
         let begin = group.batch.len();
-        if !candidate.is_beside(&group.batch) || !group.add(&candidate.batch) {
+        if !candidate.is_beside(&group.batch) || !group.add(&candidate.batch, is_synced, has_waited)
+        {
             let outcome = group.outcome.get_or_insert_default();
             return Turn::Waits(Arc::clone(outcome), candidate);
         }
-        group.is_synced |= is_synced;
         Turn::Follows(group.push_member(candidate.into_parts(begin).1))
     }
 
@@ -98,10 +104,15 @@ impl Groups {
 impl Group {
     /// A group of one batch.
     fn of(batch: Vec<u8>, is_synced: bool) -> Group {
+        let most = match batch.len() {
+            size if size <= SMALL_BYTES => size + SMALL_BYTES,
+            _ => MOST_BYTES,
+        };
         Group {
             batch,
             is_synced,
             batches: 1,
+            most,
             outcome: None,
             members: Vec::new(),
         }
@@ -136,20 +147,23 @@ impl Group {
         }
     }
 
-    /// Adds a batch, and returns whether that was possible: the group may be full, or an allocation may fail.
-    fn add(&mut self, batch: &[u8]) -> bool {
-        let (Some(count), true) = (
-            count_of(&self.batch).checked_add(count_of(batch)),
-            self.batch.len() + batch.len() <= MOST_BYTES,
-        ) else {
+    /// Adds a batch, and returns whether that was possible: the group may be full, an allocation may fail, or the batch would make it wait
+    /// for a sync.
+    fn add(&mut self, batch: &[u8], is_synced: bool, has_waited: bool) -> bool {
+        let most = if has_waited { MOST_BYTES } else { self.most };
+        let Some(count) = count_of(&self.batch).checked_add(count_of(batch)) else {
             return false;
         };
+        if self.batch.len() + batch.len() > most || is_synced && !self.is_synced && !has_waited {
+            return false;
+        }
         if self.batch.try_reserve(batch.len()).is_err() {
             return false;
         }
         self.batch[8..HEADER_SIZE].copy_from_slice(&count.to_le_bytes());
         self.batch.extend_from_slice(&batch[HEADER_SIZE..]);
         self.batches += 1;
+        self.is_synced |= is_synced;
         true
     }
 }
@@ -184,8 +198,14 @@ mod tests {
     #[test]
     fn a_group_is_the_batch_of_its_batches() {
         let groups = Groups::default();
-        assert!(matches!(groups.join(batch("a", 3), false), Role::Leads));
-        assert!(matches!(groups.join(batch("b", 5), true), Role::Follows(_)));
+        assert!(matches!(
+            groups.join(batch("a", 3), true, false),
+            Role::Leads
+        ));
+        assert!(matches!(
+            groups.join(batch("b", 5), false, false),
+            Role::Follows(_)
+        ));
         let group = groups.close();
         let mut both = Batch::new();
         both.put("a", [7; 3]).unwrap().put("b", [7; 5]).unwrap();
@@ -194,11 +214,61 @@ mod tests {
     }
 
     #[test]
+    fn an_unsynced_group_takes_no_synced_batch() {
+        let groups = Groups::default();
+        groups.join(batch("a", 3), false, false);
+        assert!(matches!(
+            groups.join(batch("b", 5), true, false),
+            Role::Waits(..)
+        ));
+        assert!(matches!(
+            groups.join(batch("c", 5), false, false),
+            Role::Follows(_)
+        ));
+        let group = groups.close();
+        assert!(!group.is_synced && group.batches == 2);
+        groups.join(batch("a", 3), false, false);
+        assert!(matches!(
+            groups.join(batch("b", 5), true, true),
+            Role::Follows(_)
+        ));
+        assert!(groups.close().is_synced);
+    }
+
+    #[test]
+    fn a_small_write_waits_for_no_large_one() {
+        let groups = Groups::default();
+        groups.join(batch("a", 3), false, false);
+        assert!(matches!(
+            groups.join(batch("b", SMALL_BYTES), false, false),
+            Role::Waits(..)
+        ));
+        assert!(matches!(
+            groups.join(batch("c", SMALL_BYTES / 2), false, false),
+            Role::Follows(_)
+        ));
+        let waited = groups.join(batch("b", SMALL_BYTES), false, true);
+        assert!(matches!(waited, Role::Follows(_)));
+        groups.close();
+        groups.join(batch("a", 2 * SMALL_BYTES), false, false);
+        assert!(matches!(
+            groups.join(batch("b", SMALL_BYTES), false, false),
+            Role::Follows(_)
+        ));
+    }
+
+    #[test]
     fn a_group_may_be_full() {
         let groups = Groups::default();
-        groups.join(batch("a", MOST_BYTES), false);
-        assert!(matches!(groups.join(batch("b", 1), true), Role::Waits(..)));
+        groups.join(batch("a", MOST_BYTES), false, false);
+        assert!(matches!(
+            groups.join(batch("b", 1), false, false),
+            Role::Waits(..)
+        ));
         assert!(!groups.close().is_synced);
-        assert!(matches!(groups.join(batch("b", 1), true), Role::Leads));
+        assert!(matches!(
+            groups.join(batch("b", 1), true, false),
+            Role::Leads
+        ));
     }
 }

@@ -157,16 +157,20 @@ mod tests {
     fn a_transaction_joins_what_touches_none_of_its_reads() {
         let store = Store::create(Operator::Append, &Options::default()).unwrap();
         let groups = Groups::default();
-        let join = |read, keys: &[&str]| groups.join_if(candidate(&store, read, keys), false);
+        let join = |read, keys: &[&str]| groups.join_if(candidate(&store, read, keys), false, true);
         assert!(matches!(join("a", &["a", "b"]), Turn::Leads(_)));
         assert!(matches!(join("c", &["b", "c"]), Turn::Follows(_)));
         for touched in ["a", "b", "c"] {
             assert!(matches!(join(touched, &["d"]), Turn::Waits(..)));
         }
-        groups.join(Batch::new().delete("d").unwrap().bytes(), true);
+        groups.join(Batch::new().delete("d").unwrap().bytes(), true, true);
         assert!(matches!(join("d", &["d"]), Turn::Waits(..)));
         assert!(matches!(join("e", &[]), Turn::Follows(_)));
-        groups.join(Batch::new().delete_range("x", "y").unwrap().bytes(), false);
+        groups.join(
+            Batch::new().delete_range("x", "y").unwrap().bytes(),
+            false,
+            false,
+        );
         assert!(matches!(join("e", &["e"]), Turn::Waits(..)));
         let group = groups.close();
         assert!(group.is_synced && group.batches == 5 && group.members.len() == 3);
@@ -179,8 +183,8 @@ mod tests {
         let groups = Groups::default();
         let mut outcomes = Vec::new();
         for (read, keys) in [("r0", ["a", "b"]), ("r1", ["c", "d"]), ("r2", ["e", "f"])] {
-            groups.join(batch(&["usual"]), false);
-            match groups.join_if(candidate(&store, read, &keys), false) {
+            groups.join(batch(&["usual"]), false, false);
+            match groups.join_if(candidate(&store, read, &keys), false, false) {
                 Turn::Leads(outcome) | Turn::Follows(outcome) => outcomes.push(outcome),
                 Turn::Waits(..) => panic!("it joins"),
             }

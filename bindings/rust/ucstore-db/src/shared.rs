@@ -148,13 +148,15 @@ impl Shared {
     /// Writes a batch, with those of the writers that come meanwhile.
     pub(crate) fn write(&self, mut batch: Vec<u8>, is_synced: bool) -> Result<(), Error> {
         let wait = SpinWait::of(self.options.sync);
+        let mut has_waited = false;
         loop {
-            batch = match self.groups.join(batch, is_synced) {
+            batch = match self.groups.join(batch, is_synced, has_waited) {
                 Role::Leads => return self.lead(wait),
                 Role::Follows(outcome) => return outcome.wait(wait),
                 Role::Waits(outcome, batch) => {
                     // Errors of others are theirs.
                     let _ = outcome.wait(wait);
+                    has_waited = true;
                     batch
                 }
             }

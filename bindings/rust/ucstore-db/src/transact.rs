@@ -111,11 +111,11 @@ impl Shared {
     /// before.
     pub(crate) fn write_if(&self, mut candidate: Candidate, is_synced: bool) -> Result<(), Error> {
         let wait = SpinWait::of(self.options.sync);
-        for _ in 0..MOST_WAITS {
+        for waits in 0..MOST_WAITS {
             if !candidate.may_join() {
                 break;
             }
-            candidate = match self.groups.join_if(candidate, is_synced) {
+            candidate = match self.groups.join_if(candidate, is_synced, waits > 0) {
                 Turn::Leads(outcome) => {
                     // The outcome of the group is that of its others.
                     let _ = self.lead(wait);

@@ -89,6 +89,8 @@ struct State<'a> {
     scenario: &'a Scenario,
     groups: Groups,
     places: Vec<Place>,
+    /// The writers that have waited for a group.
+    waited: Vec<bool>,
     is_log_held: bool,
     /// The writers that are in a group, in their order.
     joined: Vec<u8>,
@@ -105,6 +107,7 @@ impl<'a> State<'a> {
             places: kinds
                 .map(|(it, kind)| Place::Comes(kind.batch(it)))
                 .collect(),
+            waited: vec![false; scenario.kinds.len()],
             is_log_held: false,
             joined: vec![],
             records: vec![],
@@ -147,6 +150,7 @@ impl<'a> State<'a> {
             Place::Follows(outcome) => Place::Told(outcome.wait(SpinWait::None)),
             Place::Waits(outcome, batch) => {
                 let _ = outcome.wait(SpinWait::None);
+                self.waited[writer] = true;
                 Place::Comes(batch)
             }
             Place::Told(_) => unreachable!("it isn't able to"),
@@ -157,9 +161,9 @@ impl<'a> State<'a> {
     }
 
     fn join(&mut self, writer: usize, batch: Vec<u8>) -> Place {
-        let role = self
-            .groups
-            .join(batch, self.scenario.kinds[writer].is_synced());
+        let (is_synced, has_waited) =
+            (self.scenario.kinds[writer].is_synced(), self.waited[writer]);
+        let role = self.groups.join(batch, is_synced, has_waited);
         if !matches!(role, Role::Waits(..)) {
             self.joined.push(writer as u8);
         }
@@ -223,7 +227,7 @@ impl<'a> State<'a> {
     fn outline(&self) -> String {
         let mut outline = Outline::default();
         let (held, joined, records) = (self.is_log_held, &self.joined, &self.records);
-        outline.text = format!("{held} {joined:?} {records:?}");
+        outline.text = format!("{held} {joined:?} {:?} {records:?}", self.waited);
         if let Some(group) = &*lock(&self.groups.open) {
             outline.add_group("open", group);
         }
