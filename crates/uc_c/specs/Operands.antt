@@ -3,7 +3,7 @@ use Rattle.std.specs.Prelude.{◌≡◌, ◌⊎◌, ◌<◌, ◌≤◌, ◌^◌,
 use Rattle.uc_mixed.specs.declared.part_kind.PartKind.{PartKind}
 use Rattle.uc_mixed.specs.Kinds.{kind_numbered}
 use Rattle.uc_mixed.specs.Parts.{part_bytes}
-use Rattle.uc_mixed.specs.Operands.{has_shape, is_operand}
+use Rattle.uc_mixed.specs.Operands.{has_shape}
 use Rattle.uc_c.specs.declared.status.TheConstants.{OK, OUT_OF_MEMORY, ROOM, TOO_LONG, UNKNOWN_OPERATOR, BAD_OPERAND}
 use Rattle.uc_c.specs.Room.{filled}
 

@@ -59,9 +59,5 @@ fn lay_operand(
 pub extern "C" fn ucstore_operand_check(operand: &[u8]) -> i32
     ensures { SaysOperand result (is_operand operand.now) }
 {
-    if is_operand(operand) {
-        OK
-    } else {
-        BAD_OPERAND
-    }
+    if is_operand(operand) { OK } else { BAD_OPERAND }
 }
