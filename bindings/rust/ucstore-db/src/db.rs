@@ -81,7 +81,7 @@ impl Db {
         let folder = match options {
             Options {
                 read_only: true, ..
-            } => DiskFolder::open_to_read(folder),
+            } => DiskFolder::open_beside(folder),
             Options {
                 must_exist: true, ..
             } => DiskFolder::open_existing(folder),

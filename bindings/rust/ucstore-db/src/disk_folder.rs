@@ -11,6 +11,9 @@ use std::process;
 /// The file that is locked.
 const LOCK: &str = "LOCK";
 
+/// The most times that a directory is listed until two lists agree.
+const MOST_LISTS: usize = 1000;
+
 /// A folder of the file system, which is locked until this is dropped.
 ///
 /// Its path is made absolute, so that it stays the same if the process goes to another directory.
@@ -19,7 +22,7 @@ pub struct DiskFolder {
     path: PathBuf,
     /// The directory itself, so that syncing its names needs no descriptor.
     directory: fs::File,
-    /// There is none in a folder without the file that was opened to be read.
+    /// There is none in a folder that was opened to be read, if it has no such file or is read beside its owner.
     lock: Option<fs::File>,
     /// The process that has locked it.
     process: u32,
@@ -74,6 +77,25 @@ impl DiskFolder {
         })
     }
 
+    /// Opens a folder in which there is a database, to read it also while its owner has it open. Nothing is locked or made, and changes
+    /// are rejected. Names are listed until two lists agree, since a file that is renamed meanwhile may be missing in one.
+    ///
+    /// # Errors
+    ///
+    /// [`Error::Missing`] if there is no database, [`Error::File`].
+    pub fn open_beside(path: impl AsRef<Path>) -> Result<DiskFolder, Error> {
+        let path = existing(path.as_ref())?;
+        let directory =
+            fs::File::open(&path).map_err(Error::of_file(&path.display().to_string()))?;
+        Ok(DiskFolder {
+            path,
+            directory,
+            lock: None,
+            process: process::id(),
+            is_read_only: true,
+        })
+    }
+
     /// Locks a folder of an absolute path.
     fn lock(path: PathBuf) -> Result<DiskFolder, Error> {
         let name = path.display().to_string();
@@ -118,7 +140,7 @@ fn existing(path: &Path) -> Result<PathBuf, Error> {
         }
         Err(error) => return Err(Error::of_file(&file)(error)),
     };
-    match names_of(&path) {
+    match settled_names_of(&path) {
         Ok(names) if names.iter().any(|name| is_database(name)) => Ok(path),
         Ok(_) => Err(Error::Missing { file }),
         Err(error) => Err(Error::of_file(&file)(error)),
@@ -180,6 +202,20 @@ fn names_of(path: &Path) -> io::Result<Vec<String>> {
         .collect()
 }
 
+/// The names of the files of a directory in which another process may rename and remove some.
+fn settled_names_of(path: &Path) -> io::Result<Vec<String>> {
+    let mut seen = None;
+    for _ in 0..MOST_LISTS {
+        let mut names = names_of(path)?;
+        names.sort_unstable();
+        if seen.as_ref() == Some(&names) {
+            return Ok(names);
+        }
+        seen = Some(names);
+    }
+    Err(io::ErrorKind::ResourceBusy.into())
+}
+
 /// Whether a file is a log or a base.
 pub(crate) fn is_database(name: &str) -> bool {
     matches!(Name::of(name), Some(Name::Log(_) | Name::Base(..)))
@@ -187,7 +223,10 @@ pub(crate) fn is_database(name: &str) -> bool {
 
 impl Folder for DiskFolder {
     fn names(&self) -> io::Result<Vec<String>> {
-        names_of(&self.path)
+        match self.is_read_only {
+            true => settled_names_of(&self.path),
+            false => names_of(&self.path),
+        }
     }
 
     fn length(&self, name: &str) -> io::Result<u64> {

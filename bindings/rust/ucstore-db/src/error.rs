@@ -87,6 +87,23 @@ impl Error {
         Error::of_file("")(io::Error::new(io::ErrorKind::ReadOnlyFilesystem, reason))
     }
 
+    /// The error of a folder whose files are removed or replaced each time that it is read.
+    pub(crate) fn unsettled() -> Error {
+        let reason = "the directory was changed each time that it was read";
+        Error::of_file("")(io::Error::new(io::ErrorKind::ResourceBusy, reason))
+    }
+
+    /// The error of a refresh of a database that doesn't follow an owner.
+    pub(crate) fn not_followed() -> Error {
+        let reason = "the database wasn't opened to be read, or only up to a sequence or a fault";
+        Error::of_file("")(io::Error::new(io::ErrorKind::Unsupported, reason))
+    }
+
+    /// Whether it says that a file isn't there.
+    pub(crate) fn is_not_found(&self) -> bool {
+        matches!(self, Error::File { error, .. } if error.kind() == io::ErrorKind::NotFound)
+    }
+
     /// The error that later writes get after this one.
     pub(crate) fn into_cause(self) -> Error {
         match self {

@@ -81,6 +81,11 @@ impl Newest {
         self.touched.note(batch);
     }
 
+    /// Notes that the store's next group may write each key, as [`note`](Newest::note) does.
+    pub(crate) fn note_all(&self) {
+        self.touched.note_all();
+    }
+
     /// Tells that the store has taken a group, before it is unlocked. It waits for no reader: one of these shows the view if it can't.
     pub(crate) fn raise(&self, store: &Store) {
         self.touched.count();

@@ -48,9 +48,9 @@ pub struct Options {
     pub checkpoint_least: u64,
     /// Refuses to make a database: there has to be one in the folder. Nothing is made there then.
     pub must_exist: bool,
-    /// Opens a database to read it: there has to be one, nothing in its folder is changed, and writes are refused. While it opens, others
-    /// may read the folder too, and no owner may have it open; after that it needs the folder no more. What a crash left at the end of
-    /// the last log isn't read, and stays there. What is read may not be durable yet, if the process that wrote it was killed.
+    /// Opens a database to read it, also while another process has it open: there has to be one, nothing is locked, nothing in its folder
+    /// is changed, and writes are rejected. It has each write that was acknowledged before; [`Db::refresh`](crate::Db::refresh) catches up
+    /// with later ones. What is torn at the end of the last log isn't read, and stays there. What is read may not be durable yet.
     pub read_only: bool,
     /// Opens a damaged folder up to the damage. Nothing can be written then.
     pub recover_to_fault: bool,

@@ -4,6 +4,7 @@ use crate::counts::Counts;
 use crate::ending::{ending_of, is_batch, Ending};
 use crate::error::Error;
 use crate::folder::Folder;
+use crate::follower::Place;
 use crate::kept::SetAside;
 use crate::log::{Log, Older};
 use crate::name::Name;
@@ -13,6 +14,7 @@ use crate::pending_cleanup::PendingCleanup;
 use crate::reading::Reading;
 use crate::recovery_target::RecoveryTarget;
 use crate::replay::{Begin, Replay};
+use crate::settle::settle;
 use crate::windows::Windows;
 use std::mem;
 use std::sync::Arc;
@@ -175,6 +177,20 @@ impl Recovery {
         Ok(recovery)
     }
 
+    /// Reads a folder that an owner may change meanwhile.
+    pub(crate) fn read_beside(folder: &dyn Folder, options: &Options) -> Result<Recovery, Error> {
+        let whole = Options {
+            recover_to_fault: false,
+            ..options.clone()
+        };
+        match settle(folder, || Recovery::read(folder, &whole)) {
+            Err(Error::Damaged { .. }) if options.recover_to_fault => {
+                Recovery::read(folder, options)
+            }
+            outcome => outcome,
+        }
+    }
+
     /// Takes damage for the end of what is read, if the options say so.
     fn judge(&mut self, outcome: Result<(), Error>, options: &Options) -> Result<(), Error> {
         match outcome {
@@ -322,6 +338,11 @@ impl Recovery {
         }
     }
 
+    /// The place after the last batch.
+    pub(crate) fn place(&self) -> Place {
+        Place::of(self.number, self.length)
+    }
+
     /// The store, and its snapshots at the marks.
     pub(crate) fn into_store(self) -> (Store, Vec<View>) {
         (self.store, self.target.marks)
@@ -375,7 +396,7 @@ fn missing(number: u64) -> Error {
 }
 
 /// The error of a damaged file.
-fn damaged(name: Name, offset: u64, fault: String) -> Error {
+pub(crate) fn damaged(name: Name, offset: u64, fault: String) -> Error {
     Error::Damaged {
         file: name.text(),
         offset,

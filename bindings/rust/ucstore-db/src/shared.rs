@@ -6,6 +6,7 @@ use crate::counts::Counts;
 use crate::error::Error;
 use crate::event::{Event, Events};
 use crate::folder::Folder;
+use crate::follower::Follower;
 use crate::group::{Group, Groups, Role};
 use crate::holder::Holder;
 use crate::kept::SetAside;
@@ -34,6 +35,8 @@ pub(crate) struct Shared {
     pub(crate) checkpointing: Mutex<()>,
     /// Held while the next log is made.
     pub(crate) switching: Mutex<()>,
+    /// The place in the logs of the owner, if the database was opened to be read beside it.
+    pub(crate) follower: Option<Follower>,
     /// The log; none in memory, and once the database is closed.
     pub(crate) log: CachePadded<Mutex<Option<Log>>>,
     pub(crate) newest: Newest,
@@ -82,11 +85,17 @@ impl Shared {
             return Shared::of(store, None, None, options, Arc::default());
         };
         let counts = Arc::default();
-        let mut recovery = Recovery::read(&*folder, options)?;
+        let mut recovery = match options.read_only {
+            true => Recovery::read_beside(&*folder, options)?,
+            false => Recovery::read(&*folder, options)?,
+        };
         let fault = recovery.fault.take();
+        let is_followed = options.read_only && fault.is_none() && options.recover_to.is_none();
         if let Some(fault) = fault.or_else(|| options.read_only.then(Error::opened_to_read)) {
+            let follower = is_followed.then(|| Follower::of(folder, recovery.place()));
             let (store, marks) = recovery.into_store();
             return Ok(Shared {
+                follower,
                 marks: Mutex::new(marks),
                 ..Shared::of(store, None, Some(fault), options, counts)?
             });
@@ -119,6 +128,7 @@ impl Shared {
             options: options.clone(),
             checkpointing: Mutex::default(),
             switching: Mutex::default(),
+            follower: None,
             log: CachePadded(Mutex::new(log)),
             newest: Newest::default(),
             gathered: AtomicU64::new(gathered),

@@ -61,7 +61,12 @@ impl Touched {
                 None => return,
             }
         }
-        self.all.store(number, Ordering::Relaxed);
+        self.note_all();
+    }
+
+    /// Notes that the next group may write each key.
+    pub(crate) fn note_all(&self) {
+        self.all.store(self.groups() + 1, Ordering::Relaxed);
     }
 
     /// Counts the group that was noted, while the store is locked.

@@ -26,13 +26,22 @@ pub(crate) struct Windows<'a> {
 impl<'a> Windows<'a> {
     /// The windows of a file.
     pub(crate) fn of(folder: &'a dyn Folder, name: Name) -> Result<Windows<'a>, Error> {
+        Windows::from(folder, name, 0)
+    }
+
+    /// The windows of a file: the first one begins with the block of an offset, or of the file's end if that comes before it.
+    pub(crate) fn from(
+        folder: &'a dyn Folder,
+        name: Name,
+        offset: u64,
+    ) -> Result<Windows<'a>, Error> {
         let name = name.text();
         let length = folder.length(&name).map_err(Error::of_file(&name))?;
         let mut windows = Windows {
             folder,
             name,
             length,
-            begin: 0,
+            begin: block_of(offset.min(length)),
             bytes: vec![],
         };
         windows.read(WINDOW_SIZE)?;

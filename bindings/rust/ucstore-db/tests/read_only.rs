@@ -81,21 +81,25 @@ fn nothing_is_changed() {
 fn many_read_and_one_writes() {
     let folder = Temporary::new("many");
     torn(folder.path());
-    let one = DiskFolder::open_to_read(folder.path()).unwrap();
+    let locked = DiskFolder::open_to_read(folder.path()).unwrap();
     let db = Db::open(folder.path(), &to_read()).unwrap();
+    // A folder is locked by who lists its files, and not by who reads the database.
     assert!(matches!(
         Db::open(folder.path(), &Options::default()),
         Err(Error::Locked { .. })
     ));
-    drop(one);
-    // The database was read whole.
+    drop(locked);
     let owner = Db::open(folder.path(), &Options::default()).unwrap();
     owner.put("d", "4").unwrap();
     assert_eq!(map_of(&db).len(), 3);
     assert!(matches!(
-        Db::open(folder.path(), &to_read()),
+        DiskFolder::open_to_read(folder.path()),
         Err(Error::Locked { .. })
     ));
+    let other = Db::open(folder.path(), &to_read()).unwrap();
+    assert_eq!(map_of(&other).len(), 4);
+    assert_eq!(db.refresh().unwrap(), 4);
+    assert_eq!(map_of(&db).len(), 4);
 }
 
 #[test]

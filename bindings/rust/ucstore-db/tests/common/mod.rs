@@ -2,10 +2,12 @@
 #![allow(dead_code, unused_imports)]
 
 mod around;
+mod counted;
 mod device;
 mod history;
 
 pub use around::{Around, Over};
+pub use counted::{batch_of, counts_of, number, of_owner, of_reader, Ends, OPERATIONS, WRITERS};
 pub use device::{Call, Device, Extent};
 pub use history::{map_of, open, Histories, History, Map, Run};
 
