@@ -151,6 +151,38 @@ static void try_refused_folders(void) {
     CHECK(other == NULL);
 }
 
+static void try_readers(void) {
+    struct ucstore_db_options options = counters(), reading = options;
+    struct ucstore_db *owner, *reader = NULL;
+    uint64_t sequence = 0;
+    const char one[8] = {1};
+    char value[8];
+    size_t size = 0;
+    reading.read_only = 1;
+    CHECK(is_refused(ucstore_db_open(below("unread"), &reading, &reader), UCSTORE_DB_MISSING, "unread"));
+    CHECK(reader == NULL && access(below("unread"), F_OK) != 0);
+    owner = open_with("beside", &options);
+    OK(ucstore_db_merge(owner, "k", 1, one, 8));
+    reader = open_with("beside", &reading);
+    OK(ucstore_db_merge(owner, "k", 1, one, 8));
+    OK(ucstore_db_get(reader, "k", 1, value, 8, &size));
+    CHECK(size == 8 && value[0] == 1);
+    OK(ucstore_db_refresh(reader, &sequence));
+    OK(ucstore_db_get(reader, "k", 1, value, 8, &size));
+    CHECK(sequence == 2 && size == 8 && value[0] == 2);
+    OK(ucstore_db_checkpoint(owner));
+    OK(ucstore_db_merge(owner, "k", 1, one, 8));
+    OK(ucstore_db_refresh(reader, &sequence));
+    CHECK(sequence == 3);
+    CHECK(is_refused(ucstore_db_put(reader, "k", 1, one, 8), UCSTORE_DB_READ_ONLY, "opened to be read"));
+    CHECK(is_refused(ucstore_db_refresh(owner, &sequence), UCSTORE_DB_FILE, "wasn't opened to be read") && sequence == 3);
+    CHECK(ucstore_db_refresh(reader, NULL) == UCSTORE_DB_NULL && ucstore_db_refresh(NULL, &sequence) == UCSTORE_DB_NULL);
+    OK(ucstore_db_end(reader));
+    CHECK(ucstore_db_refresh(reader, &sequence) == UCSTORE_DB_CLOSED);
+    OK(ucstore_db_close(reader));
+    OK(ucstore_db_close(owner));
+}
+
 static void try_null(struct ucstore_db *db) {
     size_t size = 0;
     uint64_t lengths[2] = {1, 1};
@@ -779,6 +811,7 @@ int main(int argc, char **argv) {
     try_sizes_of_options();
     try_refused_options();
     try_refused_folders();
+    try_readers();
     try_fork();
     try_end();
     try_memory();

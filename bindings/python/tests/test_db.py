@@ -374,6 +374,31 @@ class Refusals(InFolder):
         with Db(self.folder, must_exist=True) as db:
             self.assertEqual(db[b"k"], b"v")
 
+    def test_a_reader_catches_up_with_the_owner(self):
+        with self.assertRaises(Missing):
+            Db(self.folder, read_only=True)
+        self.assertFalse(self.folder.exists())
+        with Db(self.folder) as owner:
+            owner[b"k"] = b"1"
+            with Db(self.folder, read_only=True) as reader, Db(self.folder, read_only=True) as other:
+                owner[b"k"] = b"2"
+                self.assertEqual(reader[b"k"], b"1")
+                self.assertEqual(reader.refresh(), 2)
+                self.assertEqual(reader[b"k"], b"2")
+                owner.checkpoint()
+                with owner.write_batch() as batch:
+                    batch.put(b"l", b"3")
+                    batch.delete(b"k")
+                for db in (reader, other):
+                    self.assertEqual(db.refresh(), 4)
+                    self.assertEqual(dict(db), {b"l": b"3"})
+                with self.assertRaisesRegex(ReadOnly, "opened to be read"):
+                    reader[b"k"] = b"4"
+                with self.assertRaisesRegex(FileFault, "wasn't opened to be read"):
+                    owner.refresh()
+            with self.assertRaises(Closed):
+                reader.refresh()
+
     def test_what_a_crash_left_is_set_aside(self):
         with Db(self.folder, options=DbOptions(sync=Sync.NEVER)) as db:
             db[b"k"] = b"v"

@@ -72,6 +72,9 @@ def main(folder: Path) -> None:
         db.checkpoint()
         last: int = db.backup(folder.with_name("backup"))
         print(last)
+    with Db(folder, must_exist=True, read_only=True) as reader:
+        reached: int = reader.refresh()
+        print(reached)
     with Db(folder, recover_to=7, give_up_until=8, marks=[3, 5]) as again, again.take_mark(3) as mark:
         again.checkpoint_to(mark.again())
         again.next_log()

@@ -175,8 +175,12 @@ class Db(Reader, MutableMapping[bytes, bytes], MergesParts):
         give_up_until: Optional[int] = None,
         marks: Sequence[int] = (),
         must_exist: bool = False,
+        read_only: bool = False,
     ) -> None:
         """Opens the database in a directory, which is created if it does not exist. With `must_exist` it raises `Missing` instead.
+
+        With `read_only` it opens a database that exists, also while another process has it open. Nothing is locked or written,
+        and `refresh` catches up with later writes.
 
         `progress` is called with the progress of the opening, and `events` with each event, by the thread that did the
         work, which waits for the call. Both may call the database, except its `close`.
@@ -191,7 +195,7 @@ class Db(Reader, MutableMapping[bytes, bytes], MergesParts):
         name = _name(folder)
         given = Options.of(operator, options)
         given.recover(recover_to, give_up_until, marks)
-        given.must_exist = must_exist
+        given.must_exist, given.read_only = must_exist, read_only
         self._begin(given, progress, events, "open", name)
 
     @classmethod
@@ -385,6 +389,19 @@ class Db(Reader, MutableMapping[bytes, bytes], MergesParts):
         """
         sequence = _U64()
         self._call("backup", _name(folder), ctypes.byref(sequence))
+        return sequence.value
+
+    def refresh(self) -> int:
+        """Catches up with the writes of another process, if the database was opened with `read_only`.
+
+        Returns the sequence number of the last write that it has then. It has each write that was acknowledged before the
+        call. Reads at the same time see whole batches, in order, and never an older state than an earlier read.
+
+        Raises `Damaged`, also if the files end before what was read, `Missing`, `OutOfMemory`, and `FileFault`, also if files
+        were replaced each time that they were read, or the database was not opened with `read_only`.
+        """
+        sequence = _U64()
+        self._call("refresh", ctypes.byref(sequence))
         return sequence.value
 
     def next_log(self) -> None:

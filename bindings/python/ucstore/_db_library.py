@@ -44,7 +44,7 @@ class Options(ctypes.Structure):
         ("slow_trigger", ctypes.c_uint32), ("checkpoint_ratio", _U64), ("checkpoint_least", _U64),
         ("recovers_to_fault", ctypes.c_uint32), ("progress", _ProgressFunction), ("progress_context", _Pointer),
         ("event", _EventFunction), ("event_context", _Pointer), ("recover_to", _U64), ("give_up_until", _U64),
-        ("marks", ctypes.POINTER(_U64)), ("marks_count", _Size), ("must_exist", ctypes.c_uint32), ("reserved", ctypes.c_uint32),
+        ("marks", ctypes.POINTER(_U64)), ("marks_count", _Size), ("must_exist", ctypes.c_uint32), ("read_only", ctypes.c_uint32),
         ("compact_when_idle_milliseconds", _U64),
     ]
 
@@ -102,6 +102,7 @@ _SIGNATURES: Dict[str, Sequence[Any]] = {
     "checkpoint": (_Pointer,),
     "checkpoint_to": (_Pointer, _Pointer),
     "backup": (_Pointer, ctypes.c_char_p, _Pointer),
+    "refresh": (_Pointer, _Pointer),
     "next_log": (_Pointer,),
     "failure": (_Pointer,),
     "stats": (_Pointer, _Pointer),

@@ -339,6 +339,17 @@ pub unsafe extern "C" fn ucstore_db_backup(
     })
 }
 
+/// Catches up with the owner of a database that was opened to be read.
+#[no_mangle]
+pub unsafe extern "C" fn ucstore_db_refresh(db: *const DbHandle, sequence: *mut u64) -> i32 {
+    call(|| {
+        // SAFETY: The caller guarantees the handle and the memory.
+        let (db, place) = unsafe { (Handle::get(db)?, Place::of(sequence)?) };
+        place.put(db.refresh()?);
+        Ok(())
+    })
+}
+
 /// Switches to a new log.
 #[no_mangle]
 pub unsafe extern "C" fn ucstore_db_next_log(db: *const DbHandle) -> i32 {

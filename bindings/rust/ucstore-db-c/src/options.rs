@@ -73,8 +73,8 @@ pub struct COptions {
     pub marks_count: usize,
     /// Nonzero to fail instead of creating a database.
     pub must_exist: u32,
-    /// Must be 0.
-    pub reserved: u32,
+    /// Nonzero to open a database to read it.
+    pub read_only: u32,
     /// Milliseconds without a write after which the database is compacted to one run; 0 for never.
     pub compact_when_idle_milliseconds: u64,
 }
@@ -112,7 +112,7 @@ impl COptions {
             checkpoint_ratio: self.checkpoint_ratio,
             checkpoint_least: self.checkpoint_least,
             must_exist: self.must_exist != 0,
-            read_only: false,
+            read_only: self.read_only != 0,
             recover_to_fault: self.recovers_to_fault != 0,
             recover_to: (self.recover_to != TO_THE_END).then_some(self.recover_to),
             give_up_until: self.give_up_until,
@@ -175,7 +175,7 @@ impl Default for COptions {
             marks: std::ptr::null(),
             marks_count: 0,
             must_exist: options.must_exist.into(),
-            reserved: 0,
+            read_only: options.read_only.into(),
             compact_when_idle_milliseconds: options
                 .compact_when_idle
                 .map_or(0, |after| after.as_millis() as u64),
