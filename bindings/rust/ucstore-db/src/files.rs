@@ -6,6 +6,7 @@ use crate::name::Name;
 use crate::operator_file::OPERATOR;
 use crate::windows::Windows;
 use std::cmp::Ordering;
+use std::io::ErrorKind;
 use std::ops::ControlFlow;
 use ucstore::{log_writes_at, BatchFault, Ended, LogPlace, Write};
 
@@ -63,7 +64,8 @@ pub struct WritesRead {
     pub length: u64,
 }
 
-/// Returns the files of a folder: first checkpoints and logs, in the order in which an opening reads them, and then the others by name.
+/// Returns the files of a folder: first checkpoints and logs, in the order in which an opening reads them, and then the others by name. One
+/// that an owner removes meanwhile may be left out.
 ///
 /// # Errors
 ///
@@ -79,13 +81,17 @@ pub fn files_of(folder: &dyn Folder) -> Result<Vec<FolderFile>, Error> {
         .iter()
         .filter_map(|(name, _)| name.filter(|name| matches!(name, Name::Base(..))));
     let base = bases.max();
-    let files = found.into_iter().map(|(name, text)| {
-        Ok(FolderFile {
+    let files = found.into_iter().filter_map(|(name, text)| {
+        let length = match folder.length(&text) {
+            Err(error) if error.kind() == ErrorKind::NotFound => return None,
+            outcome => outcome.map_err(Error::of_file(&text)),
+        };
+        Some(length.map(|length| FolderFile {
             kind: kind_of(name, &text),
-            length: folder.length(&text).map_err(Error::of_file(&text))?,
+            length,
             is_read: is_read(name, base) || text == OPERATOR,
             name: text,
-        })
+        }))
     });
     files.collect()
 }

@@ -8,11 +8,11 @@ use common::{
 };
 use std::collections::BTreeMap;
 use std::fs;
-use std::io::ErrorKind;
+use std::io::{self, ErrorKind};
 use std::sync::atomic::{AtomicBool, Ordering};
-use std::sync::Arc;
+use std::sync::{Arc, Mutex};
 use std::thread;
-use ucstore_db::{Db, Error, Folder, Options};
+use ucstore_db::{Db, Error, File, Folder, Options};
 
 /// An owner that makes no checkpoint by itself.
 fn without_checkpoints() -> Options {
@@ -130,6 +130,159 @@ fn several_logs_are_read_on() {
     owner.write_bytes(&bytes, true).unwrap();
     catches_up(&owner, &reader);
     catches_up(&owner, &other);
+}
+
+/// A step of an owner.
+type Step = fn(&Db);
+
+/// A device on which an owner does something between two calls of a reader.
+struct Between {
+    device: Device,
+    /// The number of calls before that, and the step.
+    planned: Mutex<Option<(u64, Db, Step)>>,
+}
+
+impl Between {
+    fn of(device: &Device) -> Arc<Between> {
+        Arc::new(Between {
+            device: device.clone(),
+            planned: Mutex::default(),
+        })
+    }
+
+    fn plan(&self, calls: u64, owner: &Db, step: Step) {
+        *self.planned.lock().unwrap() = Some((calls, owner.clone(), step));
+    }
+
+    /// Whether the step was done. It is forgotten if not.
+    fn is_done(&self) -> bool {
+        self.planned.lock().unwrap().take().is_none()
+    }
+
+    /// The device of a call, before which the step may be due.
+    fn call(&self) -> &Device {
+        let mut planned = self.planned.lock().unwrap();
+        match planned.take() {
+            Some((0, owner, step)) => step(&owner),
+            Some((calls, owner, step)) => *planned = Some((calls - 1, owner, step)),
+            None => {}
+        }
+        &self.device
+    }
+}
+
+impl Folder for Between {
+    fn names(&self) -> io::Result<Vec<String>> {
+        self.call().names()
+    }
+
+    fn length(&self, name: &str) -> io::Result<u64> {
+        self.call().length(name)
+    }
+
+    fn read(&self, name: &str) -> io::Result<Vec<u8>> {
+        self.call().read(name)
+    }
+
+    fn read_at(&self, name: &str, offset: u64, length: usize) -> io::Result<Vec<u8>> {
+        self.call().read_at(name, offset, length)
+    }
+
+    fn create(&self, _: &str) -> io::Result<Box<dyn File>> {
+        Err(ErrorKind::ReadOnlyFilesystem.into())
+    }
+
+    fn open(&self, _: &str) -> io::Result<Box<dyn File>> {
+        Err(ErrorKind::ReadOnlyFilesystem.into())
+    }
+
+    fn rename(&self, _: &str, _: &str) -> io::Result<()> {
+        Err(ErrorKind::ReadOnlyFilesystem.into())
+    }
+
+    fn remove(&self, _: &str) -> io::Result<()> {
+        Err(ErrorKind::ReadOnlyFilesystem.into())
+    }
+
+    fn sync(&self) -> io::Result<()> {
+        Err(ErrorKind::ReadOnlyFilesystem.into())
+    }
+}
+
+fn writes(owner: &Db) {
+    owner.write(&batch_of(3, 50)).unwrap();
+}
+
+/// The steps of an owner, which are done before and within a refresh.
+const STEPS: [Step; 7] = [
+    |_| {},
+    writes,
+    |owner| {
+        writes(owner);
+        owner.next_log().unwrap();
+    },
+    |owner| {
+        writes(owner);
+        owner.next_log().unwrap();
+        writes(owner);
+    },
+    |owner| owner.checkpoint().unwrap(),
+    |owner| {
+        writes(owner);
+        owner.checkpoint().unwrap();
+        writes(owner);
+    },
+    |owner| {
+        owner.checkpoint().unwrap();
+        writes(owner);
+        owner.checkpoint().unwrap();
+        owner.checkpoint().unwrap();
+        writes(owner);
+    },
+];
+
+/// Checks what a reader has, and that it has all of the owner's once it is refreshed.
+fn check_between(owner: &Db, reader: &Db, least: u64) {
+    let snapshot = reader.snapshot().unwrap();
+    assert!(
+        snapshot.sequence() >= least,
+        "an acknowledged write isn't seen"
+    );
+    counts_of(&snapshot);
+    catches_up(owner, reader);
+}
+
+#[test]
+fn anything_may_be_done_between_two_calls() {
+    let mut done = 0;
+    let befores = STEPS.iter().step_by(if is_long() { 1 } else { 3 });
+    for (before, within) in befores.flat_map(|step| STEPS.map(|other| (step, other))) {
+        for calls in 0.. {
+            let device = Device::default();
+            let folder = Between::of(&device);
+            let (owner, _) = pair(&device);
+            let reader = Db::open_on(folder.clone(), &of_reader(0)).unwrap();
+            before(&owner);
+            let least = owner.stats().last;
+            folder.plan(calls, &owner, within);
+            assert!(
+                reader.refresh().unwrap() >= least,
+                "an acknowledged write isn't seen"
+            );
+            let was_done = folder.is_done();
+            check_between(&owner, &reader, least);
+            let least = owner.stats().last;
+            folder.plan(calls, &owner, within);
+            let opened = Db::open_on(folder.clone(), &of_reader(0)).unwrap();
+            let was_opened = folder.is_done();
+            check_between(&owner, &opened, least);
+            if !was_done && !was_opened {
+                break;
+            }
+            done += 1;
+        }
+    }
+    assert!(done > 100, "{done}");
 }
 
 #[test]
