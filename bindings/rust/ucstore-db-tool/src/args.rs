@@ -2,7 +2,7 @@
 
 use crate::commands::{
     Backup, Checkpoint, Compact, Delete, DeleteRange, Dump, Get, Load, Log, Merge, Put, Repair,
-    Scan, Stats, Verify,
+    Scan, Stats, Verify, Watch,
 };
 use crate::form::Form;
 use clap::{Parser, Subcommand, ValueEnum};
@@ -14,7 +14,7 @@ Keys and values are UTF-8. \\\\ is a backslash, \\t a tab, \\n a line feed, \\r 
 for each byte instead. A line of output has a key, a tab, and its value.
 
 Commands that only read change nothing in the directory. While they open it, no other process may have it open, unless that reads \
-it too.
+it too; `watch` reads it beside its owner.
 
 Status: 0 done, 1 the key has no value, 2 a refused command line or input, or a directory that can't be opened, 3 a file is damaged \
 or missing, 4 out of memory, 5 a read or write fault.
@@ -73,6 +73,7 @@ pub enum Command {
     Compact(Compact),
     Repair(Repair),
     Log(Log),
+    Watch(Watch),
 }
 
 /// The name of a merge operator.

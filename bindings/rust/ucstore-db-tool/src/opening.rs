@@ -18,6 +18,12 @@ pub fn folder_to_read(args: &Args) -> Outcome<Arc<DiskFolder>> {
     Ok(Arc::new(folder))
 }
 
+/// Opens the directory to read it while another process may have it open.
+pub fn folder_beside(args: &Args) -> Outcome<Arc<DiskFolder>> {
+    let folder = DiskFolder::open_beside(&args.dir).map_err(Failure::of(&args.dir))?;
+    Ok(Arc::new(folder))
+}
+
 /// Opens the database of a directory to read it, with some more options.
 pub fn read_from(args: &Args, folder: Arc<DiskFolder>, options: &Options) -> Outcome<Db> {
     let bar = Bar::of_opening();

@@ -63,9 +63,14 @@ impl Output {
         outcome
     }
 
+    /// Writes the lines so far.
+    pub fn flush(&mut self) -> Outcome {
+        self.stream.flush().map_err(fault)
+    }
+
     /// Writes what is left.
     pub fn finish(mut self) -> Outcome {
-        self.stream.flush().map_err(fault)
+        self.flush()
     }
 }
 

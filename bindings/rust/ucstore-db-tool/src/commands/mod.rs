@@ -15,6 +15,7 @@ mod repair;
 mod scan;
 mod stats;
 mod verify;
+mod watch;
 
 pub use backup::Backup;
 pub use checkpoint::Checkpoint;
@@ -31,6 +32,7 @@ pub use repair::Repair;
 pub use scan::Scan;
 pub use stats::Stats;
 pub use verify::Verify;
+pub use watch::Watch;
 
 use crate::args::{Args, Command};
 use crate::failure::Outcome;
@@ -53,5 +55,6 @@ pub fn run(args: &Args) -> Outcome {
         Command::Compact(command) => command.run(args),
         Command::Repair(command) => command.run(args),
         Command::Log(command) => command.run(args),
+        Command::Watch(command) => command.run(args),
     }
 }
