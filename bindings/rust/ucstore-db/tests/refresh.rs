@@ -3,7 +3,7 @@
 mod common;
 
 use common::{
-    batch_of, counts_of, is_long, map_of, of_owner, of_reader, seed, Device, Ends, Numbers,
+    batch_of, counts_of, is_long, map_of, number, of_owner, of_reader, seed, Device, Ends, Numbers,
     Temporary, OPERATIONS, WRITERS,
 };
 use std::collections::BTreeMap;
@@ -308,6 +308,26 @@ fn checkpoints_may_be_made_meanwhile() {
             counts_of(&reader.snapshot().unwrap());
         }
     });
+}
+
+#[test]
+fn lookups_have_what_a_refresh_returned() {
+    let device = Device::default();
+    let (owner, reader) = pair(&device);
+    for round in 1..60u64 {
+        owner.put("k", round.to_le_bytes()).unwrap();
+        if round.is_multiple_of(5) {
+            // It is read anew then.
+            owner.next_log().unwrap();
+            owner.put("l", round.to_le_bytes()).unwrap();
+            owner.checkpoint().unwrap();
+        }
+        assert_eq!(reader.refresh().unwrap(), owner.stats().last);
+        // A thread that looks up often has a view of its own.
+        for _ in 0..10 {
+            assert_eq!(number(reader.get("k").unwrap()), round);
+        }
+    }
 }
 
 #[test]
