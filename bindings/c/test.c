@@ -865,9 +865,12 @@ static void skip(void) {
 static size_t marked_record(struct ucstore *of, uint64_t unsynced, uint64_t length, uint8_t *room, size_t room_length) {
     const uint8_t header[] = {0, 0, 0, 0, 0, 0, 0, 0, 1, 0, 0, 0}, body[] = {0, 1, 'a'};
     uint8_t batch[64], plain[sizeof header + sizeof body], expected[128];
-    struct ucstore_report report = {.size = sizeof report, .last = 99}, unknown = {.size = 8, .last = 99};
+    struct ucstore_report report, unknown;
     uint64_t before = 99;
     size_t size = 99, expected_size = 99;
+    report.size = sizeof report;
+    unknown.size = sizeof report - 1;
+    unknown.last = 99;
     memcpy(batch, header, sizeof header);
     CHECK(ucstore_log_mark_bytes(unsynced, batch + sizeof header, 12, &size) == UCSTORE_OK);
     memcpy(batch + sizeof header + size, body, sizeof body);
