@@ -30,7 +30,7 @@ FailsTo before reads batch e e' (Write error) = DeclinesBatch batch e e' error
 
 module _ (status : ℤ) (len : ℕ) (batch room room' : List ℕ) (size' changed' : ℕ) (reads : List Read) where
   -- No read is changed, and the writes of the batch are prepared, as far as the buffer has room for their record; or the first read
-  -- that is changed is told, and the engine is as it was; or the status says why the batch isn't taken.
+  -- that is changed is stored, and the engine is as it was; or the status says why the batch isn't taken.
   abbrev pub JudgesBatch : Viewed → Engined → Engined → Type 0
   JudgesBatch v e e' =
       (IsFirstChanged (value_before (meaning_of v.kind) v.seen) (value_now (meaning_of e.kind) e.live) reads None × IsTold status len batch room room' size' e e')
@@ -42,7 +42,7 @@ module _ (status : ℤ) (len : ℕ) (batch room room' : List ℕ) (size' changed
   PreparesIf view old new = Becomes status old new (λ e e'. MatchOption view ((status ≡ NO_VIEW) × (e' ≡ e)) (λ v. JudgesBatch v e e'))
 
 module _ (status : ℤ) (changed' : ℕ) (reads : List Read) where
-  -- No read is changed; or the first one that is is told; or allocation failed.
+  -- No read is changed; or the place of the first one that is changed is stored; or allocation failed.
   abbrev pub JudgesReads : Viewed → Engined → Type 0
   JudgesReads v e =
       ((status ≡ OK) × IsFirstChanged (value_before (meaning_of v.kind) v.seen) (value_now (meaning_of e.kind) e.live) reads None)

@@ -54,7 +54,7 @@ impl Db {
     ///
     /// # Errors
     ///
-    /// Those of the function and of [`Transaction::commit`]: [`Error::Conflict`] after the last try.
+    /// The errors of the function and of [`Transaction::commit`]: [`Error::Conflict`] after the last try.
     pub fn transact<T, E: From<Error>>(
         &self,
         mut body: impl FnMut(&mut Transaction) -> Result<T, E>,

@@ -124,7 +124,7 @@ fn several_logs_are_read_on() {
     catches_up(&owner, &reader);
     let other = Db::open_on(Arc::new(device.clone()), &of_reader(0)).unwrap();
     catches_up(&owner, &other);
-    // A jump of the sequences is told.
+    // A batch's record has the last sequence before a jump.
     let mut bytes = batch_of(1, 1).bytes();
     bytes[..8].copy_from_slice(&1000u64.to_le_bytes());
     owner.write_bytes(&bytes, true).unwrap();

@@ -98,7 +98,7 @@ impl Operand {
     ///
     /// # Errors
     ///
-    /// Those of [`of`](Operand::of).
+    /// The errors of [`of`](Operand::of).
     pub fn then(mut self, part: Part<'_>) -> Result<Operand, Error> {
         let next = Operand::of(part)?;
         self.bytes.try_reserve(next.bytes.len())?;

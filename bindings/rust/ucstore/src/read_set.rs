@@ -60,7 +60,7 @@ impl ReadSet {
     ///
     /// # Errors
     ///
-    /// Those of [`push_key`](ReadSet::push_key).
+    /// The errors of [`push_key`](ReadSet::push_key).
     pub fn push_range(&mut self, low: impl AsRef<[u8]>, high: Option<&[u8]>) -> Result<(), Error> {
         let (low, end) = (low.as_ref(), high.unwrap_or_default());
         check(unsafe {

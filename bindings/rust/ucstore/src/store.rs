@@ -492,7 +492,7 @@ impl Store {
     ///
     /// # Errors
     ///
-    /// Those of [`write_bytes`](Store::write_bytes).
+    /// The errors of [`write_bytes`](Store::write_bytes).
     ///
     /// # Panics
     ///
