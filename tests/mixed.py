@@ -30,6 +30,11 @@ PLANTS = {
     "bytes before the first part are ignored": ("(rest if rest or not parts else None)", "(None if parts else rest)"),
     "the parts are read from the end": ("parts.insert(0, found.part)", "parts.append(found.part)"),
     "a tail that begins a value is whole": ("payload[max(0, len(payload) - kind.parameter) :]", "payload"),
+    "a union keeps a twin": ("left = left[left[0] == least :]", "left = left[left[0] == least < right[0] :]"),
+    "a union loses the last members": ("set_bytes(merged + left + right)", "set_bytes(merged + left)"),
+    "a union takes the newer members first": ("least = min(left[0], right[0])", "least = right[0]"),
+    "a member that is cut off is a member": ("        if len(value) < end:\n", "        if len(value) < 2:\n"),
+    "a limited sum wraps": ("counted(min(number_of(older) + number_of(newer), LIMIT - 1))", "counted(number_of(older) + number_of(newer))"),
     "the sum of large numbers is cut": ("counted(number_of(older) + number_of(newer))", "counted(min(number_of(older) + number_of(newer), LIMIT - 1))"),
 }
 
@@ -58,7 +63,16 @@ def short_strings() -> List[bytes]:
     return [bytes(word) for size in range(4) for word in itertools.product(letters, repeat=size)]
 
 
-def drawn_payload(rng: random.Random) -> bytes:
+def drawn_members(rng: random.Random) -> bytes:
+    """Members, mostly in order, and sometimes cut off."""
+    those = [bytes(rng.choice([0, 1, 255]) for _ in range(rng.randrange(3))) for _ in range(rng.randrange(5))]
+    whole = model.set_bytes(those if rng.random() < 0.2 else sorted(set(those)))
+    return whole if rng.random() < 0.8 else whole[: rng.randrange(len(whole) + 1)]
+
+
+def drawn_payload(rng: random.Random, number: int = 0) -> bytes:
+    if number == model.SET_UNION and rng.random() < 0.9:
+        return drawn_members(rng)
     size = rng.choice([0, 1, 2, 3, 7, 8, 8, 8, 9, 12])
     return bytes(rng.choice([0, 1, 2, 4, 5, 10, 127, 128, 255]) for _ in range(size))
 
@@ -66,7 +80,7 @@ def drawn_payload(rng: random.Random) -> bytes:
 def drawn_part(rng: random.Random) -> Part:
     number = rng.choice(model.NUMBERS)
     parameter = {model.APPEND: rng.choice([0, 44]), model.TAIL: rng.choice([0, 1, 3, 300])}.get(number, 0)
-    return Part(Kind(number, parameter), drawn_payload(rng))
+    return Part(Kind(number, parameter), drawn_payload(rng, number))
 
 
 def drawn_operand(rng: random.Random, lengths: Lengths) -> bytes:
@@ -75,7 +89,7 @@ def drawn_operand(rng: random.Random, lengths: Lengths) -> bytes:
     for _ in range(rng.randrange(5)):
         again = parts and rng.random() < 0.4
         kind = parts[-1].kind if again else drawn_part(rng).kind
-        parts.append(Part(kind, drawn_payload(rng)))
+        parts.append(Part(kind, drawn_payload(rng, kind.number)))
     whole = bytearray(b"".join(model.spelled(part, lengths) for part in parts))
     for _ in range(rng.choice([0, 0, 0, 1, 2])):
         place = rng.randrange(len(whole) + 1)
@@ -116,6 +130,11 @@ WORKED: List[Tuple[Optional[bytes], List[Part], bytes]] = [
     (None, [Part(Kind(model.TAIL, 2), b"abc")], b"bc"),
     (b"\x07\x01", [Part(Kind(model.AND), b"\x06")], b"\x06\x00"),
     (b"abc", [Part(Kind(model.MAX_U64), bytes([1] + [0] * 7))], bytes([1] + [0] * 7)),
+    (bytes([254] + [255] * 7), [Part(Kind(model.ADD_U64), bytes([2] + [0] * 7))], bytes([255] * 8)),
+    (bytes([254] + [255] * 7), [Part(Kind(model.ADD_U64), bytes([1] + [0] * 7))], bytes([255] * 8)),
+    (b"\1\0a\2\0bb\1\0d", [Part(Kind(model.SET_UNION), b"\2\0bb\1\0c")], b"\1\0a\2\0bb\1\0c\1\0d"),
+    (b"\1\0b\1\0a\3\0cd", [Part(Kind(model.SET_UNION), b"\1\0a\1\0e")], b"\1\0a\1\0b\1\0a\1\0e"),
+    (None, [Part(Kind(model.SET_UNION), b"\1\0b"), Part(Kind(model.SET_UNION), b"\0\0")], b"\0\0\1\0b"),
 ]
 
 

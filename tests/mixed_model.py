@@ -5,11 +5,12 @@ before the first part replace the value, and so do bytes that end with no part.
 """
 
 from dataclasses import dataclass
-from typing import Callable, List, NamedTuple, Optional
+from typing import Callable, Iterable, List, NamedTuple, Optional
 
 ADD, MAX_BYTES, MIN_BYTES, SET, APPEND, OR, AND, XOR, MAX_REGISTERS, TAIL = range(1, 11)
-MAX_U64, MIN_U64 = 11, 12
-NUMBERS = range(ADD, MIN_U64 + 1)
+MAX_U64, MIN_U64, ADD_U64, SET_UNION = 11, 12, 13, 14
+NUMBERS = range(ADD, SET_UNION + 1)
+OF_NUMBERS = (ADD, MAX_U64, MIN_U64, ADD_U64)
 LIMIT = 2**64
 
 
@@ -47,6 +48,40 @@ def counted(number: int) -> bytes:
     return (number % LIMIT).to_bytes(8, "little")
 
 
+def members(value: bytes) -> List[bytes]:
+    """The members that are whole, in the order in which they stand: each is two bytes of its length, low byte first, and its bytes."""
+    found = []
+    while len(value) >= 2:
+        end = 2 + int.from_bytes(value[:2], "little")
+        if len(value) < end:
+            break
+        found.append(value[2:end])
+        value = value[end:]
+    return found
+
+
+def set_bytes(those: Iterable[bytes]) -> bytes:
+    return b"".join(len(member).to_bytes(2, "little") + member for member in those)
+
+
+def union(older: bytes, newer: bytes) -> bytes:
+    """The lesser of the first members comes first, and once if both have it."""
+    left, right = members(older), members(newer)
+    merged = []
+    while left and right:
+        least = min(left[0], right[0])
+        merged.append(least)
+        left = left[left[0] == least :]
+        right = right[right[0] == least :]
+    return set_bytes(merged + left + right)
+
+
+def is_set(value: bytes) -> bool:
+    """Whether the bytes are members that ascend, and nothing else."""
+    those = members(value)
+    return set_bytes(those) == value and those == sorted(set(those))
+
+
 def bytewise(function: Callable[[int, int], int], older: bytes, newer: bytes) -> bytes:
     """Byte by byte; the shorter one is filled with zeros."""
     longest = max(len(older), len(newer))
@@ -56,7 +91,7 @@ def bytewise(function: Callable[[int, int], int], older: bytes, newer: bytes) ->
 
 def first(kind: Kind, payload: bytes) -> bytes:
     """The value that a part makes if there is none."""
-    if kind.number in (ADD, MAX_U64, MIN_U64):
+    if kind.number in OF_NUMBERS:
         return counted(number_of(payload))
     if kind.number == TAIL:
         return payload[max(0, len(payload) - kind.parameter) :]
@@ -72,6 +107,10 @@ def combined(kind: Kind, older: bytes, newer: bytes) -> bytes:
         return counted(max(number_of(older), number_of(newer)))
     if number == MIN_U64:
         return counted(min(number_of(older), number_of(newer)))
+    if number == ADD_U64:
+        return counted(min(number_of(older) + number_of(newer), LIMIT - 1))
+    if number == SET_UNION:
+        return union(older, newer)
     if number == MAX_BYTES:
         return max(older, newer)
     if number == MIN_BYTES:
@@ -171,8 +210,14 @@ def pair(older: bytes, newer: bytes, lengths: Lengths = Lengths()) -> bytes:
     return joined(older, parts[0], lengths) + b"".join(spelled(part, lengths) for part in parts[1:])
 
 
+def has_shape(part: Part) -> bool:
+    """Numbers have 8 bytes, and a set its members in order."""
+    if part.kind.number in OF_NUMBERS:
+        return len(part.payload) == 8
+    return part.kind.number != SET_UNION or is_set(part.payload)
+
+
 def is_operand(operand: bytes) -> bool:
     """Whether the bytes are parts and nothing else, each with a payload of its shape."""
     front, parts = parts_of(operand)
-    numbers = (ADD, MAX_U64, MIN_U64)
-    return front is None and all(kind.number not in numbers or len(payload) == 8 for kind, payload in parts)
+    return front is None and all(has_shape(part) for part in parts)

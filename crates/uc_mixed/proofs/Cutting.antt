@@ -103,8 +103,8 @@ short_spelled n lt ne =
     sym (ap (λ (b : Bool). if b then n ∷ [] else long_bytes n) short)
 
 -- a number that no operator has
-pub unknown_number : (n : ℕ) (before : List ℕ) → n ≢ 1 → n ≢ 2 → n ≢ 3 → n ≢ 4 → n ≢ 5 → n ≢ 6 → n ≢ 7 → n ≢ 8 → n ≢ 9 → n ≢ 10 → n ≢ 11 → n ≢ 12 → numbered_back n before ≡ None
-unknown_number n before a b c d e f g h i j k l = rw (no n 1 a, no n 2 b, no n 3 c, no n 4 d, no n 5 e, no n 6 f, no n 7 g, no n 8 h, no n 9 i, no n 10 j, no n 11 k, no n 12 l) refl
+pub unknown_number : (n : ℕ) (before : List ℕ) → n ≢ 1 → n ≢ 2 → n ≢ 3 → n ≢ 4 → n ≢ 5 → n ≢ 6 → n ≢ 7 → n ≢ 8 → n ≢ 9 → n ≢ 10 → n ≢ 11 → n ≢ 12 → n ≢ 13 → n ≢ 14 → numbered_back n before ≡ None
+unknown_number n before a b c d e f g h i j k l o p = rw (no n 1 a, no n 2 b, no n 3 c, no n 4 d, no n 5 e, no n 6 f, no n 7 g, no n 8 h, no n 9 i, no n 10 j, no n 11 k, no n 12 l, no n 13 o, no n 14 p) refl
   where
     no : (n m : ℕ) → n ≢ m → (n == m) ≡ false
     no n m ne = grind (arith, nat_tests)

@@ -3,3 +3,4 @@ pub mod Padding
 pub mod Placed
 pub mod Walking
 pub mod Adding
+mod Uniting

@@ -14,12 +14,17 @@
 -- |     10 | tail          | bytes; parameter: a count      | its last bytes | the last bytes of the older one and the newer|
 -- |     11 | max_u64       | 8 bytes, low byte first        | its number     | the greater number                           |
 -- |     12 | min_u64       | 8 bytes, low byte first        | its number     | the lesser number                            |
+-- |     13 | add_u64       | 8 bytes, low byte first        | its number     | the sum, at most 2^64 - 1                    |
+-- |     14 | set_union     | members, each 2 bytes of its   | the payload    | the members of either, once and in order     |
+-- |        |               | length and its bytes, ascending|                |                                              |
 --
--- A base of another shape: numbers take a value that hasn't 8 bytes for 0. Byte by byte, the shorter one is filled with zeros. All others
--- take any bytes as they are, so a value that was put is longer than a tail until it is merged.
+-- A base of another shape: numbers take a value that hasn't 8 bytes for 0. Byte by byte, the shorter one is filled with zeros. A union
+-- takes the members that are whole, in the order in which they stand. All others take any bytes as they are, so a value that was put is
+-- longer than a tail until it is merged.
 --
--- Sums that stop at a greatest number aren't here: an addition and a subtraction of signed numbers that stop don't group freely. Of
--- numbers without a sign they would, and can be added with the number 13. Sets of byte strings aren't here yet.
+-- Sums of signed numbers that stop at a greatest and a least number don't group freely: of 2^63 - 1, 1 and -1 the first two stop at
+-- 2^63 - 1, which gives 2^63 - 2, and the last two are 0, which gives 2^63 - 1. Nor does a removal of members, over a value that isn't
+-- sorted, by one walk: the union of two operands is sorted, and meets other members of it than each of them.
 use Rattle.std.specs.Prelude.{◌≡◌, ℕ, ◌==◌, nat_lt, Bool, true, false, ◌&&◌, Option, Some, None, List, max, bit_and, bit_or, bit_xor, if◌then◌else◌}
 use Rattle.std.proofs.Common.{ap, ◌∙◌, sym, refl}
 use Rattle.std.proofs.lemmas.Bool.{eqb-true, eq-eqb}
@@ -28,11 +33,12 @@ use Rattle.uc_oper.specs.Counting.{counted, number, sum_of, counting_lawful}
 use Rattle.uc_oper.specs.Appending.{appended, appending_lawful}
 use Rattle.uc_oper.specs.Greatest.{greater_of, greatest_lawful}
 use Rattle.uc_oper.specs.Tails.{last_bytes, last_of_both, tail_lawful}
-use Rattle.uc_mixed.specs.Numbers.{greater_number, lesser_number, greater_number_lawful, lesser_number_lawful}
+use Rattle.uc_mixed.specs.Numbers.{greater_number, lesser_number, limited_sum, greater_number_lawful, lesser_number_lawful, limited_sum_lawful}
 use Rattle.uc_mixed.specs.Bytewise.{bytewise, or_bytes_assoc, and_bytes_assoc, xor_bytes_assoc, max_bytes_assoc}
 use Rattle.uc_mixed.specs.Least.{lesser_of, lesser_assoc}
+use Rattle.uc_mixed.specs.Sets.{union_of, union_assoc}
 use Rattle.uc_mixed.specs.declared.part_kind.PartKind.{PartKind}
-use Rattle.uc_mixed.specs.declared.part_kind.PartKind.TheVariants.{Add, MaxBytes, MinBytes, Set, Append, Or, And, Xor, MaxRegisters, Tail, MaxU64, MinU64}
+use Rattle.uc_mixed.specs.declared.part_kind.PartKind.TheVariants.{Add, MaxBytes, MinBytes, Set, Append, Or, And, Xor, MaxRegisters, Tail, MaxU64, MinU64, AddU64, SetUnion}
 
 -- the value that a part makes if there is none
 abbrev pub begun : PartKind → List ℕ → List ℕ
@@ -48,6 +54,8 @@ begun MaxRegisters x = x
 begun (Tail count) x = last_bytes count x
 begun MaxU64 x = counted (number x)
 begun MinU64 x = counted (number x)
+begun AddU64 x = counted (number x)
+begun SetUnion x = x
 
 -- the value that a part makes of the one before it; also the payload that replaces those of two adjacent parts
 abbrev pub combined : PartKind → List ℕ → List ℕ → List ℕ
@@ -63,6 +71,8 @@ combined MaxRegisters x y = bytewise max x y
 combined (Tail count) x y = last_of_both count x y
 combined MaxU64 x y = greater_number x y
 combined MinU64 x y = lesser_number x y
+combined AddU64 x y = limited_sum x y
+combined SetUnion x y = union_of x y
 
 abbrev pub operation_of : PartKind → Operation
 operation_of kind = record { first = begun kind; join = combined kind; pair = combined kind }
@@ -84,6 +94,8 @@ operation_lawful MaxRegisters = plain_lawful (bytewise max) max_bytes_assoc
 operation_lawful (Tail count) = tail_lawful count
 operation_lawful MaxU64 = greater_number_lawful
 operation_lawful MinU64 = lesser_number_lawful
+operation_lawful AddU64 = limited_sum_lawful
+operation_lawful SetUnion = plain_lawful union_of union_assoc
 
 -- the number of an operator
 abbrev pub number_of : PartKind → ℕ
@@ -99,6 +111,8 @@ number_of MaxRegisters = 9
 number_of (Tail count) = 10
 number_of MaxU64 = 11
 number_of MinU64 = 12
+number_of AddU64 = 13
+number_of SetUnion = 14
 
 -- its parameter, or 0 if it has none
 abbrev pub parameter_of : PartKind → ℕ
@@ -114,6 +128,8 @@ parameter_of MaxRegisters = 0
 parameter_of (Tail count) = count
 parameter_of MaxU64 = 0
 parameter_of MinU64 = 0
+parameter_of AddU64 = 0
+parameter_of SetUnion = 0
 
 abbrev pub same_kind : PartKind → PartKind → Bool
 same_kind a b = (number_of a == number_of b) && (parameter_of a == parameter_of b)
@@ -126,7 +142,8 @@ abbrev kind_with : ℕ → ℕ → PartKind
 kind_with n p =
     if n == 1 then Add else if n == 2 then MaxBytes else if n == 3 then MinBytes else if n == 4 then Set
     else if n == 5 then Append p else if n == 6 then Or else if n == 7 then And else if n == 8 then Xor
-    else if n == 9 then MaxRegisters else if n == 10 then Tail p else if n == 11 then MaxU64 else MinU64
+    else if n == 9 then MaxRegisters else if n == 10 then Tail p else if n == 11 then MaxU64
+    else if n == 12 then MinU64 else if n == 13 then AddU64 else SetUnion
 
 kind_with-own : (kind : PartKind) → kind_with (number_of kind) (parameter_of kind) ≡ kind
 kind_with-own Add = refl
@@ -141,6 +158,8 @@ kind_with-own MaxRegisters = refl
 kind_with-own (Tail count) = refl
 kind_with-own MaxU64 = refl
 kind_with-own MinU64 = refl
+kind_with-own AddU64 = refl
+kind_with-own SetUnion = refl
 
 pub same_kind-equal : (a b : PartKind) → same_kind a b ≡ true → a ≡ b
 same_kind-equal a b e =
@@ -172,13 +191,16 @@ is_set-equal MaxRegisters e = absurd cc
 is_set-equal (Tail count) e = absurd cc
 is_set-equal MaxU64 e = absurd cc
 is_set-equal MinU64 e = absurd cc
+is_set-equal AddU64 e = absurd cc
+is_set-equal SetUnion e = absurd cc
 
 -- the operator with a number, of those without a parameter
 abbrev pub plain_numbered : ℕ → Option PartKind
 plain_numbered n =
     if n == 1 then Some Add else if n == 2 then Some MaxBytes else if n == 3 then Some MinBytes else if n == 4 then Some Set
     else if n == 6 then Some Or else if n == 7 then Some And else if n == 8 then Some Xor else if n == 9 then Some MaxRegisters
-    else if n == 11 then Some MaxU64 else if n == 12 then Some MinU64 else None
+    else if n == 11 then Some MaxU64 else if n == 12 then Some MinU64 else if n == 13 then Some AddU64
+    else if n == 14 then Some SetUnion else None
 
 -- the operator with a number and a parameter: a delimiter is a byte, a tail has fewer than 2^16 bytes, and the others have 0
 abbrev pub kind_numbered : ℕ → ℕ → Option PartKind

@@ -1,5 +1,6 @@
 pub mod Bytewise
 pub mod Least
+pub mod Sets
 pub mod Numbers
 pub mod Kinds
 pub mod Parts

@@ -1,5 +1,5 @@
--- The greater and the lesser of two numbers of 64 bits. Numbers are spelled as a counter's are.
-use Rattle.std.specs.Prelude.{◌≡◌, ℕ, ◌%◌, ◌^◌, ◌<◌, List, max, min}
+-- The greater and the lesser of two numbers of 64 bits, and their sum if it has 64 bits. Numbers are spelled as a counter's are.
+use Rattle.std.specs.Prelude.{◌≡◌, ℕ, ◌+◌, ◌-◌, ◌%◌, ◌^◌, ◌<◌, List, max, min}
 use Rattle.std.specs.Int.{w64, to_le_bytes}
 use Rattle.std.proofs.Common.{ap, ◌∙◌, sym, arith}
 use Rattle.std.proofs.lemmas.Nat.{from_le_bytes-to_le_bytes_8}
@@ -15,6 +15,10 @@ greater_number x y = counted (max (bounded x) (bounded y))
 
 abbrev pub lesser_number : List ℕ → List ℕ → List ℕ
 lesser_number x y = counted (min (bounded x) (bounded y))
+
+-- the sum, or the greatest number if it is greater
+abbrev pub limited_sum : List ℕ → List ℕ → List ℕ
+limited_sum x y = counted (min (bounded x + bounded y) (2 ^ 64 - 1))
 
 -- a number is read as it was written
 read : (n : ℕ) → bounded (counted n) ≡ n % 2 ^ 64
@@ -53,3 +57,6 @@ greater_number_lawful = by_number_lawful max (λ a b p q. omega arith) (λ a b c
 
 pub lesser_number_lawful : IsLawful (by_number min)
 lesser_number_lawful = by_number_lawful min (λ a b p q. omega arith) (λ a b c. omega arith)
+
+pub limited_sum_lawful : IsLawful (by_number (λ a b. min (a + b) (2 ^ 64 - 1)))
+limited_sum_lawful = by_number_lawful (λ a b. min (a + b) (2 ^ 64 - 1)) (λ a b p q. omega arith) (λ a b c. omega arith)

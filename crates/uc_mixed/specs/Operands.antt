@@ -3,10 +3,11 @@ use Rattle.std.specs.Prelude.{◌≡◌, ℕ, ◌≤◌, ◌==◌, Bool, true, f
 use Rattle.std.proofs.Common.{zero, suc, ap, ◌∙◌, sym, refl, arith}
 use Rattle.std.proofs.lemmas.List.{nil_from_length}
 use Rattle.uc_mixed.specs.declared.part_kind.PartKind.{PartKind}
-use Rattle.uc_mixed.specs.declared.part_kind.PartKind.TheVariants.{Add, MaxBytes, MinBytes, Set, Append, Or, And, Xor, MaxRegisters, Tail, MaxU64, MinU64}
+use Rattle.uc_mixed.specs.declared.part_kind.PartKind.TheVariants.{Add, MaxBytes, MinBytes, Set, Append, Or, And, Xor, MaxRegisters, Tail, MaxU64, MinU64, AddU64, SetUnion}
+use Rattle.uc_mixed.specs.Sets.{is_set_of_members}
 use Rattle.uc_mixed.specs.Parts.{Cut, cut, part_bytes, cut-part, cut-shorter}
 
--- numbers have eight bytes
+-- numbers have eight bytes, and the members of a set are whole and ascend
 abbrev pub has_shape : PartKind → List ℕ → Bool
 has_shape Add payload = length payload == 8
 has_shape MaxBytes payload = true
@@ -20,6 +21,8 @@ has_shape MaxRegisters payload = true
 has_shape (Tail count) payload = true
 has_shape MaxU64 payload = length payload == 8
 has_shape MinU64 payload = length payload == 8
+has_shape AddU64 payload = length payload == 8
+has_shape SetUnion payload = is_set_of_members payload
 
 -- the first part, or a part after others
 abbrev pub earlier_parts : List ℕ → Bool → Bool

@@ -4,7 +4,7 @@ use Rattle.std.proofs.Common.{suc, ap, ◌∙◌, sym, subst, refl, arith, add-o
 use Rattle.std.proofs.lemmas.Bool.Decides.{nat_tests}
 use Rattle.std.proofs.lemmas.List.{append_assoc, append-nil, take_at, drop_at}
 use Rattle.uc_mixed.specs.declared.part_kind.PartKind.{PartKind}
-use Rattle.uc_mixed.specs.declared.part_kind.PartKind.TheVariants.{Add, MaxBytes, MinBytes, Set, Append, Or, And, Xor, MaxRegisters, Tail, MaxU64, MinU64}
+use Rattle.uc_mixed.specs.declared.part_kind.PartKind.TheVariants.{Add, MaxBytes, MinBytes, Set, Append, Or, And, Xor, MaxRegisters, Tail, MaxU64, MinU64, AddU64, SetUnion}
 
 -- the bytes, the last one first
 abbrev pub backward : List ℕ → List ℕ
@@ -37,6 +37,8 @@ kind_bytes MaxRegisters = 9 ∷ []
 kind_bytes (Tail count) = count % 256 ∷ count / 256 ∷ 10 ∷ []
 kind_bytes MaxU64 = 11 ∷ []
 kind_bytes MinU64 = 12 ∷ []
+kind_bytes AddU64 = 13 ∷ []
+kind_bytes SetUnion = 14 ∷ []
 
 -- a long length: four bytes, low byte first, and 255
 abbrev pub long_bytes : ℕ → List ℕ
@@ -78,7 +80,8 @@ numbered_back n before =
     if n == 1 then back Add before else if n == 2 then back MaxBytes before else if n == 3 then back MinBytes before
     else if n == 4 then back Set before else if n == 5 then delimiter_back before else if n == 6 then back Or before
     else if n == 7 then back And before else if n == 8 then back Xor before else if n == 9 then back MaxRegisters before
-    else if n == 10 then count_back before else if n == 11 then back MaxU64 before else if n == 12 then back MinU64 before else None
+    else if n == 10 then count_back before else if n == 11 then back MaxU64 before else if n == 12 then back MinU64 before
+    else if n == 13 then back AddU64 before else if n == 14 then back SetUnion before else None
 
 abbrev pub kind_back : List ℕ → Option (Back PartKind)
 kind_back [] = None
@@ -130,6 +133,8 @@ kind_back-own MaxRegisters before = refl
 kind_back-own (Tail count) before = let e : count % 256 + 256 * (count / 256) ≡ count = omega arith in ap (λ (n : ℕ). back (Tail n) before) e
 kind_back-own MaxU64 before = refl
 kind_back-own MinU64 before = refl
+kind_back-own AddU64 before = refl
+kind_back-own SetUnion before = refl
 
 bytes-number : (n : ℕ) → n % 256 + 256 * (n / 256 % 256 + 256 * (n / 256 / 256 % 256 + 256 * (n / 256 / 256 / 256))) ≡ n
 bytes-number n = omega arith
@@ -200,7 +205,8 @@ kind_shorter (n ∷ before) =
     let step : (b : Bool) (p q : Option (Back PartKind)) → IsShorter p (suc (length before)) → IsShorter q (suc (length before)) → IsShorter (if b then p else q) (suc (length before)) = λ b p q h k. either_shorter b p q (suc (length before)) h k in
     step (n == 1) _ _ below (step (n == 2) _ _ below (step (n == 3) _ _ below (step (n == 4) _ _ below
     (step (n == 5) _ _ (delimiter_shorter before) (step (n == 6) _ _ below (step (n == 7) _ _ below (step (n == 8) _ _ below (step (n == 9) _ _ below
-    (step (n == 10) _ _ (count_shorter before) (step (n == 11) _ _ below (step (n == 12) _ _ below tt)))))))))))
+    (step (n == 10) _ _ (count_shorter before) (step (n == 11) _ _ below (step (n == 12) _ _ below
+    (step (n == 13) _ _ below (step (n == 14) _ _ below tt)))))))))))))
 
 long_shorter : (bytes : List ℕ) → IsShorter (long_back bytes) (suc (length bytes))
 long_shorter [] = tt

@@ -7,8 +7,9 @@ ghost use Rattle.uc_mixed.specs.Least as least;
 ghost use Rattle.uc_mixed.specs.Kinds as kinds;
 
 use crate::bytewise::{ByteFunction, combine_bytes};
-use crate::number::{greater_number, lesser_number, number, wrapped_sum};
+use crate::number::{greater_number, lesser_number, limited_sum, number, wrapped_sum};
 use crate::part_kind::PartKind;
+use crate::set::unite;
 use std::alloc::{AllocError, Global};
 
 /// The bytes before `start`, and then others.
@@ -119,6 +120,11 @@ pub(crate) fn combine_onto(
             let lesser = lesser_number(&bytes[start..], payload).to_le_bytes();
             replaced(bytes, start, &lesser)
         }
+        PartKind::AddU64 => {
+            let sum = limited_sum(&bytes[start..], payload).to_le_bytes();
+            replaced(bytes, start, &sum)
+        }
+        PartKind::SetUnion => unite(bytes, start, payload),
     }
 }
 
@@ -146,5 +152,7 @@ pub(crate) fn begin(alloc: Global, kind: PartKind, payload: &[u8]) -> Result<Vec
         PartKind::Tail(count) => Vec::from_slice(alloc, last_bytes(payload, usize::from(count))),
         PartKind::MaxU64 => Vec::from_slice(alloc, &number(payload).to_le_bytes()),
         PartKind::MinU64 => Vec::from_slice(alloc, &number(payload).to_le_bytes()),
+        PartKind::AddU64 => Vec::from_slice(alloc, &number(payload).to_le_bytes()),
+        PartKind::SetUnion => Vec::from_slice(alloc, payload),
     }
 }

@@ -17,6 +17,7 @@ mod operand;
 mod pairing;
 mod part;
 mod part_kind;
+mod set;
 mod spelling;
 
 pub use mixed::Mixed;

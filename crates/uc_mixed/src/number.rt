@@ -1,5 +1,5 @@
 //! Numbers as bytes.
-ghost use Rattle.std.specs.Prelude.{◌≡◌, ◌+◌, ◌%◌, ◌^◌, max, min};
+ghost use Rattle.std.specs.Prelude.{◌≡◌, ◌+◌, ◌-◌, ◌%◌, ◌^◌, max, min};
 ghost use Rattle.uc_oper.specs.Counting as counting;
 ghost use Rattle.uc_mixed.specs.Numbers as numbers;
 
@@ -32,4 +32,11 @@ pub(crate) fn lesser_number(older: &[u8], newer: &[u8]) -> u64
     ensures { result ≡ min (numbers.bounded older.now) (numbers.bounded newer.now) % 2 ^ 64 }
 {
     number(older).min(number(newer))
+}
+
+/// The sum of two numbers, or the greatest number if the sum is greater.
+pub(crate) fn limited_sum(older: &[u8], newer: &[u8]) -> u64
+    ensures { result ≡ min (numbers.bounded older.now + numbers.bounded newer.now) (2 ^ 64 - 1) % 2 ^ 64 }
+{
+    number(older).saturating_add(number(newer))
 }

@@ -5,10 +5,11 @@ ghost use Rattle.uc_mixed.specs.Operands as operands;
 
 use crate::part::cut;
 use crate::part_kind::PartKind;
+use crate::set::is_set_of_members;
 use crate::spelling::push_part;
 use std::alloc::{AllocError, Global};
 
-/// True if a payload has the shape that the operator asks for: numbers have 8 bytes.
+/// True if a payload has the shape that the operator asks for: numbers have 8 bytes, and the members of a set are whole and ascend.
 pub fn has_shape(kind: PartKind, payload: &[u8]) -> bool
     ensures { result ≡ operands.has_shape kind payload.now }
 {
@@ -16,6 +17,8 @@ pub fn has_shape(kind: PartKind, payload: &[u8]) -> bool
         PartKind::Add => payload.len() == 8,
         PartKind::MaxU64 => payload.len() == 8,
         PartKind::MinU64 => payload.len() == 8,
+        PartKind::AddU64 => payload.len() == 8,
+        PartKind::SetUnion => is_set_of_members(payload),
         _ => true,
     }
 }

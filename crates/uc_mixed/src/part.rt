@@ -66,6 +66,8 @@ fn kind_at_end(bytes: &[u8]) -> Option<(PartKind, &[u8])>
             10 => count_at_end(rest),
             11 => Some((PartKind::MaxU64, rest)),
             12 => Some((PartKind::MinU64, rest)),
+            13 => Some((PartKind::AddU64, rest)),
+            14 => Some((PartKind::SetUnion, rest)),
             _ => None,
         },
     }

@@ -29,6 +29,10 @@ pub enum PartKind {
     MaxU64,
     /// Keeps the lesser 64-bit number.
     MinU64,
+    /// Adds 64-bit numbers without a sign. A sum is at most 2^64 - 1.
+    AddU64,
+    /// Makes the union of two sets of byte strings.
+    SetUnion,
 }
 
 /// The operator with a number, of those without a parameter.
@@ -46,6 +50,8 @@ fn plain(number: u32) -> Option<PartKind>
         9 => Some(PartKind::MaxRegisters),
         11 => Some(PartKind::MaxU64),
         12 => Some(PartKind::MinU64),
+        13 => Some(PartKind::AddU64),
+        14 => Some(PartKind::SetUnion),
         _ => None,
     }
 }
@@ -92,6 +98,8 @@ impl PartKind {
             PartKind::Tail(_) => 10,
             PartKind::MaxU64 => 11,
             PartKind::MinU64 => 12,
+            PartKind::AddU64 => 13,
+            PartKind::SetUnion => 14,
         }
     }
 
@@ -112,6 +120,8 @@ impl PartKind {
             PartKind::Tail(count) => count,
             PartKind::MaxU64 => 0,
             PartKind::MinU64 => 0,
+            PartKind::AddU64 => 0,
+            PartKind::SetUnion => 0,
         }
     }
 

@@ -9,4 +9,4 @@ returns-in_default c =
     let rest = c.in-Some.rest.now in
     ap (λ (l : List ℕ). kind_back (backward l)) c.in-Some.ensures.cases.0
     ∙ ap kind_back (backward-last rest n)
-    ∙ unknown_number n (backward rest) (omega arith) (omega arith) (omega arith) (omega arith) (omega arith) (omega arith) (omega arith) (omega arith) (omega arith) (omega arith) (omega arith) (omega arith)
+    ∙ unknown_number n (backward rest) (omega arith) (omega arith) (omega arith) (omega arith) (omega arith) (omega arith) (omega arith) (omega arith) (omega arith) (omega arith) (omega arith) (omega arith) (omega arith) (omega arith)
