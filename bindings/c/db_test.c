@@ -53,6 +53,7 @@ static struct ucstore_db *open_with(const char *name, const struct ucstore_db_op
 static struct ucstore_db *open_texts(const char *name) {
     struct ucstore_db_options options;
     OK(ucstore_db_options_init(&options, sizeof options));
+    options.merge_operator = UCSTORE_DB_APPEND;
     return open_with(name, &options);
 }
 

@@ -60,6 +60,13 @@ static void try_values(void) {
     expect(&store, "gd`", 3);
     merge_as(&store, UCSTORE_MAX_REGISTERS, 0, "agaa", 4);
     expect(&store, "ggaa", 4);
+    merge_as(&store, UCSTORE_SET, 0, "\xff\xff\xff\xff\xff\xff\xff\xff", 8);
+    merge_as(&store, UCSTORE_ADD_U64, 0, five, sizeof five);
+    expect(&store, "\xff\xff\xff\xff\xff\xff\xff\xff", 8);
+    merge_as(&store, UCSTORE_SET, 0, "\1\0a\2\0bb", 7);
+    merge_as(&store, UCSTORE_SET_UNION, 0, "\0\0\1\0b", 5);
+    merge_as(&store, UCSTORE_SET_UNION, 0, "\1\0b\1\0c", 6);
+    expect(&store, "\0\0\1\0a\1\0b\2\0bb\1\0c", 15);
     CHECK(ucstore_merge(&store, KEY, sizeof KEY, (const uint8_t *)"no operand", 10) == UCSTORE_OK);
     expect(&store, "no operand", 10);
     CHECK(ucstore_close(&store) == UCSTORE_OK);
@@ -67,8 +74,8 @@ static void try_values(void) {
 
 /* Payloads and operands that are none, and buffers that are too small: nothing is written. */
 static void try_bad(void) {
-    const uint8_t numbers[] = {UCSTORE_ADD, UCSTORE_MAX_U64, UCSTORE_MIN_U64};
-    const uint32_t unknown[][2] = {{0, 0}, {13, 0}, {261, 0}, {UCSTORE_ADD, 1}, {UCSTORE_APPEND_BYTES, 256}, {UCSTORE_TAIL_BYTES, 1 << 16}};
+    const uint8_t numbers[] = {UCSTORE_ADD, UCSTORE_MAX_U64, UCSTORE_MIN_U64, UCSTORE_ADD_U64};
+    const uint32_t unknown[][2] = {{0, 0}, {15, 0}, {261, 0}, {UCSTORE_ADD, 1}, {UCSTORE_APPEND_BYTES, 256}, {UCSTORE_TAIL_BYTES, 1 << 16}};
     uint8_t room[ROOM] = {77}, eight[8] = {0}, long_bytes[300] = {0};
     size_t size = 99, at;
     for (at = 0; at < sizeof numbers; at++) {
@@ -78,6 +85,10 @@ static void try_bad(void) {
     for (at = 0; at < sizeof unknown / sizeof unknown[0]; at++) {
         CHECK(ucstore_operand(unknown[at][0], unknown[at][1], eight, 8, room, sizeof room, &size) == UCSTORE_UNKNOWN_OPERATOR);
     }
+    CHECK(ucstore_operand(UCSTORE_SET_UNION, 0, (const uint8_t *)"\1\0b\1\0a", 6, room, sizeof room, &size) == UCSTORE_BAD_OPERAND);
+    CHECK(ucstore_operand(UCSTORE_SET_UNION, 0, (const uint8_t *)"\1\0a\1\0a", 6, room, sizeof room, &size) == UCSTORE_BAD_OPERAND);
+    CHECK(ucstore_operand(UCSTORE_SET_UNION, 0, (const uint8_t *)"\1\0a\2\0b", 6, room, sizeof room, &size) == UCSTORE_BAD_OPERAND);
+    CHECK(ucstore_operand(UCSTORE_SET_UNION, 1, eight, 0, room, sizeof room, &size) == UCSTORE_UNKNOWN_OPERATOR);
     CHECK(size == 99 && room[0] == 77);
     CHECK(ucstore_operand(UCSTORE_ADD, 0, eight, 8, room, 9, &size) == UCSTORE_ROOM && size == 10 && room[0] == 77);
     CHECK(ucstore_operand(UCSTORE_OR, 0, long_bytes, 254, room, sizeof room, &size) == UCSTORE_OK && size == 256);

@@ -165,7 +165,9 @@ enum ucstore_part {
     UCSTORE_MAX_REGISTERS = 9,  /* Byte by byte, the greater byte. */
     UCSTORE_TAIL_BYTES = 10,    /* Appends the payload, and keeps the last bytes, at most as many as the parameter, below 2^16. */
     UCSTORE_MAX_U64 = 11,       /* Keeps the greater number. */
-    UCSTORE_MIN_U64 = 12        /* Keeps the lesser number. */
+    UCSTORE_MIN_U64 = 12,       /* Keeps the lesser number. */
+    UCSTORE_ADD_U64 = 13,       /* Adds a number without a sign. A sum is at most 2^64 - 1. */
+    UCSTORE_SET_UNION = 14      /* Adds members to a set: each is 2 bytes of its length, little-endian, and its bytes. They ascend by bytes. */
 };
 
 /* Part of the store that answers a lookup. */
@@ -730,7 +732,7 @@ int32_t ucstore_log_mark_bytes(uint64_t unsynced, uint8_t *room, size_t room_len
  *
  * UCSTORE_ROOM: it does not fit. `size` gets the length that is needed.
  * UCSTORE_UNKNOWN_OPERATOR: there is no operator with this number, or the parameter is out of range.
- * UCSTORE_BAD_OPERAND: a number does not have 8 bytes.
+ * UCSTORE_BAD_OPERAND: a number does not have 8 bytes, or a set is not ascending members.
  * UCSTORE_TOO_LONG: the payload has 2^32 bytes or more.
  * UCSTORE_OUT_OF_MEMORY. */
 int32_t ucstore_operand(uint32_t part, uint32_t parameter, const uint8_t *payload, size_t payload_length, uint8_t *room,
@@ -738,7 +740,7 @@ int32_t ucstore_operand(uint32_t part, uint32_t parameter, const uint8_t *payloa
 
 /* Checks the bytes of an operand of UCSTORE_MIXED. A merge takes others too: they replace the value.
  *
- * UCSTORE_BAD_OPERAND: the bytes are not operands in turn, or a number does not have 8 bytes. */
+ * UCSTORE_BAD_OPERAND: the bytes are not operands in turn, a number does not have 8 bytes, or a set is not ascending members. */
 int32_t ucstore_operand_check(const uint8_t *operand, size_t operand_length);
 
 /* Finds the files to read when the folder of a database is opened: the newest base, and the logs from its number to `found->log`. The

@@ -71,7 +71,7 @@ class InFolder(unittest.TestCase):
 
 class Calls(InFolder):
     def test_it_is_used_like_a_dict(self):
-        with Db(self.folder) as db:
+        with Db(self.folder, Operator.APPEND) as db:
             db[b"b"] = b"2"
             db[b"a"] = b"1"
             db.merge(b"a", b"more")
@@ -249,7 +249,7 @@ class Calls(InFolder):
         before.close()
 
     def test_batches_are_taken_whole(self):
-        with Db(self.folder) as db:
+        with Db(self.folder, Operator.APPEND) as db:
             with db.write_batch() as batch:
                 batch[b"a"] = b"1"
                 batch.put(b"b", b"2")
@@ -355,7 +355,7 @@ class Refusals(InFolder):
             with self.assertRaisesRegex(Locked, "LOCK is locked"):
                 Db(self.folder, Operator.COUNTER)
         with self.assertRaisesRegex(OtherOperator, "OPERATOR names counter: .* append"):
-            Db(self.folder)
+            Db(self.folder, Operator.APPEND)
         file = self.folder / "LOCK" / "x"
         with self.assertRaises(FileFault):
             Db(file)
@@ -508,7 +508,7 @@ class Recovered(InFolder):
             self.assertEqual((snapshot.sequence, dict(db.items())), (20, {b"b": b"2", b"c": b"3"}))
 
     def test_what_is_behind_a_sequence_is_given_up(self):
-        with Db(self.folder) as db:
+        with Db(self.folder, Operator.APPEND) as db:
             for first in 1, 5, 9:
                 db.write_bytes(batch_at(first, Merge(b"k", b"%d" % first), Put(b"l", b"")))
         before = self.files()
@@ -528,7 +528,7 @@ class Recovered(InFolder):
             self.assertEqual((db[b"k"], db.stats().last), (b"1,5,more", 7))
 
     def test_marks_are_made_again_behind_a_base_of_a_snapshot(self):
-        with Db(self.folder, options=DbOptions(checkpoint_least=(1 << 64) - 1)) as db, Db.in_memory() as other:
+        with Db(self.folder, Operator.APPEND, DbOptions(checkpoint_least=(1 << 64) - 1)) as db, Db.in_memory() as other:
             db.merge(b"k", b"1")
             with db.snapshot() as old:
                 db.merge(b"k", b"2")

@@ -31,6 +31,15 @@ def drawn_part(rng: random.Random) -> model.Part:
     return model.Part(Kind(number, parameter), drawn_payload(rng, long))
 
 
+def shaped(part: model.Part) -> bytes:
+    """A payload of the shape that the operator asks for."""
+    if part.kind.number in model.OF_NUMBERS:
+        return part.payload[:8].ljust(8, b"\0")
+    if part.kind.number == model.SET_UNION:
+        return ucstore.set_bytes(part.payload[at : at + 2] for at in range(0, len(part.payload), 2))
+    return part.payload
+
+
 def drawn_operand(rng: random.Random) -> bytes:
     """One part, several, or several with bytes changed."""
     operand = bytearray(b"".join(model.spelled(drawn_part(rng)) for _ in range(rng.choice([1, 1, 1, 2, 3, 0]))))
@@ -45,7 +54,7 @@ class Operands(unittest.TestCase):
         rng = random.Random(11)
         for _ in range(3000):
             part = drawn_part(rng)
-            payload = part.payload if part.kind.number not in (1, 11, 12) else part.payload[:8].ljust(8, b"\0")
+            payload = shaped(part)
             wanted = model.spelled(model.Part(part.kind, payload))
             found = ucstore.operand_bytes(Part(part.kind.number), payload, part.kind.parameter)
             self.assertEqual(found, wanted)
@@ -61,11 +70,11 @@ class Operands(unittest.TestCase):
         self.assertGreater(min(counts), 1000)
 
     def test_bad_payloads_are_rejected(self) -> None:
-        for part in (Part.ADD, Part.MAX_U64, Part.MIN_U64):
+        for part in (Part.ADD, Part.MAX_U64, Part.MIN_U64, Part.ADD_U64):
             for size in (0, 7, 9):
                 with self.assertRaises(BadOperand):
                     ucstore.operand_bytes(part, bytes(size))
-        for part, parameter in ((0, 0), (13, 0), (Part.ADD, 1), (Part.APPEND, 256), (Part.TAIL, 2**16), (Part.SET, 2**32), (Part.OR, -1)):
+        for part, parameter in ((0, 0), (15, 0), (Part.ADD, 1), (Part.APPEND, 256), (Part.TAIL, 2**16), (Part.SET, 2**32), (Part.OR, -1)):
             with self.assertRaises(UnknownOperator):
                 ucstore.operand_bytes(part, bytes(8), parameter)
 
@@ -137,8 +146,25 @@ class Stores(unittest.TestCase):
             store.bit_or(b"seen", b"\x04\x80")
             self.assertEqual(store.get_int(b"visits"), 2**63 - 2)
             self.assertIsNone(store.get_int(b"none"))
+            store.union(b"tags", [b"new", b"", b"new"])
+            view = store.view()
+            store.union(b"tags", [b"a", b"new"])
+            self.assertEqual((store.get_set(b"tags"), view.get_set(b"tags")), ({b"", b"a", b"new"}, {b"", b"new"}))
+            self.assertEqual(store.get(b"tags"), b"\0\0\1\0a\3\0new")
+            self.assertIsNone(store.get_set(b"none"))
+            view.close()
             wanted = {b"feed": b"a,b", b"best": b"010", b"least": b"a", b"seen": b"\x05\x80"}
             self.assertEqual({key: store.get(key) for key in wanted}, wanted)
+
+    def test_sets_are_read_as_the_model_reads_them(self) -> None:
+        rng = random.Random(15)
+        for _ in range(20000):
+            value = bytes(rng.choice([0, 0, 1, 2, 3]) for _ in range(rng.randrange(12)))
+            self.assertEqual(ucstore.set_of(value), set(model.members(value)))
+            self.assertEqual(ucstore.is_operand(model.spelled(model.Part(Kind(model.SET_UNION), value))), model.is_set(value), value)
+        self.assertEqual(ucstore.set_of(ucstore.set_bytes([bytes(2**16 - 1), b"a"])), {bytes(2**16 - 1), b"a"})
+        with self.assertRaises(ucstore.TooLong):
+            ucstore.set_bytes([bytes(2**16)])
 
     def test_many_additions(self) -> None:
         with Store(Operator.MIXED) as store:
@@ -149,6 +175,26 @@ class Stores(unittest.TestCase):
 
 
 class Databases(unittest.TestCase):
+    def test_a_new_directory_is_mixed_and_others_keep_their_operator(self) -> None:
+        for made, word in ((None, b"mixed"), (Operator.COUNTER, b"counter"), (Operator.TAIL, b"tail")):
+            with TemporaryDirectory() as folder:
+                Db(folder, made).close()
+                self.assertEqual((Path(folder) / "OPERATOR").read_bytes(), word + b"\n")
+                with Db(folder) as db:
+                    if made is None:
+                        db.add(b"k", 2)
+                        db.union(b"tags", [b"b", b"a"])
+                        self.assertEqual((db.get_int(b"k"), db.get_set(b"tags")), (2, {b"a", b"b"}))
+                        with db.snapshot() as snapshot, db.transaction() as t:
+                            self.assertEqual((snapshot.get_int(b"k"), t.get_set(b"tags")), (2, {b"a", b"b"}))
+                        with self.assertRaises(BadOperand):
+                            db.merge(b"k", b"text")
+                    else:
+                        db.merge(b"k", bytes(8))
+                        self.assertEqual(db[b"k"], bytes(8) if made == Operator.COUNTER else bytes(4))
+                with self.assertRaises(ucstore.OtherOperator):
+                    Db(folder, Operator.MAXIMUM)
+
     def test_one_database_has_a_counter_a_maximum_and_a_feed(self) -> None:
         with TemporaryDirectory() as folder:
             with Db(folder, operator=Operator.MIXED) as db:
@@ -197,6 +243,10 @@ class Databases(unittest.TestCase):
             db.compact()
         else:
             operand = drawn_operand(rng)
+            if not model.is_operand(operand):
+                with self.assertRaises(BadOperand):
+                    db.merge(key, operand)
+                return
             db.merge(key, operand)
             merged(values, key, operand)
 

@@ -7,7 +7,7 @@ import threading
 import unittest
 
 from precedence import Committed, cycle
-from ucstore import Closed, Conflict, Db, DbOptions, Sync
+from ucstore import Closed, Conflict, Db, DbOptions, Operator, Sync
 
 KEYS = [b"", b"\x00", b"a", b"a\x00", b"b", b"c", b"\xff", b"\xff\xff"]
 LONG = bool(os.environ.get("LONG"))
@@ -20,7 +20,7 @@ def is_in(key, low, high):
 
 class Calls(unittest.TestCase):
     def test_a_block_commits(self):
-        with Db.in_memory() as db:
+        with Db.in_memory(Operator.APPEND) as db:
             with db.transaction() as t:
                 t[b"a"] = b"1"
                 t.merge(b"a", b"2")
@@ -72,7 +72,7 @@ class Calls(unittest.TestCase):
                 call()
 
     def test_rows_have_own_writes(self):
-        with Db.in_memory() as db:
+        with Db.in_memory(Operator.APPEND) as db:
             db.update((b"key %04d" % number, b"%d" % number) for number in range(3000))
             with db.transaction() as t:
                 t.delete_range(b"key 0010", b"key 2990")

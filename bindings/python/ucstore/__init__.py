@@ -30,7 +30,7 @@ from typing import (
     Any, Callable, Dict, Iterable, Iterator, List, NamedTuple, Optional, Sequence, Tuple, Type, TypeVar, Union,
 )
 
-from ._operands import MergesParts, Part, checked, int_of
+from ._operands import MergesParts, Part, ReadsParts, checked, int_of, set_bytes, set_of
 
 __all__ = [
     "BadOperand", "BadOption", "BatchFault", "BatchFull", "Checkpoint", "Closed", "Conflict", "Damaged", "Db", "DbBatch", "DbError",
@@ -39,7 +39,8 @@ __all__ = [
     "NoJob", "NoStore", "NoView", "NotABatch", "NotProtected", "NotRecoverable", "Operation", "Operator", "Options",
     "OtherDatabase", "OtherOperator", "OutOfMemory", "Part", "Progress", "Put", "ReadOnly", "Report", "RunsClaimed",
     "SequenceBack", "SequencesSpent", "Snapshot", "Store", "Sync", "TooLong", "UcstoreError", "UnknownOperator", "View",
-    "Write", "WriteBatch", "batch_bytes", "int_of", "is_operand", "log_writes", "operand_bytes",
+    "Write", "WriteBatch", "batch_bytes", "int_of", "is_operand", "log_writes", "operand_bytes", "set_bytes",
+    "set_of",
 ]
 
 
@@ -144,7 +145,7 @@ class NoCheckpoint(UcstoreError, ValueError):
 
 
 class BadOperand(UcstoreError, ValueError):
-    """The bytes are not an operand of `Operator.MIXED`, or a number does not have 8 bytes."""
+    """The bytes are not an operand of `Operator.MIXED`, a number does not have 8 bytes, or a set is not in order."""
 
     status, text = 31, "malformed operand"
 
@@ -565,7 +566,7 @@ def _end_of_prefix(prefix: bytes) -> Optional[bytes]:
     return kept[:-1] + bytes([kept[-1] + 1]) if kept else None
 
 
-class _Reader:
+class _Reader(ReadsParts):
     """Read methods of a store, its snapshots and its views.
 
     As in a dict, only `reader[key]` raises `KeyError`.
@@ -952,10 +953,6 @@ class Store(_HeldReader, MergesParts):
     def merge_part(self, part: Part, key: bytes, payload: bytes, parameter: int = 0) -> None:
         """Merges `operand_bytes(part, payload, parameter)`. Raises what that and `put` do."""
         self.merge(key, operand_bytes(part, payload, parameter))
-
-    def get_int(self, key: bytes) -> Optional[int]:
-        """Returns the number that a key's value encodes, as `int_of` reads it, or `None` for no value. Raises `OutOfMemory`."""
-        return int_of(self.get(key))
 
     def delete_range(self, begin: bytes, end: bytes) -> None:
         """Deletes all keys from `begin` (inclusive) to `end` (exclusive). Raises what `put` does."""

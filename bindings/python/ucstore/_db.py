@@ -19,7 +19,7 @@ from ._db_library import OK, Options, Stats, event_function, library, progress_f
 from ._db_reader import Alone, Bytes, Cursor, Reader, bytes_of
 from ._db_transaction import DbTransaction, transact
 from ._db_types import Closed, DbOptions, DbStats, Event, Progress
-from ._operands import MergesParts, Part, checked, int_of
+from ._operands import MergesParts, Part, checked
 
 _Size, _U64 = ctypes.c_size_t, ctypes.c_uint64
 _Result = TypeVar("_Result")
@@ -166,7 +166,7 @@ class Db(Reader, MutableMapping[bytes, bytes], MergesParts):
     def __init__(
         self,
         folder: Union[str, bytes, os.PathLike[str]],
-        operator: Operator = Operator.APPEND,
+        operator: Optional[Operator] = None,
         options: DbOptions = DbOptions(),
         *,
         progress: Optional[Callable[[Progress], None]] = None,
@@ -181,6 +181,8 @@ class Db(Reader, MutableMapping[bytes, bytes], MergesParts):
 
         With `read_only` it opens a database that exists, also while another process has it open. Nothing is locked or written,
         and `refresh` catches up with later writes.
+
+        Without `operator` it is the one that the directory was created with, and `Operator.MIXED` for a new directory.
 
         `progress` is called with the progress of the opening, and `events` with each event, by the thread that did the
         work, which waits for the call. Both may call the database, except its `close`.
@@ -199,7 +201,7 @@ class Db(Reader, MutableMapping[bytes, bytes], MergesParts):
         self._begin(given, progress, events, "open", name)
 
     @classmethod
-    def in_memory(cls, operator: Operator = Operator.APPEND, options: DbOptions = DbOptions()) -> Db:
+    def in_memory(cls, operator: Operator = Operator.MIXED, options: DbOptions = DbOptions()) -> Db:
         """Creates an empty database without files. Raises `BadOption`, `FileFault` and `OutOfMemory`."""
         db = cls.__new__(cls)
         db._begin(Options.of(operator, options), None, None, "in_memory")
@@ -239,10 +241,6 @@ class Db(Reader, MutableMapping[bytes, bytes], MergesParts):
         first, second = bytes_of(key), bytes_of(payload)
         self._call("merge_as", part, checked(parameter), first, len(first), second, len(second))
 
-    def get_int(self, key: Bytes) -> Optional[int]:
-        """Returns the number that a key's value encodes, as `int_of` reads it, or `None` for no value."""
-        return int_of(self.get(key))
-
     def delete(self, key: Bytes) -> None:
         """Deletes a key. It is no error if the key has no value: nothing is read."""
         first = bytes_of(key)
@@ -279,7 +277,7 @@ class Db(Reader, MutableMapping[bytes, bytes], MergesParts):
         >>> with Db.in_memory() as db:
         ...     with db.write_batch() as batch:
         ...         batch.put(b"colour", b"blue")
-        ...         batch.merge(b"tags", b"new")
+        ...         batch.union(b"tags", [b"new"])
         ...     list(db)
         [b'colour', b'tags']
         """

@@ -35,6 +35,10 @@ _ProgressFunction = ctypes.CFUNCTYPE(None, _Pointer, ctypes.POINTER(_Progress))
 _EventFunction = ctypes.CFUNCTYPE(None, _Pointer, ctypes.POINTER(_Event))
 
 
+# Number of the directory's own operator.
+_OWN_OPERATOR = 255
+
+
 class Options(ctypes.Structure):
     _fields_ = [
         ("size", _Size), ("merge_operator", ctypes.c_uint32), ("sync", ctypes.c_uint32), ("sync_milliseconds", _U64),
@@ -49,9 +53,10 @@ class Options(ctypes.Structure):
     ]
 
     @classmethod
-    def of(cls, operator: Operator, options: DbOptions) -> Options:
+    def of(cls, operator: Optional[Operator], options: DbOptions) -> Options:
         """Returns the options as a C struct. Raises `BadOption` for a number that its field would truncate."""
-        found = cls(ctypes.sizeof(cls), operator, recover_to=_NONE, give_up_until=_NONE, **options._asdict())
+        number = _OWN_OPERATOR if operator is None else operator
+        found = cls(ctypes.sizeof(cls), number, recover_to=_NONE, give_up_until=_NONE, **options._asdict())
         if any(getattr(found, name) != value for name, value in zip(DbOptions._fields, options)):
             raise BadOption()
         return found

@@ -11,6 +11,7 @@ from typing import Iterable, Iterator, List, Mapping, Optional, Tuple, TypeVar, 
 
 from ._db_library import NOT_FOUND, OK, ROOM, Library
 from ._db_types import Closed
+from ._operands import ReadsParts
 
 Bytes = Union[bytes, bytearray, memoryview]
 """A key or a value. Other bytes-like objects are accepted too."""
@@ -173,7 +174,7 @@ class Rows(Iterator[_Row]):
         self._cursor.close()
 
 
-class Reader(Handle, Mapping[bytes, bytes]):
+class Reader(Handle, Mapping[bytes, bytes], ReadsParts):
     """Read methods of a database and its snapshots. Rows are in byte order of the keys.
 
     A reader is a `Mapping`, with three differences from a dict: `items`, `keys` and `values` return iterators over the state

@@ -26,7 +26,7 @@ _TRIES, _LONGEST_WAIT = 100, 0.005
 _USUAL_VALUE, _PAGE_ROWS, _PAGE_BYTES, _MOST_ROWS, _MOST_BYTES = 512, 16, 4096, 1024, 1 << 18
 
 
-class DbTransaction(Alone):
+class DbTransaction(Alone, ReadsParts):
     """A transaction of a database. It reads the state at its begin, with its own writes, and commits when its `with` block ends.
 
     >>> from ucstore import Conflict, Db

@@ -3,7 +3,7 @@
 from __future__ import annotations
 
 import enum
-from typing import Optional
+from typing import TYPE_CHECKING, Iterable, Optional, Set
 
 
 class Part(enum.IntEnum):
@@ -36,6 +36,10 @@ class Part(enum.IntEnum):
     """Keeps the greater number."""
     MIN_U64 = 12
     """Keeps the lesser number."""
+    ADD_U64 = 13
+    """Adds a number without a sign. A sum is at most 2^64 - 1."""
+    SET_UNION = 14
+    """Adds members to a set, as `set_bytes` encodes them. It takes time in the size of both sets."""
 
 
 def checked(parameter: int) -> int:
@@ -52,7 +56,7 @@ class MergesParts:
 
     def merge_part(self, part: Part, key: bytes, payload: bytes, parameter: int = 0) -> None:
         """Merges a payload into a key's value. Raises `UnknownOperator` for a parameter out of range, and `BadOperand` for a number that
-        does not have 8 bytes."""
+        does not have 8 bytes or a set that is not in order."""
         raise NotImplementedError
 
     def add(self, key: bytes, amount: int) -> None:
@@ -74,6 +78,51 @@ class MergesParts:
     def bit_or(self, key: bytes, bits: bytes) -> None:
         """Sets bits of a byte string."""
         self.merge_part(Part.OR, key, bits)
+
+    def union(self, key: bytes, members: Iterable[bytes]) -> None:
+        """Adds members to a set. Raises `TooLong` for a member of 2^16 bytes or more."""
+        self.merge_part(Part.SET_UNION, key, set_bytes(members))
+
+
+class ReadsParts:
+    """Reads of values that merges by `Part` make. They raise what `get` does."""
+
+    if TYPE_CHECKING:
+
+        def get(self, key: bytes) -> Optional[bytes]: ...
+
+    def get_int(self, key: bytes) -> Optional[int]:
+        """Returns the number that a key's value encodes, as `int_of` reads it, or `None` for no value."""
+        return int_of(self.get(key))
+
+    def get_set(self, key: bytes) -> Optional[Set[bytes]]:
+        """Returns the members of a key's value, as `set_of` reads them, or `None` for no value."""
+        return set_of(self.get(key))
+
+
+def set_bytes(members: Iterable[bytes]) -> bytes:
+    """Encodes a set: its members in ascending order, each 2 bytes of its length, little-endian, and its bytes. Raises `TooLong` for a
+    member of 2^16 bytes or more."""
+    ordered = sorted(set(members))
+    if any(len(member) >= 2**16 for member in ordered):
+        from . import TooLong
+
+        raise TooLong()
+    return b"".join(len(member).to_bytes(2, "little") + member for member in ordered)
+
+
+def set_of(value: Optional[bytes]) -> Optional[Set[bytes]]:
+    """Returns the members of a value, or `None` for no value. Bytes that encode no member end them."""
+    if value is None:
+        return None
+    members, place = set(), 0
+    while place + 2 <= len(value):
+        start = place + 2
+        place = start + int.from_bytes(value[place:start], "little")
+        if place > len(value):
+            break
+        members.add(value[start:place])
+    return members
 
 
 def int_of(value: Optional[bytes]) -> Optional[int]:

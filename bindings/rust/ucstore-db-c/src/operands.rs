@@ -20,6 +20,8 @@ const MAX_REGISTERS: u32 = 9;
 const TAIL_BYTES: u32 = 10;
 const MAX_U64: u32 = 11;
 const MIN_U64: u32 = 12;
+const ADD_U64: u32 = 13;
+const SET_UNION: u32 = 14;
 
 /// The part with an operator's number, a parameter and a payload.
 fn part_of(number: u32, parameter: u32, payload: &[u8]) -> Result<Part<'_>, Refusal> {
@@ -43,6 +45,8 @@ fn part_of(number: u32, parameter: u32, payload: &[u8]) -> Result<Part<'_>, Refu
         },
         (MAX_U64, 0) => Part::MaxU64(u64::from_le_bytes(bytes()?)),
         (MIN_U64, 0) => Part::MinU64(u64::from_le_bytes(bytes()?)),
+        (ADD_U64, 0) => Part::AddU64(u64::from_le_bytes(bytes()?)),
+        (SET_UNION, 0) => Part::Union(payload),
         _ => return Err(Status::UnknownOperator.into()),
     };
     Ok(part)

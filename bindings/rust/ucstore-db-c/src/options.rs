@@ -151,7 +151,7 @@ impl Default for COptions {
         let options = Options::default();
         COptions {
             size: size_of::<COptions>(),
-            merge_operator: options.operator as u32,
+            merge_operator: options.operator.map_or(OWN, |operator| operator as u32),
             sync: SYNC_ALWAYS,
             sync_milliseconds: 100,
             write_buffer_size: options.store.write_buffer_size,
@@ -183,14 +183,20 @@ impl Default for COptions {
     }
 }
 
-/// The operator of a number.
-fn operator_of(number: u32) -> Result<Operator, Refusal> {
+/// The number of the directory's own operator.
+const OWN: u32 = 255;
+
+/// The operator of a number, or none for the directory's own.
+fn operator_of(number: u32) -> Result<Option<Operator>, Refusal> {
+    if number == OWN {
+        return Ok(None);
+    }
     match number {
-        0 => Ok(Operator::Append),
-        1 => Ok(Operator::Counter),
-        2 => Ok(Operator::Maximum),
-        3 => Ok(Operator::Tail),
-        4 => Ok(Operator::Mixed),
+        0 => Ok(Some(Operator::Append)),
+        1 => Ok(Some(Operator::Counter)),
+        2 => Ok(Some(Operator::Maximum)),
+        3 => Ok(Some(Operator::Tail)),
+        4 => Ok(Some(Operator::Mixed)),
         _ => Err(Status::UnknownOperator.into()),
     }
 }

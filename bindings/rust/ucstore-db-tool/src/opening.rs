@@ -28,7 +28,7 @@ pub fn folder_beside(args: &Args) -> Outcome<Arc<DiskFolder>> {
 pub fn read_from(args: &Args, folder: Arc<DiskFolder>, options: &Options) -> Outcome<Db> {
     let bar = Bar::of_opening();
     let options = Options {
-        operator: operator(args, &folder)?,
+        operator: Some(operator(args, &folder)?),
         read_only: true,
         compactors: 0,
         progress: bar.listener(),
@@ -46,12 +46,7 @@ pub fn to_write(args: &Args, may_make: bool, options: &Options) -> Outcome<Db> {
         Err(Error::Missing { .. }) if may_make => None,
         Err(error) => return Err(Failure::of(dir)(error)),
     };
-    let operator = match is_there {
-        Some(operator) => operator,
-        None => args
-            .operator()
-            .ok_or_else(|| unnamed(format!("there is no database in {}", dir.display())))?,
-    };
+    let operator = is_there.or(args.operator());
     let bar = Bar::of_opening();
     let options = Options {
         operator,
@@ -73,10 +68,10 @@ fn operator(args: &Args, folder: &DiskFolder) -> Outcome<Operator> {
         return Ok(operator);
     }
     let own = operator_of(folder).map_err(Failure::of(&args.dir))?;
-    own.ok_or_else(|| unnamed(format!("{} has no file OPERATOR", args.dir.display())))
-}
-
-/// The failure that nothing names the merge operator of a directory.
-fn unnamed(why: String) -> Failure {
-    Failure::Refused(format!("{why}: --operator has to name the merge operator"))
+    own.ok_or_else(|| {
+        let dir = args.dir.display();
+        Failure::Refused(format!(
+            "{dir} has no file OPERATOR: --operator has to name the merge operator"
+        ))
+    })
 }

@@ -9,7 +9,7 @@ use ucstore_db::{Batch, Db, Operator, Options};
 fn main() -> Result<(), Box<dyn Error>> {
     let (folder, files) = (env::args().nth(1), env::args().skip(2));
     let options = Options {
-        operator: Operator::Counter,
+        operator: Some(Operator::Counter),
         ..Default::default()
     };
     let db = Db::open(folder.ok_or("words FOLDER FILE..")?, &options)?;

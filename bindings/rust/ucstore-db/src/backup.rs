@@ -118,7 +118,7 @@ impl Shared {
             None => self.write_rows(&self.view()?, target)?,
         };
         // This syncs the names of all files.
-        operator_file::write(target, self.options.operator).map_err(in_target(target))?;
+        operator_file::write(target, self.options.operator()).map_err(in_target(target))?;
         Ok(last)
     }
 

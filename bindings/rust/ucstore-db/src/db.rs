@@ -123,16 +123,6 @@ impl Db {
         self.write_one(|batch| batch.put(key, value).map(|_| ()))
     }
 
-    /// Combines a key with an operand.
-    ///
-    /// # Errors
-    ///
-    /// As [`write`](Db::write).
-    pub fn merge(&self, key: impl AsRef<[u8]>, operand: impl AsRef<[u8]>) -> Result<(), Error> {
-        let (key, operand) = (key.as_ref(), operand.as_ref());
-        self.write_one(|batch| batch.merge(key, operand).map(|_| ()))
-    }
-
     /// Removes a key.
     ///
     /// # Errors
@@ -472,7 +462,7 @@ impl Db {
     }
 
     /// Takes a batch of one operation.
-    fn write_one(
+    pub(crate) fn write_one(
         &self,
         add: impl FnOnce(&mut Batch) -> Result<(), ucstore::Error>,
     ) -> Result<(), Error> {

@@ -187,7 +187,7 @@ impl Plan {
 impl Copier {
     fn new(options: &Options, plan: Plan) -> Result<Copier, Error> {
         Ok(Copier {
-            store: Store::create(options.operator, &options.to_store())?,
+            store: Store::create(options.operator(), &options.to_store())?,
             plan,
             batch: Batch::new(),
             batch_bytes: BATCH_BYTES.min(options.most_gathered() / 32),

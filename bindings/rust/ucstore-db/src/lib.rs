@@ -5,7 +5,7 @@
 //!
 //! # fn main() -> Result<(), ucstore_db::Error> {
 //! # let folder = std::env::temp_dir().join(format!("ucstore-db-{}", std::process::id()));
-//! let options = Options { operator: Operator::Counter, ..Default::default() };
+//! let options = Options { operator: Some(Operator::Counter), ..Default::default() };
 //! let db = Db::open(&folder, &options)?;
 //! db.merge("visits", 1u64.to_le_bytes())?;
 //! db.close()?;
@@ -142,7 +142,7 @@ pub use stats::Stats;
 pub use transaction::Transaction;
 pub use transaction_rows::TransactionRows;
 pub use ucstore;
-pub use ucstore::{Batch, KeyValue, MergeParts, Operand, Operator, Part};
+pub use ucstore::{set_bytes, Batch, KeyValue, MergeParts, Operand, Operator, Part, ReadParts};
 
 use std::sync::{Mutex, MutexGuard, PoisonError, TryLockError};
 

@@ -2,24 +2,60 @@
 
 use crate::db::Db;
 use crate::error::Error;
-use ucstore::{int_of, MergeParts, Operand};
+use crate::snapshot::Snapshot;
+use crate::transaction::Transaction;
+use ucstore::{check_operand, MergeParts, Operand, Operator, ReadParts};
+
+impl Db {
+    /// Combines a key with an operand. Under [`Operator::Mixed`] use the calls of [`MergeParts`](crate::MergeParts), which make operands.
+    ///
+    /// # Errors
+    ///
+    /// As [`write`](Db::write), and [`ucstore::Error::BadOperand`] if the operator is [`Operator::Mixed`] and the bytes are not an
+    /// operand of it. A batch isn't checked so: there they replace the value.
+    pub fn merge(&self, key: impl AsRef<[u8]>, operand: impl AsRef<[u8]>) -> Result<(), Error> {
+        let (key, operand) = (key.as_ref(), operand.as_ref());
+        if self.shared().options.operator() == Operator::Mixed {
+            check_operand(operand)?;
+        }
+        self.merge_checked(key, operand)
+    }
+
+    /// Combines a key with an operand that was checked.
+    pub(crate) fn merge_checked(&self, key: &[u8], operand: &[u8]) -> Result<(), Error> {
+        self.write_one(|batch| batch.merge(key, operand).map(|_| ()))
+    }
+}
 
 impl MergeParts for &Db {
     type Done = ();
     type Error = Error;
 
     fn merge_operand(self, key: &[u8], operand: &Operand) -> Result<(), Error> {
-        self.merge(key, operand)
+        self.merge_checked(key, operand.as_ref())
     }
 }
 
-impl Db {
-    /// Returns the number that a key's value encodes, as [`int_of`] reads it, if the key has a value.
-    ///
-    /// # Errors
-    ///
-    /// As [`get`](Db::get).
-    pub fn get_int(&self, key: impl AsRef<[u8]>) -> Result<Option<i64>, Error> {
-        Ok(self.get(key)?.map(|value| int_of(value.as_ref())))
+impl ReadParts for Db {
+    type Error = Error;
+
+    fn value(&self, key: &[u8]) -> Result<Option<Vec<u8>>, Error> {
+        self.get(key)
+    }
+}
+
+impl ReadParts for Snapshot {
+    type Error = Error;
+
+    fn value(&self, key: &[u8]) -> Result<Option<Vec<u8>>, Error> {
+        self.get(key)
+    }
+}
+
+impl ReadParts for Transaction {
+    type Error = Error;
+
+    fn value(&self, key: &[u8]) -> Result<Option<Vec<u8>>, Error> {
+        self.get(key)
     }
 }

@@ -2,6 +2,7 @@
 
 use crate::error::Error;
 use crate::folder::Folder;
+use crate::name::Name;
 use crate::partial::Partial;
 use ucstore::Operator;
 
@@ -49,6 +50,23 @@ fn read(folder: &dyn Folder) -> Result<Operator, Error> {
         file: OPERATOR.into(),
         offset: 0,
         fault: "it names no operator".into(),
+    })
+}
+
+/// The operator to open a folder with: the one that was asked for, or else its own, or `mixed` for a new folder.
+pub(crate) fn chosen(folder: &dyn Folder, asked: Option<Operator>) -> Result<Operator, Error> {
+    if let Some(asked) = asked {
+        return Ok(asked);
+    }
+    if let Some(made) = operator_of(folder)? {
+        return Ok(made);
+    }
+    let names = folder.names().map_err(Error::of_file(""))?;
+    let has_data = |name: &String| matches!(Name::of(name), Some(Name::Log(_) | Name::Base(..)));
+    Ok(match names.iter().any(has_data) {
+        // A version that named no operator made it, whose default this was.
+        true => Operator::Append,
+        false => Operator::Mixed,
     })
 }
 

@@ -25,9 +25,9 @@ pub enum Sync {
 /// ```
 #[derive(Clone, Debug, PartialEq, Eq)]
 pub struct Options {
-    /// The operator that merges a key's operands into its value. A folder is opened with the one that it was made with, which
-    /// its file `OPERATOR` names.
-    pub operator: Operator,
+    /// The operator that merges a key's operands into its value. With `None`, the default, it is the one that the folder was made with,
+    /// which its file `OPERATOR` names, and [`Operator::Mixed`] for a new database. Another one than the folder's is rejected.
+    pub operator: Option<Operator>,
     /// When a write is on the device.
     pub sync: Sync,
     /// The options of the store in memory. It flushes and compacts by itself if there are no `compactors`; else it gathers at
@@ -76,8 +76,13 @@ impl Options {
         if self.sync == Sync::EveryMs(0) {
             return Err(ucstore::Error::BadOption.into());
         }
-        Store::create(self.operator, &self.to_store())?;
+        Store::create(self.operator(), &self.to_store())?;
         Ok(())
+    }
+
+    /// The operator, once the folder's is known.
+    pub(crate) fn operator(&self) -> Operator {
+        self.operator.unwrap_or(Operator::Mixed)
     }
 
     /// The options of the store in memory.
@@ -109,7 +114,7 @@ impl Options {
 impl Default for Options {
     fn default() -> Options {
         Options {
-            operator: Operator::Append,
+            operator: None,
             sync: Sync::Always,
             store: ucstore::Options::default(),
             compactors: 2,

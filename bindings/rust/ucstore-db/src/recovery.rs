@@ -154,9 +154,9 @@ impl Recovery {
             return Err(missing(1));
         }
         let mut recovery = Recovery {
-            store: Store::create(options.operator, &options.to_store())?,
+            store: Store::create(options.operator(), &options.to_store())?,
             fault: None,
-            operator: options.operator,
+            operator: options.operator(),
             target: RecoveryTarget::of(options),
             is_enough: false,
             number: files.found.base,

@@ -14,6 +14,7 @@ use crate::lock;
 use crate::log::{Log, Refusal};
 use crate::mark;
 use crate::newest::Newest;
+use crate::operator_file;
 use crate::options::{Options, Sync};
 use crate::recovery::Recovery;
 use crate::spin_wait::SpinWait;
@@ -81,8 +82,12 @@ impl Shared {
         options: &Options,
     ) -> Result<Shared, Error> {
         let Some(folder) = folder else {
-            let store = Store::create(options.operator, &options.to_store())?;
+            let store = Store::create(options.operator(), &options.to_store())?;
             return Shared::of(store, None, None, options, Arc::default());
+        };
+        let options = &Options {
+            operator: Some(operator_file::chosen(&*folder, options.operator)?),
+            ..options.clone()
         };
         let counts = Arc::default();
         let mut recovery = match options.read_only {

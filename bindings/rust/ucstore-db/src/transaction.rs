@@ -53,7 +53,7 @@ impl Transaction {
             db: db.clone(),
             snapshot: db.snapshot()?,
             reads: RefCell::default(),
-            writes: OwnWrites::new(shared.options.operator),
+            writes: OwnWrites::new(shared.options.operator()),
         })
     }
 

@@ -213,7 +213,10 @@ fn files_that_stay_are_linked_and_never_changed() {
         folder.path().join("deep/one"),
         folder.path().join("other"),
     );
-    let options = Options::default();
+    let options = Options {
+        operator: Some(Operator::Append),
+        ..Options::default()
+    };
     let db = Db::open(&own, &options).unwrap();
     for number in 0..100u32 {
         db.merge(format!("key {}", number % 7), "some text")
@@ -315,7 +318,7 @@ fn names_that_are_taken_are_refused() {
 fn a_database_in_memory_is_written_as_a_checkpoint() {
     let folder = Temporary::new("memory");
     let options = Options {
-        operator: Operator::Counter,
+        operator: Some(Operator::Counter),
         ..Default::default()
     };
     let db = Db::in_memory(&options).unwrap();

@@ -205,7 +205,7 @@ fn scans_from_both_ends_see_one_moment_while_others_write() {
     for operator in OPERATORS {
         let mut numbers = Numbers(seed(70 + operator as u64));
         let mut options = Options {
-            operator,
+            operator: Some(operator),
             compact_when_idle: Some(Duration::from_millis(1)),
             ..Default::default()
         };

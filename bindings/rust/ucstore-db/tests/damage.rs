@@ -7,7 +7,7 @@ mod common;
 use common::{map_of, open, Call, Device, Map, Numbers};
 use std::collections::BTreeMap;
 use std::sync::Arc;
-use ucstore_db::{Batch, Db, Error, Options};
+use ucstore_db::{Batch, Db, Error, Operator, Options};
 
 type Files = BTreeMap<String, Vec<u8>>;
 
@@ -72,6 +72,7 @@ impl Story {
 /// Opens what is there up to a fault.
 fn open_to_fault(device: &Device) -> Result<Db, Error> {
     let options = Options {
+        operator: Some(Operator::Append),
         compactors: 0,
         recover_to_fault: true,
         ..Default::default()

@@ -288,7 +288,7 @@ fn answers_stay_the_same_while_it_compacts() {
         let mut numbers = Numbers(seed(82 + operator as u64));
         let device = Device::default();
         let mut options = Options {
-            operator,
+            operator: Some(operator),
             ..options(Some(Duration::from_millis(1)))
         };
         options.store.write_buffer_size = 200 + numbers.below(2000);
@@ -332,7 +332,7 @@ fn answers_stay_the_same_while_it_compacts() {
 fn writers_and_readers_work_while_it_compacts() {
     let mut options = options(Some(Duration::from_millis(1)));
     options.store.compaction_trigger = 4;
-    options.operator = Operator::Counter;
+    options.operator = Some(Operator::Counter);
     let db = Db::in_memory(&options).unwrap();
     let one = 1u64.to_le_bytes();
     thread::scope(|scope| {

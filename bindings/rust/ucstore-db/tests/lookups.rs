@@ -14,7 +14,7 @@ const KEYS: usize = 40;
 
 fn counters() -> Options {
     Options {
-        operator: Operator::Counter,
+        operator: Some(Operator::Counter),
         ..Default::default()
     }
 }

@@ -20,7 +20,7 @@ const FOLDER: &str = "UCSTORE_DB_FOLDER";
 
 fn options() -> Options {
     let mut options = Options {
-        operator: Operator::Counter,
+        operator: Some(Operator::Counter),
         checkpoint_least: 20_000,
         ..Default::default()
     };

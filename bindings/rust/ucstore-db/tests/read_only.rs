@@ -25,6 +25,13 @@ fn files(path: &Path) -> BTreeMap<String, (Vec<u8>, i64, i64)> {
     entries.map(file).collect()
 }
 
+fn to_append() -> Options {
+    Options {
+        operator: Some(Operator::Append),
+        ..Default::default()
+    }
+}
+
 fn to_read() -> Options {
     Options {
         read_only: true,
@@ -34,7 +41,7 @@ fn to_read() -> Options {
 
 /// A folder with a checkpoint, two logs, and a torn end, as a crash leaves it.
 fn torn(path: &Path) {
-    let db = Db::open(path, &Options::default()).unwrap();
+    let db = Db::open(path, &to_append()).unwrap();
     db.put("a", "1").unwrap();
     db.checkpoint().unwrap();
     db.put("b", "2").unwrap();
@@ -225,7 +232,7 @@ fn read(folder: &dyn Folder, name: &str) -> (Vec<Write>, ucstore_db::WritesRead)
 #[test]
 fn the_writes_of_a_long_file_are_read_window_by_window() {
     let folder = Temporary::new("long");
-    let db = Db::open(folder.path(), &Options::default()).unwrap();
+    let db = Db::open(folder.path(), &to_append()).unwrap();
     for number in 0..12u32 {
         // Some are larger than a window.
         let value = vec![number as u8; 1 << (number % 3 * 5 + 11)];

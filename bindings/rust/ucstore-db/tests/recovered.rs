@@ -16,6 +16,7 @@ const CLOSING: usize = 7 + 12 + 4;
 /// The options of a part's openings, without threads.
 fn options() -> Options {
     let mut options = Options {
+        operator: Some(Operator::Append),
         compactors: 0,
         sync: Sync::Never,
         checkpoint_least: u64::MAX,

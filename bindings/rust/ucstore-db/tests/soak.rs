@@ -34,7 +34,7 @@ const MOST_GROWTH: u64 = 32 << 20;
 
 fn options() -> Options {
     let mut options = Options {
-        operator: Operator::Counter,
+        operator: Some(Operator::Counter),
         sync: Sync::EveryMs(20),
         ..Default::default()
     };

@@ -14,7 +14,7 @@ const THREADS: u64 = 8;
 
 fn counters() -> Options {
     Options {
-        operator: Operator::Counter,
+        operator: Some(Operator::Counter),
         ..Default::default()
     }
 }

@@ -226,7 +226,7 @@ fn the_progress_of_an_opening_is_told() {
 #[test]
 fn a_folder_keeps_its_operator() {
     let counters = Options {
-        operator: Operator::Counter,
+        operator: Some(Operator::Counter),
         ..Default::default()
     };
     let device = Device::default();
@@ -255,13 +255,17 @@ fn a_folder_without_an_operator_gets_one() {
     let logs = device.logs();
     let older = Device::of(&logs);
     let maximum = Options {
-        operator: Operator::Maximum,
+        operator: Some(Operator::Maximum),
         ..Default::default()
     };
     assert_eq!(map_of(&open_with(&older, &maximum).unwrap()).len(), 1);
     assert_eq!(older.files()["OPERATOR"], b"maximum\n");
+    let append = Options {
+        operator: Some(Operator::Append),
+        ..Default::default()
+    };
     assert!(matches!(
-        open(&older),
+        open_with(&older, &append),
         Err(Error::OtherOperator {
             made: Operator::Maximum,
             asked: Operator::Append

@@ -19,7 +19,11 @@ use ucstore_db::{
 type Change = fn(&Db);
 
 fn in_memory() -> Db {
-    Db::in_memory(&Options::default()).unwrap()
+    let options = Options {
+        operator: Some(Operator::Append),
+        ..Options::default()
+    };
+    Db::in_memory(&options).unwrap()
 }
 
 fn rows(rows: impl Iterator<Item = Result<KeyValue, Error>>) -> Vec<KeyValue> {
@@ -501,7 +505,7 @@ fn each_operator_merges_into_own_writes() {
     ];
     for (operator, operand, wanted) in cases {
         let options = Options {
-            operator,
+            operator: Some(operator),
             ..Options::default()
         };
         let db = Db::in_memory(&options).unwrap();

@@ -102,6 +102,8 @@ pub const UCSTORE_TAIL_BYTES: u32 = 10;
 pub const UCSTORE_MAX_U64: u32 = 11;
 /// Keeps the lesser number.
 pub const UCSTORE_MIN_U64: u32 = 12;
+pub const UCSTORE_ADD_U64: u32 = 13;
+pub const UCSTORE_SET_UNION: u32 = 14;
 
 /// A handle to a store. All zeros: no store.
 #[repr(C)]

@@ -87,7 +87,9 @@ pub use job::{EndedJob, Job};
 pub use log::{log_writes, log_writes_at, LogPlace, LogWrites, Operation, Write};
 pub use log_end::{first_told, mark_bytes, mark_of};
 pub use lookup_source::LookupSource;
-pub use operands::{int_of, MergeParts, Operand, Part};
+pub use operands::{
+    check_operand, int_of, set_bytes, set_of, MergeParts, Operand, Part, ReadParts,
+};
 pub use options::{Operator, Options};
 pub use read_set::ReadSet;
 pub use replay::{Replay, Replayed};

@@ -2,8 +2,11 @@
 
 use crate::batch::Batch;
 use crate::error::{check, Error};
+use crate::snapshot::Snapshot;
 use crate::store::Store;
 use crate::sys;
+use crate::view::View;
+use std::collections::BTreeSet;
 
 /// The number of bytes by which an operand of one part is longer than its payload, at most.
 const MOST_MORE: usize = 8;
@@ -48,12 +51,16 @@ pub enum Part<'a> {
     MaxU64(u64),
     /// Keeps the lesser number.
     MinU64(u64),
+    /// Adds a number without a sign. A sum is at most 2^64 - 1.
+    AddU64(u64),
+    /// Adds members to a set, as [`set_bytes`] encodes them. It takes time in the size of both sets.
+    Union(&'a [u8]),
 }
 
 /// An operand of [`Operator::Mixed`](crate::Operator::Mixed): parts that are applied in turn.
 ///
 /// ```
-/// use ucstore::{Operand, Operator, Options, Part, Store};
+/// use ucstore::{Operand, Operator, Options, Part, ReadParts, Store};
 ///
 /// # fn main() -> Result<(), ucstore::Error> {
 /// let store = Store::create(Operator::Mixed, &Options::default())?;
@@ -74,7 +81,8 @@ impl Operand {
     ///
     /// # Errors
     ///
-    /// [`Error::TooLong`] if the payload has 2^32 bytes or more, [`Error::OutOfMemory`].
+    /// [`Error::TooLong`] if the payload has 2^32 bytes or more, [`Error::BadOperand`] if a set is not ascending members,
+    /// [`Error::OutOfMemory`].
     pub fn of(part: Part<'_>) -> Result<Operand, Error> {
         match part {
             Part::Add(amount) => encoded(sys::UCSTORE_ADD, 0, &amount.to_le_bytes()),
@@ -91,6 +99,8 @@ impl Operand {
             Part::Tail { count, bytes } => encoded(sys::UCSTORE_TAIL_BYTES, count.into(), bytes),
             Part::MaxU64(number) => encoded(sys::UCSTORE_MAX_U64, 0, &number.to_le_bytes()),
             Part::MinU64(number) => encoded(sys::UCSTORE_MIN_U64, 0, &number.to_le_bytes()),
+            Part::AddU64(amount) => encoded(sys::UCSTORE_ADD_U64, 0, &amount.to_le_bytes()),
+            Part::Union(set) => encoded(sys::UCSTORE_SET_UNION, 0, set),
         }
     }
 
@@ -112,7 +122,7 @@ impl Operand {
     ///
     /// [`Error::BadOperand`] if they are not one.
     pub fn from_bytes(bytes: Vec<u8>) -> Result<Operand, Error> {
-        check(unsafe { sys::ucstore_operand_check(bytes.as_ptr(), bytes.len()) })?;
+        check_operand(&bytes)?;
         Ok(Operand { bytes })
     }
 }
@@ -121,6 +131,15 @@ impl AsRef<[u8]> for Operand {
     fn as_ref(&self) -> &[u8] {
         &self.bytes
     }
+}
+
+/// Checks that bytes are an operand, as [`Operand::from_bytes`] does.
+///
+/// # Errors
+///
+/// [`Error::BadOperand`] if they are not one.
+pub fn check_operand(bytes: &[u8]) -> Result<(), Error> {
+    check(unsafe { sys::ucstore_operand_check(bytes.as_ptr(), bytes.len()) })
 }
 
 /// Encodes the operand of one part.
@@ -147,6 +166,49 @@ fn encoded(part: u32, parameter: u32, payload: &[u8]) -> Result<Operand, Error> 
 /// Returns the number that a value encodes: 8 bytes, little-endian. A value of another length counts as 0.
 pub fn int_of(value: &[u8]) -> i64 {
     value.try_into().map_or(0, i64::from_le_bytes)
+}
+
+/// Encodes a set of byte strings: its members in ascending order, each 2 bytes of its length, little-endian, and its bytes.
+///
+/// # Errors
+///
+/// [`Error::TooLong`] if a member has 2^16 bytes or more, [`Error::OutOfMemory`].
+pub fn set_bytes<M: AsRef<[u8]>>(members: impl IntoIterator<Item = M>) -> Result<Vec<u8>, Error> {
+    let mut members = Vec::from_iter(members);
+    members.sort_unstable_by(|one, other| one.as_ref().cmp(other.as_ref()));
+    members.dedup_by(|one, other| one.as_ref() == other.as_ref());
+    let mut bytes = Vec::new();
+    for member in &members {
+        let member = member.as_ref();
+        let length = u16::try_from(member.len()).map_err(|_| Error::TooLong)?;
+        bytes.try_reserve(2 + member.len())?;
+        bytes.extend_from_slice(&length.to_le_bytes());
+        bytes.extend_from_slice(member);
+    }
+    Ok(bytes)
+}
+
+/// Returns the members of a set that a value encodes. Bytes that encode no member end them.
+///
+/// ```
+/// # fn main() -> Result<(), ucstore::Error> {
+/// let value = ucstore::set_bytes(["b", "a", "b"])?;
+/// assert_eq!(Vec::from_iter(ucstore::set_of(&value)), [b"a", b"b"]);
+/// # Ok(())
+/// # }
+/// ```
+pub fn set_of(value: &[u8]) -> BTreeSet<Vec<u8>> {
+    let mut members = BTreeSet::new();
+    let mut rest = value;
+    while let Some((length, bytes)) = rest.split_first_chunk() {
+        let Some((member, others)) = bytes.split_at_checked(u16::from_le_bytes(*length).into())
+        else {
+            break;
+        };
+        members.insert(member.to_vec());
+        rest = others;
+    }
+    members
 }
 
 /// Merges by the operators of [`Operator::Mixed`](crate::Operator::Mixed): a [`Store`], a [`Batch`] or a database.
@@ -210,6 +272,38 @@ pub trait MergeParts: Sized {
     ) -> Result<Self::Done, Self::Error> {
         self.merge_part(key, Part::Or(bits.as_ref()))
     }
+
+    /// Adds members to a set. A member has at most 2^16 - 1 bytes.
+    fn union<M: AsRef<[u8]>>(
+        self,
+        key: impl AsRef<[u8]>,
+        members: impl IntoIterator<Item = M>,
+    ) -> Result<Self::Done, Self::Error> {
+        let set = set_bytes(members)?;
+        self.merge_part(key, Part::Union(&set))
+    }
+}
+
+/// Reads values that merges by [`Part`] make: of a [`Store`], a [`Snapshot`](crate::Snapshot), a [`View`](crate::View) or a database.
+///
+/// Errors are those of `get`.
+#[allow(clippy::missing_errors_doc)]
+pub trait ReadParts {
+    /// The error of a read.
+    type Error;
+
+    /// Returns the value of a key, if it has one.
+    fn value(&self, key: &[u8]) -> Result<Option<Vec<u8>>, Self::Error>;
+
+    /// Returns the number that a key's value encodes, as [`int_of`] reads it, if the key has a value.
+    fn get_int(&self, key: impl AsRef<[u8]>) -> Result<Option<i64>, Self::Error> {
+        Ok(self.value(key.as_ref())?.map(|value| int_of(&value)))
+    }
+
+    /// Returns the members of a key's set, as [`set_of`] reads them, if the key has a value.
+    fn get_set(&self, key: impl AsRef<[u8]>) -> Result<Option<BTreeSet<Vec<u8>>>, Self::Error> {
+        Ok(self.value(key.as_ref())?.map(|value| set_of(&value)))
+    }
 }
 
 impl MergeParts for &Store {
@@ -230,13 +324,26 @@ impl<'a> MergeParts for &'a mut Batch {
     }
 }
 
-impl Store {
-    /// Returns the number that a key's value encodes, as [`int_of`] reads it, if the key has a value.
-    ///
-    /// # Errors
-    ///
-    /// [`Error::OutOfMemory`].
-    pub fn get_int(&self, key: impl AsRef<[u8]>) -> Result<Option<i64>, Error> {
-        Ok(self.get(key)?.map(|value| int_of(&value)))
+impl ReadParts for Store {
+    type Error = Error;
+
+    fn value(&self, key: &[u8]) -> Result<Option<Vec<u8>>, Error> {
+        self.get(key)
+    }
+}
+
+impl ReadParts for View {
+    type Error = Error;
+
+    fn value(&self, key: &[u8]) -> Result<Option<Vec<u8>>, Error> {
+        self.get(key)
+    }
+}
+
+impl ReadParts for Snapshot<'_> {
+    type Error = Error;
+
+    fn value(&self, key: &[u8]) -> Result<Option<Vec<u8>>, Error> {
+        self.get(key)
     }
 }

@@ -1,6 +1,8 @@
 //! Merges by the operators of `Operator::Mixed`, worked by hand. `bindings/python/tests/test_mixed.py` draws more, beside a model.
 
-use ucstore::{int_of, Batch, Error, MergeParts, Operand, Operator, Options, Part, Store};
+use ucstore::{
+    int_of, Batch, Error, MergeParts, Operand, Operator, Options, Part, ReadParts, Store,
+};
 
 fn store() -> Store {
     Store::create(Operator::Mixed, &Options::default()).unwrap()

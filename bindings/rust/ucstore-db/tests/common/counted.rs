@@ -12,7 +12,7 @@ pub const OPERATIONS: u64 = 4;
 /// The options of an owner that makes many flushes and checkpoints.
 pub fn of_owner() -> Options {
     let mut options = Options {
-        operator: Operator::Counter,
+        operator: Some(Operator::Counter),
         checkpoint_least: 200_000,
         checkpoint_ratio: 1,
         ..Default::default()

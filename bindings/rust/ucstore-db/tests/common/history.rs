@@ -3,7 +3,7 @@
 use super::{Device, Numbers};
 use std::collections::BTreeMap;
 use std::sync::Arc;
-use ucstore_db::{Batch, Db, Error, Options, Sync};
+use ucstore_db::{Batch, Db, Error, Operator, Options, Sync};
 
 pub type Map = BTreeMap<Vec<u8>, Vec<u8>>;
 
@@ -194,6 +194,7 @@ impl History {
 /// Opens a device without threads, so that each run makes the same calls.
 pub fn open(device: &Device) -> Result<Db, Error> {
     let mut options = Options {
+        operator: Some(Operator::Append),
         compactors: 0,
         sync: Sync::Never,
         ..Default::default()
