@@ -10,7 +10,8 @@
 #
 # Each language runs its examples, the cases of bindings/cases, a million puts in a row, and drawn calls beside a plain
 # dictionary: OPERATIONS (50000) for each of the four operators in C. `refused` refuses each allocation of CALLS (1000) drawn
-# calls, and tries what promises.c counts. SEED (1) is the seed of what C draws.
+# calls, and tries what promises.c counts. SEED (1) is the seed of what C draws, and of cases of the operator `mixed`: 500, or with LONG=1
+# 25,000, which merge 100,000 operands and more.
 set -euo pipefail
 here=$(cd "$(dirname "${BASH_SOURCE[0]}")" && pwd)
 work=$(mktemp -d)
@@ -21,6 +22,7 @@ export PATH=$PATH:${CARGO_HOME:-$HOME/.cargo}/bin
 operations=${OPERATIONS:-50000}
 calls=${CALLS:-1000}
 seed=${SEED:-1}
+cases_drawn=${LONG:+25000}
 read -ra cc <<< "${CC:-cc}"
 read -ra cxx <<< "${CXX:-c++}"
 strict=(-Wall -Wextra -Werror -pedantic)
@@ -55,6 +57,7 @@ install_all() {
     check_versions
     check_names -D "$work/usr/lib/libucstore.so"
     check_names -g "$work/usr/lib/libucstore.a"
+    python3 "$here/python/tests/draw_cases.py" "$seed" "${cases_drawn:-500}" mixed > "$work/drawn.txt"
 }
 
 # All packages have the version of the header.
@@ -147,8 +150,8 @@ try_c() {
     "$work/worked_cpp"
     "$work/operands"
     "$work/operands_cpp"
-    "$work/play" "$here"/cases/*.txt
-    "$work/play_cpp" "$here"/cases/*.txt
+    "$work/play" "$here"/cases/*.txt "$work/drawn.txt"
+    "$work/play_cpp" "$here"/cases/*.txt "$work/drawn.txt"
     "$work/million"
     "$work/test" "$operations" "$seed"
     "$work/test_cpp" $((operations / 10)) $((seed + 1))
@@ -212,6 +215,7 @@ check_declarations() {
 try_rust() {
     check_declarations
     cp -r "$here/rust" "$here/cases" "$work"
+    cp "$work/drawn.txt" "$work/cases"
     rm -rf "$work/rust/target"
     (cd "$work/rust" && cargo test --offline --quiet -j 1 -p ucstore)
     expect first.rs "$first" "$(cd "$work/rust" && cargo run --offline --quiet -j 1 -p ucstore --example first)"
@@ -249,7 +253,7 @@ try_python() {
     cp "$library" "$(dirname "$("$python" -c 'import ucstore; print(ucstore.__file__)')")"
     expect 'first.py, beside its library' "$first" "$(env -u LD_LIBRARY_PATH "$python" "$work/first.py")"
     for tests in test_ucstore test_mixed test_cases; do
-        (cd "$work" && "$python" "$here/python/tests/$tests.py" --quiet)
+        (cd "$work" && UCSTORE_DRAWN_CASES=$work/drawn.txt "$python" "$here/python/tests/$tests.py" --quiet)
     done
 }
 

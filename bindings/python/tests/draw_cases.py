@@ -1,14 +1,16 @@
 """Prints a file of random cases in the form of bindings/cases, with the answers of the model:
 
-    draw_cases.py SEED CASES > FILE
+    draw_cases.py SEED CASES [OPERATOR] > FILE
 
-The model has no memtables, runs or logs. The players of C and Python play the file over a database.
+All stores have the operator, if one is named. The model has no memtables, runs or logs. The players of C and Python play the file over a database.
 """
 
 import random
 import sys
 
-from test_cases import rewritten
+from test_cases import rewritten, word_of
+
+import mixed_model  # test_cases has its folder in the path.
 
 KEYS = ["a", "ab", "abc", "b", "ba", "c", '""', '"\\x00"', '"a\\x00"', '"\\xff"', '"\\xff\\xff"', "20*k", "300*k"]
 NAMES = ["one", "two", "three", "four", "five"]
@@ -20,16 +22,37 @@ OPTIONS = ["", " write_buffer_size=1", " write_buffer_size=64", " write_buffer_s
 class Drawn:
     """Returns the lines of a file."""
 
-    def __init__(self, seed):
+    def __init__(self, seed, operators):
         self.random = random.Random(seed)
+        self.operators = operators
         self.lines = []
         self.names = []
 
     def texts(self):
         return NUMBERS if self.operator == "counter" else TEXTS
 
+    def part(self):
+        """A part, whose payload has its shape."""
+        number = self.random.choice(mixed_model.NUMBERS)
+        parameter = {mixed_model.APPEND: self.random.choice([0, 44]), mixed_model.TAIL: self.random.choice([0, 2, 300])}.get(number, 0)
+        if number in mixed_model.OF_NUMBERS:
+            payload = self.random.choice([1, 7, 2**63, 2**64 - 1]).to_bytes(8, "little")
+        elif number == mixed_model.SET_UNION:
+            payload = mixed_model.set_bytes(sorted({self.bytes() for _ in range(self.random.randrange(4))}))
+        else:
+            payload = self.bytes() * self.random.choice([1, 1, 1, 90])
+        return mixed_model.spelled(mixed_model.Part(mixed_model.Kind(number, parameter), payload))
+
+    def bytes(self):
+        return bytes(self.random.choice([0, 1, 97, 98, 255]) for _ in range(self.random.randrange(4)))
+
+    def operand(self):
+        if self.operator != "mixed":
+            return self.random.choice(self.texts())
+        return word_of(b"".join(self.part() for _ in range(self.random.choice([1, 1, 1, 2, 3]))))
+
     def create(self):
-        self.operator = self.random.choice(["append", "counter", "maximum", "tail"])
+        self.operator = self.random.choice(self.operators)
         self.names = []
         self.lines.append(f"create {self.operator}{self.random.choice(OPTIONS)}")
 
@@ -39,7 +62,8 @@ class Drawn:
     def write(self, indent=""):
         """Adds a write of one operation."""
         kind = self.random.choice(["put", "put", "merge", "merge", "merge", "delete", "range"])
-        second = {"delete": "", "range": f" {self.key()}"}.get(kind, f" {self.random.choice(self.texts())}")
+        text = self.operand() if kind == "merge" else self.random.choice(self.texts())
+        second = {"delete": "", "range": f" {self.key()}"}.get(kind, f" {text}")
         self.lines.append(f"{indent}{kind} {self.key()}{second}")
 
     def batch(self):
@@ -81,7 +105,7 @@ class Drawn:
         self.lines += ["scan", "last", "----", ""]
 
 
-drawn = Drawn(int(sys.argv[1]))
+drawn = Drawn(int(sys.argv[1]), sys.argv[3:] or ["append", "counter", "maximum", "tail", "mixed"])
 for _ in range(int(sys.argv[2])):
     drawn.case()
 print("\n".join(rewritten(drawn.lines)))

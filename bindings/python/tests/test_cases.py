@@ -5,6 +5,7 @@
 writes the answers of the model to files. That needs no library.
 """
 
+import os
 import re
 import sys
 import unittest
@@ -13,6 +14,7 @@ from pathlib import Path
 from typing import Any, Dict, Iterable, Iterator, List, NamedTuple, Optional, Tuple
 
 FOLDER = Path(__file__).resolve().parents[2] / "cases"
+DRAWN = [Path(name) for name in os.environ.get("UCSTORE_DRAWN_CASES", "").split(":") if name]
 sys.path.insert(0, str(FOLDER))
 
 import model  # noqa: E402
@@ -334,7 +336,7 @@ class Cases(unittest.TestCase):
     def play_all(self, module: Any, ways: Iterable[str]) -> int:
         """Plays all files, and returns the number of cases. The number of runs depends on the way."""
         whole = 0
-        for file in sorted(FOLDER.glob("*.txt")):
+        for file in sorted(FOLDER.glob("*.txt")) + DRAWN:
             has_report = "report" in file.read_text().splitlines()
             for way in [NOTHING] if has_report else ways:
                 count, failures = play(file, module, way)

@@ -23,8 +23,8 @@
 -- longer than a tail until it is merged.
 --
 -- Sums of signed numbers that stop at a greatest and a least number don't group freely: of 2^63 - 1, 1 and -1 the first two stop at
--- 2^63 - 1, which gives 2^63 - 2, and the last two are 0, which gives 2^63 - 1. Nor does a removal of members, over a value that isn't
--- sorted, by one walk: the union of two operands is sorted, and meets other members of it than each of them.
+-- 2^63 - 1, which gives 2^63 - 2, and the last two are 0, which gives 2^63 - 1. Nor do removals of members by one walk: of a value with the
+-- members 1 and 0, in this order, the removals of 1 and then of 0 leave none, and the removal of both leaves 0.
 use Rattle.std.specs.Prelude.{◌≡◌, ℕ, ◌==◌, nat_lt, Bool, true, false, ◌&&◌, Option, Some, None, List, max, bit_and, bit_or, bit_xor, if◌then◌else◌}
 use Rattle.std.proofs.Common.{ap, ◌∙◌, sym, refl}
 use Rattle.std.proofs.lemmas.Bool.{eqb-true, eq-eqb}

@@ -33,7 +33,7 @@ pub struct Args {
     /// Keys and values are hexadecimal, two digits for each byte
     #[arg(long, global = true)]
     hex: bool,
-    /// Merge operator, for a directory without the file OPERATOR, which names it
+    /// Merge operator, for a new directory (default: mixed), or one without the file OPERATOR, which names it
     #[arg(long, global = true, value_name = "NAME")]
     operator: Option<OperatorName>,
     #[command(subcommand)]

@@ -211,6 +211,7 @@ fn operator_of(name: &str) -> Operator {
         "counter" => Operator::Counter,
         "maximum" => Operator::Maximum,
         "tail" => Operator::Tail,
+        "mixed" => Operator::Mixed,
         other => panic!("an unknown operator {other}"),
     }
 }

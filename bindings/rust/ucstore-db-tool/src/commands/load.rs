@@ -24,7 +24,7 @@ it. All is durable when it ends.
 Example: ucstore-db visits dump | ucstore-db copy load --create --operator counter"
 )]
 pub struct Load {
-    /// Make the database if there is none, with the merge operator that --operator names
+    /// Make the database if there is none, with the merge operator of --operator, or else `mixed`
     #[arg(long)]
     create: bool,
 }

@@ -19,7 +19,7 @@ pub struct Merge {
     key: OsString,
     /// Operand
     operand: OsString,
-    /// Make the database if there is none, with the merge operator that --operator names
+    /// Make the database if there is none, with the merge operator of --operator, or else `mixed`
     #[arg(long)]
     create: bool,
 }

@@ -16,7 +16,7 @@ pub struct Put {
     key: OsString,
     /// Value
     value: OsString,
-    /// Make the database if there is none, with the merge operator that --operator names
+    /// Make the database if there is none, with the merge operator of --operator, or else `mixed`
     #[arg(long)]
     create: bool,
 }
