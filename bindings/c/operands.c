@@ -101,9 +101,36 @@ static void try_bad(void) {
     CHECK(ucstore_operand_check(room, 6) == UCSTORE_BAD_OPERAND);
 }
 
+/* A million additions on one key are one part of 8 bytes, and a read of them is their sum. */
+static void try_many(void) {
+    const uint8_t one[8] = {1}, million[8] = {0x40, 0x42, 0x0f};
+    static struct ucstore store;
+    bool is_compacted = true;
+    struct ucstore_options options;
+    struct ucstore_report report;
+    uint64_t sequence, at;
+    CHECK(ucstore_options_init(&options) == UCSTORE_OK);
+    CHECK(ucstore_create(&store, UCSTORE_MIXED, &options) == UCSTORE_OK);
+    CHECK(ucstore_put(&store, (const uint8_t *)"z", 1, one, 1) == UCSTORE_OK);
+    CHECK(ucstore_snapshot(&store, &sequence) == UCSTORE_OK);
+    for (at = 0; at < 1000000; at++) {
+        merge_as(&store, UCSTORE_ADD, 0, one, sizeof one);
+    }
+    CHECK(ucstore_flush(&store) == UCSTORE_OK);
+    while (is_compacted) {
+        CHECK(ucstore_compact(&store, &is_compacted) == UCSTORE_OK);
+    }
+    report.size = sizeof report;
+    CHECK(ucstore_report(&store, &report) == UCSTORE_OK);
+    CHECK(report.points == 2 && report.bytes == (1 + 1 + 8) + (sizeof KEY + 10 + 8));
+    expect(&store, million, sizeof million);
+    CHECK(ucstore_close(&store) == UCSTORE_OK);
+}
+
 int main(void) {
     try_values();
     try_bad();
+    try_many();
     printf("operands: each operator and each bad payload\n");
     return 0;
 }
