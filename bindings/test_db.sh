@@ -112,16 +112,17 @@ compile() { # NAME COMPILER.. -- LIBRARY..
 # The programs by one compiler, and what they say.
 run_programs() { # COMPILER.. -- LIBRARY..
     local name
-    for name in db_test db_threads db_cursors db_first; do
+    for name in db_test db_threads db_cursors db_first db_mixed; do
         compile "$name" "$@"
     done
-    rm -rf "$work"/{calls,threads,visits}
+    rm -rf "$work"/{calls,threads,visits,site}
     mkdir "$work/calls"
     "$work/db_test" "$work/calls"
     "$work/db_threads" "$work/threads"
     "$work/db_cursors" "$cursors_drawn" 1000000 "$seed"
     expect db_first.c '5 visits, 2 before' "$(cd "$work" && ./db_first)"
     expect 'db_first.c, again' '10 visits, 7 before' "$(cd "$work" && ./db_first)"
+    expect db_mixed.c '1 visits, 2 before, 2 tags' "$(cd "$work" && ./db_mixed)"
 }
 
 # Plays files of cases.
