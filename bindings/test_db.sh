@@ -30,7 +30,7 @@ if [ -n "${LONG:-}" ]; then cases_drawn=600 cursors_drawn=6000; fi
 strict=(-Wall -Wextra -Werror -pedantic)
 # What a database has too: no sequences of batches, and no reports.
 played=()
-for name in merges operators partial ranges runs scans snapshots texts; do
+for name in merges mixed operators partial ranges runs scans snapshots texts; do
     played+=("$here/cases/$name.txt")
 done
 

@@ -232,7 +232,8 @@ class Db(Reader, MutableMapping[bytes, bytes], MergesParts):
         self.put(key, value)
 
     def merge(self, key: Bytes, operand: Bytes) -> None:
-        """Merges an operand into a key's value."""
+        """Merges an operand into a key's value. Under `Operator.MIXED` it raises `BadOperand` for bytes that are not an operand: `add` and
+        the other calls make operands."""
         first, second = bytes_of(key), bytes_of(operand)
         self._call("merge", first, len(first), second, len(second))
 

@@ -52,7 +52,7 @@ pub struct Options {
     /// is changed, and writes are rejected. It has each write that was acknowledged before; [`Db::refresh`](crate::Db::refresh) catches up
     /// with later ones. What is torn at the end of the last log isn't read, and stays there. What is read may not be durable yet.
     pub read_only: bool,
-    /// Opens a damaged folder up to the damage. Nothing can be written then.
+    /// Opens a damaged folder up to the damage. Nothing can be written then. If the file `OPERATOR` is damaged, name the `operator`.
     pub recover_to_fault: bool,
     /// Gives up what the files have after this sequence, whatever it is: to be called when another log says which batches were
     /// acknowledged. It has to be the end of a batch; those of writers that come together are one. What is given up is cut off
