@@ -85,7 +85,8 @@ impl Group {
     /// The condition of a group that is one transaction: the call that prepares it judges too.
     pub(crate) fn lone_condition(&self) -> Option<&Condition> {
         match &self.members[..] {
-            [member] if self.batches == 1 => Some(&member.condition),
+            // The batch may be another one, from which the transaction was left out.
+            [member] if self.batches == 1 && member.conflict.is_none() => Some(&member.condition),
             _ => None,
         }
     }
@@ -175,6 +176,26 @@ mod tests {
         let group = groups.close();
         assert!(group.is_synced && group.batches == 5 && group.members.len() == 3);
         assert!(group.lone_condition().is_none());
+    }
+
+    #[test]
+    fn a_write_is_taken_without_the_transaction_that_joined_it() {
+        let store = Store::create(Operator::Append, &Options::default()).unwrap();
+        let groups = Groups::default();
+        groups.join(batch(&["usual"]), false, false);
+        let Turn::Follows(outcome) = groups.join_if(candidate(&store, "r", &["a"]), false, false)
+        else {
+            panic!("it joins");
+        };
+        store.put("r", "changed").unwrap();
+        let mut group = groups.close();
+        assert!(group.lone_condition().is_none());
+        let lost = group.judge(&store).unwrap();
+        group.leave_out(&lost);
+        assert!(group.lone_condition().is_none());
+        assert_eq!(group.batch, batch(&["usual"]));
+        group.tell(&Ok(()));
+        assert!(outcome.wait(crate::spin_wait::SpinWait::Short).is_err());
     }
 
     #[test]
