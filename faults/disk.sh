@@ -2,15 +2,16 @@
 # Tries the durable database on what a disk may hold after a crash, from outside: its calls are recorded, and so is what file
 # systems write.
 #
-#     faults/disk.sh [control] [lies] [model] [machines]
+#     faults/disk.sh [control] [lies] [model] [backups] [machines]
 #
-# Without words it does all four.
+# Without words it does all five.
 # - control: a small log of the test's own, which is right, passes.
 # - lies: if a device keeps less than it says, that is found.
 # - model: the database, on a device that keeps any sectors, pages and names of what wasn't synced.
+# - backups: backups on such a device while the database is written to, linked and copied: each is absent or whole.
 # - machines: the database on ext4 and xfs in files that are mounted. That needs root, loop devices and FUSE; else it says so.
 #
-# It takes about a minute, and with LONG=1 it opens 50,000 states. SEED (1) is that of what is drawn. Each part ends with `N states,
+# It takes about two minutes, and with LONG=1 it opens 70,000 states. SEED (1) is that of what is drawn. Each part ends with `N states,
 # M wrong`, and the status is 1 where a state was wrong. Needs cc, python3 and cargo. UCSTORE_LIB_DIR may name the directory of
 # libucstore.a and libucstore.so.2; else tools/install puts them into a temporary one. UCSTORE_DB_LIBRARY may name the
 # database's own library.
@@ -25,12 +26,14 @@ export PATH=$PATH:${CARGO_HOME:-$HOME/.cargo}/bin
 seed=${SEED:-1}
 few=400
 most=6000
+backups=2000
 images=20
 steps=80
 histories=1
 if [ -n "${LONG:-}" ]; then
     few=3000
     most=50000
+    backups=20000
     images=250
     steps=250
     histories=6
@@ -105,6 +108,10 @@ try_model() {
     try model adversary --states "$most"
 }
 
+try_backups() {
+    try backups backups --states "$backups"
+}
+
 try_machines() {
     try "machines, the control" machines --store control --states "$images" --steps "$steps"
     try machines machines --states "$images" --steps "$steps" --histories "$histories"
@@ -114,10 +121,10 @@ check_needs
 find_library
 build
 parts=("$@")
-if [ $# -eq 0 ]; then parts=(control lies model machines); fi
+if [ $# -eq 0 ]; then parts=(control lies model backups machines); fi
 for part in "${parts[@]}"; do
     case $part in
-        control | lies | model | machines) "try_$part" ;;
+        control | lies | model | backups | machines) "try_$part" ;;
         *) fail "there is no part $part" ;;
     esac
 done

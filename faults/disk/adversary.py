@@ -22,7 +22,7 @@ import subprocess
 import sys
 import tempfile
 from pathlib import Path
-from typing import Counter, Dict, Iterator, List, NamedTuple, Optional
+from typing import Any, Callable, Counter, Dict, Iterator, List, NamedTuple, Optional
 
 from device import Call, Device, Files, calls_of
 from promise import Promise, Wrong, open_batches
@@ -221,24 +221,28 @@ def read_arguments() -> argparse.Namespace:
     return parser.parse_args()
 
 
-def main() -> int:
-    arguments = read_arguments()
+def run_all(run: Callable[[Any], Told], plans: Iterator[Any], states: int, jobs: int) -> int:
+    """Does jobs until they have opened a number of states, and tells what they found. Returns the status of the program."""
     counts: Counter[str] = collections.Counter()
     wrong: List[str] = []
-    plans = plans_of(arguments)
-    with concurrent.futures.ProcessPoolExecutor(arguments.jobs) as pool:
-        waiting = {pool.submit(run_job, next(plans)) for _ in range(2 * arguments.jobs)}
+    with concurrent.futures.ProcessPoolExecutor(jobs) as pool:
+        waiting = {pool.submit(run, next(plans)) for _ in range(2 * jobs)}
         while waiting:
             done, waiting = concurrent.futures.wait(waiting, return_when=concurrent.futures.FIRST_COMPLETED)
             for told in (future.result() for future in done):
                 counts.update(told.counts)
                 wrong.extend(told.wrong)
-                if sum(counts.values()) < arguments.states:
-                    waiting.add(pool.submit(run_job, next(plans)))
+                if sum(counts.values()) < states:
+                    waiting.add(pool.submit(run, next(plans)))
     tell_wrong(wrong)
     print(", ".join(f"{kind} {count}" for kind, count in sorted(counts.items())))
     print(f"{sum(counts.values())} states, {len(wrong)} wrong")
     return 1 if wrong else 0
+
+
+def main() -> int:
+    arguments = read_arguments()
+    return run_all(run_job, plans_of(arguments), arguments.states, arguments.jobs)
 
 
 if __name__ == "__main__":

@@ -178,7 +178,7 @@ class Device:
         if kind == "process":
             return self.now()
         names = self._names_left(kind, drawn)
-        files = {name: _left(content, kind, drawn) for name, content in names.items()}
+        files = {name: left_of(content, kind, drawn) for name, content in names.items()}
         if kind == "stale":
             for name, content in names.items():
                 files[name] = self._with_stale(files[name], content, drawn)
@@ -210,7 +210,7 @@ class Device:
         return names
 
 
-def _left(content: Content, kind: str, drawn: random.Random) -> bytes:
+def left_of(content: Content, kind: str, drawn: random.Random) -> bytes:
     """The contents of a file after a crash."""
     if kind == "synced" or content.is_settled:
         return bytes(content.disk)

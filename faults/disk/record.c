@@ -4,11 +4,11 @@
  * that are separated by tabs, and what was written follows its line:
  *
  *     create INODE PATH   write INODE OFFSET LENGTH   cut INODE LENGTH   sync INODE   lost INODE
- *     mkdir PATH   syncdir PATH   rename FROM TO   unlink PATH   mark TEXT
+ *     mkdir PATH   syncdir PATH   rename FROM TO   link FROM TO   unlink PATH   mark TEXT
  *
  * `lost` is a sync that failed. DISK_FAIL=KIND:N lets the Nth call of a kind fail by EIO: sync, syncdir, write, or any. A write
- * that fails has written its first half. DISK_STOP=N ends the process after its Nth call, as signal 9 does. One call goes at
- * a time, so that the order of the lines is the order of the calls. */
+ * that fails has written its first half. DISK_STOP=N ends the process after its Nth call, as signal 9 does. With DISK_LINKS=no a link
+ * fails by EXDEV, as between file systems. One call goes at a time, so that the order of the lines is the order of the calls. */
 #define _GNU_SOURCE
 #include <dlfcn.h>
 #include <errno.h>
@@ -304,6 +304,35 @@ int rename(const char *from, const char *to) {
 
 int renameat(int from_directory, const char *from, int to_directory, const char *to) {
     return rename_told(from_directory, from, to_directory, to, 0);
+}
+
+static int link_told(int from_directory, const char *from, int to_directory, const char *to, int flags) {
+    char before[PATH_MAX], behind[PATH_MAX];
+    const char *links = getenv("DISK_LINKS");
+    if (!path_of(from_directory, from, before) || !path_of(to_directory, to, behind)) {
+        return (int)syscall(SYS_linkat, from_directory, from, to_directory, to, flags);
+    }
+    if (links != NULL && strcmp(links, "no") == 0) {
+        errno = EXDEV;
+        return -1;
+    }
+    pthread_mutex_lock(&one_at_a_time);
+    int told = (int)syscall(SYS_linkat, from_directory, from, to_directory, to, flags), error = errno;
+    if (told == 0) {
+        tell("link\t%s\t%s\n", before, behind);
+        count_call();
+    }
+    pthread_mutex_unlock(&one_at_a_time);
+    errno = error;
+    return told;
+}
+
+int link(const char *from, const char *to) {
+    return link_told(AT_FDCWD, from, AT_FDCWD, to, 0);
+}
+
+int linkat(int from_directory, const char *from, int to_directory, const char *to, int flags) {
+    return link_told(from_directory, from, to_directory, to, flags);
 }
 
 static int unlink_told(int directory, const char *name, int flags) {

@@ -65,6 +65,10 @@ class Database:
             return False
         return True
 
+    def backup(self, folder: Path) -> None:
+        """Writes the database as it is now to a new directory."""
+        self._db.backup(folder)
+
     def rows(self) -> Rows:
         return dict(self._db.items())
 
