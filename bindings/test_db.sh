@@ -10,7 +10,8 @@
 # - c: each function, threads, moves of cursors, the cases of bindings/cases and drawn ones, and programs, by gcc and clang and as C++.
 # - sanitizers: those of addresses, undefined behaviour and threads. valgrind: once.
 # - python: each call, the same cases, the types by mypy where there is one, and how fast a scan is.
-# - ended: programs of C and Python are ended by signal 9 while eight threads write, and the example until it is done.
+# - ended: programs of C and Python are ended by signal 9 while eight threads write, also with others that read beside them, and the
+#   example until it is done.
 #
 # It takes some two minutes, or twelve with LONG=1. SEED (1) is that of what is drawn. It needs cargo with Rust 1.89, gcc,
 # clang, valgrind and python3, and no network. UCSTORE_LIB_DIR may name the folder of libucstore.a and libucstore.so.2; else
@@ -199,6 +200,8 @@ try_ended() {
     compile db_count gcc -std=c99 -O2 -- "${flags[@]}"
     python3 "$here/python/tests/end_processes.py" "${times:-20}" "$work/ended_c" "$work/db_count"
     python3 "$here/python/tests/end_processes.py" "${times:-20}" "$work/ended_python" python3 "$here/python/tests/count.py"
+    python3 "$here/python/tests/follow_processes.py" "${LONG:+6}4" "$work/followed_c" "$work/db_count"
+    python3 "$here/python/tests/follow_processes.py" "${LONG:+6}4" "$work/followed_python" python3 "$here/python/tests/count.py"
     end_example
 }
 

@@ -2,6 +2,8 @@
  *
  *     db_count FOLDER          counts
  *     db_count FOLDER read     prints the last number of each thread
+ *     db_count FOLDER follow   reads beside the process that counts: for each line of input it catches up, and prints `followed`, the
+ *                              sequence number, and the number of each thread
  *
  * Each thread writes the same number under two keys at once, so both always have the same number. */
 #include <pthread.h>
@@ -59,8 +61,46 @@ static void *count(void *context) {
     return NULL;
 }
 
+/* Prints the numbers of all threads at one moment. */
+static void print_followed(void) {
+    uint64_t lengths[2 * THREADS], found[2 * THREADS], values[2 * THREADS], numbers[2 * THREADS], last;
+    struct ucstore_db_snapshot *snapshot = NULL;
+    char keys[4 * THREADS + 1];
+    size_t size = 0, next = 0;
+    for (unsigned place = 0; place < 2 * THREADS; place++) {
+        lengths[place] = 2;
+        snprintf(keys + 2 * place, 3, "%c%u", place < THREADS ? 'a' : 'b', place % THREADS);
+    }
+    check(ucstore_db_snapshot(db, &snapshot));
+    check(ucstore_db_snapshot_sequence(snapshot, &last));
+    check(ucstore_db_snapshot_get_many(snapshot, keys, 4 * THREADS, lengths, 2 * THREADS, found, values, sizeof values, &size));
+    check(ucstore_db_snapshot_close(snapshot));
+    for (unsigned place = 0; place < 2 * THREADS; place++) {
+        numbers[place] = found[place] == sizeof *values ? values[next++] : 0;
+    }
+    printf("followed %llu", (unsigned long long)last);
+    for (unsigned thread = 0; thread < THREADS; thread++) {
+        if (numbers[thread] != numbers[THREADS + thread]) {
+            fprintf(stderr, "db_count: a reader has half of a batch of thread %u\n", thread);
+            exit(1);
+        }
+        printf(" %llu", (unsigned long long)numbers[thread]);
+    }
+    printf("\n");
+}
+
+static void follow(void) {
+    char line[LINE];
+    uint64_t last;
+    while (fgets(line, sizeof line, stdin) != NULL) {
+        check(ucstore_db_refresh(db, &last));
+        print_followed();
+    }
+}
+
 int main(int argc, char **argv) {
     struct ucstore_db_options options;
+    int is_following = argc > 2 && strcmp(argv[2], "follow") == 0;
     unsigned numbers[THREADS];
     pthread_t threads[THREADS];
     setvbuf(stdout, NULL, _IOLBF, BUFSIZ);
@@ -68,8 +108,12 @@ int main(int argc, char **argv) {
     options.merge_operator = UCSTORE_DB_COUNTER;
     options.write_buffer_size = 2000;
     options.checkpoint_least = 20000;
+    options.read_only = (uint32_t)is_following;
     check(ucstore_db_open(argc > 1 ? argv[1] : "", &options, &db));
-    for (unsigned thread = 0; thread < THREADS; thread++) {
+    if (is_following) {
+        follow();
+    }
+    for (unsigned thread = 0; thread < THREADS && !is_following; thread++) {
         numbers[thread] = thread;
         if (argc > 2) {
             printf("counted %u %llu\n", thread, (unsigned long long)counted(thread));

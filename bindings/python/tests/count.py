@@ -2,6 +2,8 @@
 
     count.py FOLDER          counts
     count.py FOLDER read     prints the last number of each thread
+    count.py FOLDER follow   reads beside the process that counts: for each line of input it catches up, and prints `followed`, the sequence
+                             number, and the number of each thread
 
 Each thread writes the same number under two keys at once, so both always have the same number.
 """
@@ -39,7 +41,23 @@ def count(db, thread):
         counted(db, (thread + 1) % THREADS)
 
 
+def follow(folder):
+    with Db(folder, Operator.COUNTER, read_only=True) as db:
+        for _ in sys.stdin.buffer:
+            least = db.refresh()
+            with db.snapshot() as snapshot:
+                if snapshot.sequence < least:
+                    sys.exit("a snapshot is older than a refresh before it")
+                values = snapshot.get_many([b"%c%d" % (kind, thread) for kind in b"ab" for thread in range(THREADS)])
+                numbers = [int.from_bytes(value or b"", "little") for value in values]
+                if numbers[:THREADS] != numbers[THREADS:]:
+                    sys.exit("a reader has half of a batch")
+                print("followed", snapshot.sequence, *numbers[:THREADS], flush=True)
+
+
 def main():
+    if sys.argv[2:] == ["follow"]:
+        return follow(sys.argv[1])
     options = DbOptions(write_buffer_size=2000, checkpoint_least=20_000)
     with Db(sys.argv[1], Operator.COUNTER, options) as db:
         if len(sys.argv) > 2:
