@@ -11,7 +11,7 @@
 # - backups: backups on such a device while the database is written to, linked and copied: each is absent or whole.
 # - machines: the database on ext4 and xfs in files that are mounted. That needs root, loop devices and FUSE; else it says so.
 #
-# It takes about two minutes, and with LONG=1 it opens 70,000 states. SEED (1) is that of what is drawn. Each part ends with `N states,
+# It takes about two minutes, and with LONG=1 it opens 70,000 states. SEED (1) is the seed. Each part ends with `N states,
 # M wrong`, and the status is 1 where a state was wrong. Needs cc, python3 and cargo. UCSTORE_LIB_DIR may name the directory of
 # libucstore.a and libucstore.so.2; else tools/install puts them into a temporary one. UCSTORE_DB_LIBRARY may name the
 # database's own library.

@@ -35,7 +35,7 @@ void open_store(const char *folder, bool is_synced) {
     rocksdb_writeoptions_set_sync(writing, is_synced);
     reading = rocksdb_readoptions_create();
     beginning = rocksdb_optimistictransaction_options_create();
-    /* What is read is checked from the beginning on. */
+    /* Reads are checked from the beginning on. */
     rocksdb_optimistictransaction_options_set_set_snapshot(beginning, 1);
 }
 

@@ -149,7 +149,7 @@ class Job:
         def check() -> None:
             found = self._open(state / "db")
             promises.database.check(found, kind == "process")
-            # What a crash left of a backup is in no later one's way.
+            # Leftovers of a backup don't hinder a later one.
             if self._drawn.random() < 0.1:
                 self._back_up(state)
                 if self._open(state / "copies" / "later") != found:

@@ -134,7 +134,7 @@ def run():
             owner.process.kill()
         for reader in [*readers, newest]:
             reader.check(acknowledged, True)
-        # What wasn't acknowledged and is there is counted on.
+        # Numbers that are there without being acknowledged are counted on.
         acknowledged[:] = newest.numbers
         asked += newest.end()
         ends += 1
