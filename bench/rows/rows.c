@@ -1,7 +1,8 @@
 /* Prints the nanoseconds of a row or a call: `rows COUNT RUNS WORK [CALLS]`.
  *
  * COUNT rows are put in a drawn order, and flushed to RUNS runs of like size, whose keys interleave. WORK is `forward` or `back`, all
- * rows by pages of 256; `ten` or `ten-back`, ten rows from a drawn key on; or `get`, a drawn key. */
+ * rows by pages of 256; `ten` or `ten-back`, ten rows from a drawn key on; `get`, a drawn key; or `many`, one of 32 that are looked up at
+ * once. */
 #include <string.h>
 #include <ucstore.h>
 
@@ -13,6 +14,8 @@ enum { LENGTH = 8, ROW = 2 * LENGTH + KEY + VALUE };
 static struct ucstore store;
 static struct ucstore_view view;
 static uint8_t page[PAGE * ROW];
+static uint8_t keys[MANY * KEY];
+static uint64_t key_lengths[MANY], value_lengths[MANY];
 
 static void expect_ok(int32_t status, const char *what) {
     expect(status == UCSTORE_OK, what);
@@ -84,12 +87,32 @@ static void read_ten(const uint8_t *key, bool is_back) {
     }
 }
 
+/* Looks up drawn keys, 32 at once, and returns their number. */
+static uint64_t look_up_many(uint64_t count, uint64_t calls) {
+    uint64_t state = 88172645463325252;
+    size_t size;
+    for (int place = 0; place < MANY; place++) {
+        key_lengths[place] = KEY;
+    }
+    for (uint64_t call = 0; call < calls; call++) {
+        for (int place = 0; place < MANY; place++) {
+            spell(draw(&state) % count, keys + place * KEY);
+        }
+        expect_ok(ucstore_view_get_many(&view, keys, sizeof keys, key_lengths, MANY, value_lengths, MANY, page, sizeof page, &size), "no rows");
+        expect(size == MANY * VALUE, "rows are missing");
+    }
+    return calls * MANY;
+}
+
 /* Does the work, and returns the number of rows or calls. */
 static uint64_t work_on(const char *work, uint64_t count, uint64_t calls) {
     bool is_back = strcmp(work, "back") == 0 || strcmp(work, "ten-back") == 0;
     if (is_back ? work[0] == 'b' : strcmp(work, "forward") == 0) {
         expect(read_all(is_back) == count, "rows are missing");
         return count;
+    }
+    if (strcmp(work, "many") == 0) {
+        return look_up_many(count, (calls == 0 ? LOOKUPS : calls) / MANY);
     }
     bool looks_up = strcmp(work, "get") == 0;
     uint64_t state = 88172645463325252;

@@ -7,7 +7,7 @@
 #include <stdlib.h>
 #include <time.h>
 
-enum { KEY = 16, VALUE = 100, PAGE = 256, FEW = 10, FEW_SCANS = 200000, LOOKUPS = 500000 };
+enum { KEY = 16, VALUE = 100, PAGE = 256, FEW = 10, FEW_SCANS = 200000, LOOKUPS = 500000, MANY = 32 };
 
 static inline void expect(bool holds, const char *what) {
     if (!holds) {

@@ -1,5 +1,5 @@
 #!/bin/bash
-# Measures rows of a view, in both directions, ten rows after a seek and lookups, against LMDB's cursor.
+# Measures rows of a view, in both directions, ten rows after a seek and lookups, one by one and 32 at once, against LMDB's cursor.
 #
 #     bench/rows/run.sh
 #
@@ -21,17 +21,19 @@ counted() { # WORK RUNS
     local rows=20000 per=20000 calls=() name=ucstore_view_scan
     case $1 in
     ten* | get) rows=200000 per=2000 calls=(2000) ;;
+    many) rows=200000 per=3200 calls=(3200) ;;
     esac
     case $1 in
     *back) name=ucstore_view_scan_back ;;
     get) name=ucstore_view_get ;;
+    many) name=ucstore_view_get_many ;;
     esac
     valgrind --tool=callgrind --callgrind-out-file=/dev/null --toggle-collect="$name" "$folder/rows" "$rows" "$2" "$1" "${calls[@]}" 2>&1 |
         awk -v per="$per" -v work="$1 $2" '/Collected/ { printf "%s %.0f\n", work, $NF / per }'
 }
 
 if [[ -n ${COUNTED-} ]]; then
-    for work in forward back ten ten-back get; do
+    for work in forward back ten ten-back get many; do
         counted "$work" 1
         counted "$work" 6
     done
@@ -40,7 +42,7 @@ fi
 
 cc -std=c99 -D_POSIX_C_SOURCE=200809L -O2 -Wall -Wextra -pedantic "$here/lmdb.c" -o "$folder/lmdb" -llmdb
 for ((turn = 0; turn < ${TURNS:-3}; turn++)); do
-    for work in forward back ten ten-back get; do
+    for work in forward back ten ten-back get many; do
         "$folder/rows" "${ROWS:-1000000}" 1 "$work"
         "$folder/rows" "${ROWS:-1000000}" 6 "$work"
     done
