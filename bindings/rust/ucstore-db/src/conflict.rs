@@ -1,9 +1,11 @@
 //! [`Conflict`] and [`Condition`]: what a transaction read, and whether it is unchanged.
 
 use crate::error::Error;
+use crate::moment::MomentReader;
 use crate::noted_reads::NotedReads;
+use std::cell::OnceCell;
 use std::fmt;
-use ucstore::{ReadSet, Store, View};
+use ucstore::{ReadSet, Store};
 
 /// A key or range that a transaction read and another write changed, so that the transaction isn't committed.
 #[derive(Clone, Debug, PartialEq, Eq, Hash)]
@@ -39,18 +41,37 @@ impl fmt::Display for Conflict {
     }
 }
 
-/// The reads of a transaction, made in a view, that have to be unchanged when its batch is taken.
+/// The reads of a transaction, made at a moment, that have to be unchanged when its batch is taken.
 pub(crate) struct Condition {
-    view: View,
+    moment: MomentReader,
     noted: NotedReads,
-    reads: ReadSet,
+    /// The reads for the store, if it is to judge them.
+    reads: OnceCell<ReadSet>,
 }
 
 impl Condition {
-    /// The condition of reads in a view.
-    pub(crate) fn of(view: View, noted: NotedReads) -> Result<Condition, Error> {
-        let reads = noted.to_read_set()?;
-        Ok(Condition { view, noted, reads })
+    /// The condition of reads at a moment.
+    pub(crate) fn of(moment: MomentReader, noted: NotedReads) -> Result<Condition, Error> {
+        let condition = Condition {
+            moment,
+            noted,
+            reads: OnceCell::new(),
+        };
+        if condition.moment.is_kept() {
+            // The store will judge, and others wait meanwhile.
+            condition.reads()?;
+        }
+        Ok(condition)
+    }
+
+    /// Whether nothing was written since the moment, where this is the sequence of the store's last write: each read is unchanged then.
+    pub(crate) fn is_as_of(&self, last: u64) -> bool {
+        self.moment.last() == last
+    }
+
+    /// Releases the moment, once it is judged.
+    pub(crate) fn release(&self) {
+        self.moment.release();
     }
 
     /// The reads, as they were noted.
@@ -65,12 +86,26 @@ impl Condition {
         length: u64,
         batch: &[u8],
     ) -> Result<Vec<u8>, ucstore::Error> {
-        store.prepare_if(&self.view, &self.reads, length, batch)
+        let reads = self.reads()?;
+        self.moment
+            .judge(|view| store.prepare_if(view, reads, length, batch))
     }
 
     /// The place of the first read that has changed.
     pub(crate) fn first_changed(&self, store: &Store) -> Result<Option<usize>, ucstore::Error> {
-        store.first_changed(&self.view, &self.reads)
+        if self.moment.is_now(store) {
+            return Ok(None);
+        }
+        let reads = self.reads()?;
+        self.moment.judge(|view| store.first_changed(view, reads))
+    }
+
+    /// The reads for the store.
+    fn reads(&self) -> Result<&ReadSet, ucstore::Error> {
+        if self.reads.get().is_none() {
+            let _ = self.reads.set(self.noted.to_read_set()?);
+        }
+        Ok(self.reads.get().expect("they were set"))
     }
 
     /// The error for the transaction, where a read at a place has changed.

@@ -156,6 +156,7 @@ impl Shared {
         if store.last() != last || self.jobs.is_any() {
             return None;
         }
+        self.newest.leave_moment(&store);
         let old = mem::replace(&mut *store, copy);
         self.newest.change(&store);
         self.gathered.store(0, Ordering::Relaxed);

@@ -95,6 +95,7 @@ mod log;
 mod lookups;
 mod mark;
 mod member;
+mod moment;
 mod name;
 mod newest;
 mod noted_reads;

@@ -25,6 +25,8 @@ pub(crate) struct Member {
     operations: Range<usize>,
     count: u32,
     condition: Condition,
+    /// Whether nothing was written since its moment, so that no read of it is to be judged.
+    is_unchanged: bool,
     outcome: Arc<Outcome>,
     /// Why it isn't written with the group.
     conflict: Option<Error>,
@@ -51,6 +53,7 @@ impl Candidate {
             operations: begin..end,
             count: count_of(&self.batch),
             condition: self.condition,
+            is_unchanged: false,
             outcome: Arc::default(),
             conflict: None,
         };
@@ -64,8 +67,9 @@ impl Member {
         Arc::clone(&self.outcome)
     }
 
-    pub(crate) fn condition(&self) -> &Condition {
-        &self.condition
+    /// Whether its reads are to be judged: something was written since its moment, and it has no conflict yet.
+    fn is_to_judge(&self) -> bool {
+        !self.is_unchanged && self.conflict.is_none()
     }
 
     /// Tells the transaction's thread what became of it, where its group has this outcome.
@@ -82,26 +86,52 @@ impl Member {
 }
 
 impl Group {
-    /// The condition of a group that is one transaction: the call that prepares it judges too.
+    /// Notes which transactions have nothing to judge, where this is the sequence of the store's last write before the group.
+    pub(crate) fn note_unchanged(&mut self, last: u64) {
+        for member in &mut self.members {
+            member.is_unchanged = member.condition.is_as_of(last);
+        }
+    }
+
+    /// The condition of a group that is one transaction, if it is to be judged: the call that prepares it does so.
     pub(crate) fn lone_condition(&self) -> Option<&Condition> {
         match &self.members[..] {
             // The batch may be another one, from which the transaction was left out.
-            [member] if self.batches == 1 && member.conflict.is_none() => Some(&member.condition),
+            [member] if self.batches == 1 && member.is_to_judge() => Some(&member.condition),
             _ => None,
         }
     }
 
-    /// Whether a transaction of it has read ranges.
+    /// The transactions of it that are to be judged, with their places.
+    fn to_judge(&self) -> impl Iterator<Item = (usize, &Condition)> {
+        let members = self.members.iter().enumerate();
+        let members = members.filter(|(_, member)| member.is_to_judge());
+        members.map(|(place, member)| (place, &member.condition))
+    }
+
+    /// Whether a transaction of it is to be judged.
+    pub(crate) fn is_to_judge(&self) -> bool {
+        self.to_judge().next().is_some()
+    }
+
+    /// Whether a transaction of it that is to be judged has read ranges.
     pub(crate) fn has_ranges(&self) -> bool {
-        let mut members = self.members.iter();
-        members.any(|member| member.condition().noted().has_ranges())
+        let mut conditions = self.to_judge();
+        conditions.any(|(_, condition)| condition.noted().has_ranges())
+    }
+
+    /// Releases the moments of its transactions, which are judged.
+    pub(crate) fn release_moments(&self) {
+        for member in &self.members {
+            member.condition.release();
+        }
     }
 
     /// Judges each transaction of it, and returns the places of those that have a conflict, each with the place of its read.
     pub(crate) fn judge(&self, store: &Store) -> Result<Vec<(usize, usize)>, ucstore::Error> {
         let mut lost = Vec::new();
-        for (place, member) in self.members.iter().enumerate() {
-            if let Some(read) = member.condition.first_changed(store)? {
+        for (place, condition) in self.to_judge() {
+            if let Some(read) = condition.first_changed(store)? {
                 lost.push((place, read));
             }
         }
@@ -133,6 +163,7 @@ impl Group {
 mod tests {
     use super::*;
     use crate::group::{Groups, Turn};
+    use crate::moment::MomentReader;
     use crate::noted_reads::NotedReads;
     use ucstore::{Batch, Operator, Options};
 
@@ -149,7 +180,8 @@ mod tests {
     fn candidate(store: &Store, read: &str, keys: &[&str]) -> Candidate {
         let mut noted = NotedReads::default();
         noted.push_key(read.as_bytes()).unwrap();
-        let condition = Condition::of(store.view().unwrap(), noted).unwrap();
+        let moment = MomentReader::of_view(store.view().unwrap());
+        let condition = Condition::of(moment, noted).unwrap();
         let batch = batch(keys);
         Candidate { batch, condition }
     }
@@ -189,13 +221,31 @@ mod tests {
         };
         store.put("r", "changed").unwrap();
         let mut group = groups.close();
-        assert!(group.lone_condition().is_none());
+        group.note_unchanged(store.last());
+        assert!(group.is_to_judge() && group.lone_condition().is_none());
         let lost = group.judge(&store).unwrap();
         group.leave_out(&lost);
-        assert!(group.lone_condition().is_none());
+        assert!(!group.is_to_judge() && group.lone_condition().is_none());
         assert_eq!(group.batch, batch(&["usual"]));
         group.tell(&Ok(()));
         assert!(outcome.wait(crate::spin_wait::SpinWait::Short).is_err());
+    }
+
+    #[test]
+    fn a_transaction_with_nothing_written_since_is_not_judged() {
+        let store = Store::create(Operator::Append, &Options::default()).unwrap();
+        store.put("before", "1").unwrap();
+        let groups = Groups::default();
+        let Turn::Leads(_) = groups.join_if(candidate(&store, "r", &["a"]), false, false) else {
+            panic!("it leads");
+        };
+        let mut group = groups.close();
+        assert!(group.lone_condition().is_some());
+        group.note_unchanged(store.last());
+        assert!(group.lone_condition().is_none() && !group.is_to_judge());
+        store.put("other", "1").unwrap();
+        group.note_unchanged(store.last());
+        assert!(group.lone_condition().is_some() && group.is_to_judge());
     }
 
     #[test]

@@ -4,6 +4,7 @@ use crate::cache_padded::CachePadded;
 use crate::error::Error;
 use crate::front::Front;
 use crate::holder::Holder;
+use crate::moment::{LastMoment, MomentReader};
 use crate::shown::Shown;
 use crate::spin_wait::SpinWait;
 use crate::striped::Striped;
@@ -53,6 +54,8 @@ pub(crate) struct Newest {
     /// The number of scans since then, up to [`MANY_SCANS`].
     scans: CachePadded<AtomicU32>,
     touched: Touched,
+    /// The moment in which transactions begin. It is locked after the store.
+    moment: CachePadded<LastMoment>,
 }
 
 /// The view in which a thread looks keys up.
@@ -84,6 +87,22 @@ impl Newest {
     /// Notes that the store's next group may write each key, as [`note`](Newest::note) does.
     pub(crate) fn note_all(&self) {
         self.touched.note_all();
+    }
+
+    /// The moment now, for a transaction. Where the store isn't free soon, it is that of a view.
+    pub(crate) fn moment(&self, store: &Mutex<Store>) -> Result<MomentReader, Error> {
+        if let Some(reader) = self.moment.0.reader() {
+            return Ok(reader);
+        }
+        match SpinWait::Short.spin_until(|| try_lock(store)) {
+            Some(store) => Ok(self.moment.0.reader_of(&store)),
+            None => Ok(MomentReader::of_view(self.view(store)?)),
+        }
+    }
+
+    /// Leaves the moment, before the store takes a group. It isn't unlocked between.
+    pub(crate) fn leave_moment(&self, store: &Store) {
+        self.moment.0.leave(store);
     }
 
     /// Tells that the store has taken a group, before it is unlocked. It waits for no reader: one of these shows the view if it can't.

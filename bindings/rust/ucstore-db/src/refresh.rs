@@ -226,6 +226,7 @@ impl Shared {
         self.newest.note_all();
         let (begin, offset) = (windows.begin(), place.offset);
         let (replayed, end, is_flushed) = self.call(|store| {
+            self.newest.leave_moment(store);
             let last = store.last();
             let at = LogPlace {
                 offset: offset - begin,
@@ -284,6 +285,7 @@ impl Shared {
         while self.jobs.is_any() {
             store = self.wait_for_work_until(store, HANDOVER);
         }
+        self.newest.leave_moment(&store);
         let old = mem::replace(&mut *store, newer);
         let report = store.report();
         // The writes that were recovered aren't measured.

@@ -218,9 +218,13 @@ impl Shared {
                 match group.lone_condition() {
                     Some(condition) => {
                         condition.prepare(store, 0, &group.batch)?;
+                        self.leave_moments(store, group);
                         store.commit();
                     }
-                    None => store.write_bytes(&group.batch)?,
+                    None => {
+                        self.leave_moments(store, group);
+                        store.write_bytes(&group.batch)?;
+                    }
                 }
                 Ok(self.tell_taken(store, group, &store.report()))
             })?,
@@ -250,6 +254,7 @@ impl Shared {
         }
         self.is_refused.store(false, Ordering::Relaxed);
         let store = lock(&self.store);
+        self.leave_moments(&store, group);
         let report = store.commit_report();
         let is_flushed = self.tell_taken(&store, group, &report);
         drop(store);
@@ -268,6 +273,12 @@ impl Shared {
                 error
             }
         }
+    }
+
+    /// Leaves the moment before a group, whose transactions are judged.
+    fn leave_moments(&self, store: &Store, group: &Group) {
+        group.release_moments();
+        self.newest.leave_moment(store);
     }
 
     /// Tells that the store has taken a group, and returns whether it has flushed by itself.

@@ -55,11 +55,6 @@ impl Snapshot {
         snapshot
     }
 
-    /// The view that it shows.
-    pub(crate) fn into_view(self) -> View {
-        self.view
-    }
-
     /// The view that it shows, and the counts that it has.
     pub(crate) fn parts(&self) -> (&View, &Arc<Counts>) {
         (&self.view, &self.counts)

@@ -3,6 +3,7 @@
 use crate::db::Db;
 use crate::error::Error;
 use crate::group::{Group, Turn};
+use crate::lock;
 use crate::member::Candidate;
 use crate::shared::Shared;
 use crate::spin_wait::SpinWait;
@@ -159,13 +160,18 @@ impl Shared {
         changed.map_or(Ok(()), |place| Err(condition.conflict(place)))
     }
 
-    /// Leaves out the transactions of a group that have a conflict. One that is alone is judged by the call that prepares it. Requires
-    /// `log` held.
+    /// Leaves out the transactions of a group that have a conflict. One before which nothing was written since it began has none, and one
+    /// that is alone is judged by the call that prepares it. Requires `log` held.
     pub(crate) fn judge(&self, group: &mut Group) -> Result<(), Error> {
+        if group.members.is_empty() {
+            return Ok(());
+        }
+        // It stays the last one until the group is taken.
+        group.note_unchanged(lock(&self.store).last());
         if group.has_ranges() {
             self.flush_to_judge()?;
         }
-        if !group.members.is_empty() && group.lone_condition().is_none() {
+        if group.is_to_judge() && group.lone_condition().is_none() {
             let lost = self.call(|store| group.judge(store))?;
             group.leave_out(&lost);
         }

@@ -4,11 +4,14 @@ use crate::conflict::{Condition, Conflict};
 use crate::db::Db;
 use crate::error::Error;
 use crate::member::Candidate;
+use crate::moment::MomentReader;
 use crate::noted_reads::NotedReads;
 use crate::own_writes::{Found, OwnWrites};
 use crate::snapshot::Snapshot;
+use crate::spin_wait::SpinWait;
 use crate::transaction_rows::TransactionRows;
-use std::cell::RefCell;
+use crate::try_lock;
+use std::cell::{OnceCell, RefCell};
 use std::fmt;
 use std::ops::{Bound, RangeBounds};
 use ucstore::{end_of_prefix, Batch};
@@ -37,7 +40,9 @@ use ucstore::{end_of_prefix, Batch};
 /// A transaction that is dropped writes nothing. It keeps the memory of its snapshot, and waits for nobody.
 pub struct Transaction {
     db: Db,
-    snapshot: Snapshot,
+    moment: MomentReader,
+    /// The snapshot of the moment, if the transaction has needed one.
+    snapshot: OnceCell<Snapshot>,
     reads: RefCell<NotedReads>,
     writes: OwnWrites,
 }
@@ -51,7 +56,8 @@ impl Transaction {
         }
         Ok(Transaction {
             db: db.clone(),
-            snapshot: db.snapshot()?,
+            moment: shared.newest.moment(&shared.store)?,
+            snapshot: OnceCell::new(),
             reads: RefCell::default(),
             writes: OwnWrites::new(shared.options.operator()),
         })
@@ -66,7 +72,7 @@ impl Transaction {
         let key = key.as_ref();
         self.value(key, || {
             self.reads.borrow_mut().push_key(key)?;
-            self.snapshot.get(key)
+            self.look_up(key)
         })
     }
 
@@ -90,7 +96,7 @@ impl Transaction {
     /// As [`get`](Transaction::get).
     pub fn get_unchecked(&self, key: impl AsRef<[u8]>) -> Result<Option<Vec<u8>>, Error> {
         let key = key.as_ref();
-        self.value(key, || self.snapshot.get(key))
+        self.value(key, || self.look_up(key))
     }
 
     /// The keys of a range, with their values. It is read as far as its rows are taken, from both ends.
@@ -172,7 +178,7 @@ impl Transaction {
 
     /// The sequence of the last write that it reads.
     pub fn sequence(&self) -> u64 {
-        self.snapshot.sequence()
+        self.moment.last()
     }
 
     /// Writes all of its writes, or nothing. They are acknowledged as [`Options::sync`](crate::Options::sync) says. A transaction without
@@ -201,7 +207,7 @@ impl Transaction {
         }
         let candidate = Candidate {
             batch: self.writes.batch().try_bytes()?,
-            condition: Condition::of(self.snapshot.into_view(), self.reads.into_inner())?,
+            condition: Condition::of(self.moment, self.reads.into_inner())?,
         };
         shared.write_if(candidate, is_synced)
     }
@@ -222,10 +228,35 @@ impl Transaction {
         }
     }
 
+    /// The value that a key had at the moment: the store's own, if that is free soon and nothing was written since.
+    fn look_up(&self, key: &[u8]) -> Result<Option<Vec<u8>>, Error> {
+        if self.snapshot.get().is_none() {
+            let shared = self.db.shared();
+            let store = SpinWait::Short.spin_until(|| try_lock(&shared.store));
+            if let Some(store) = store.filter(|store| self.moment.is_now(store)) {
+                shared.counts.lookups.add(|| store.source(key));
+                return Ok(store.get(key)?);
+            }
+        }
+        self.snapshot()?.get(key)
+    }
+
+    /// The snapshot of the moment.
+    fn snapshot(&self) -> Result<&Snapshot, Error> {
+        if self.snapshot.get().is_none() {
+            let shared = self.db.shared();
+            let view = self.moment.view(|| shared.view())?;
+            let _ = self.snapshot.set(Snapshot::of(view, &shared.counts));
+        }
+        Ok(self.snapshot.get().expect("it was set"))
+    }
+
     /// The rows from `low` on, and below `high` if there is one.
     fn rows(&self, low: &[u8], high: Option<&[u8]>) -> Result<TransactionRows<'_>, Error> {
         let end = high.map_or(Bound::Unbounded, Bound::Excluded);
-        let rows = self.snapshot.range::<&[u8]>((Bound::Included(low), end))?;
+        let rows = self
+            .snapshot()?
+            .range::<&[u8]>((Bound::Included(low), end))?;
         let walk = self.reads.borrow_mut().begin_walk(low, high);
         let own = self.writes.range(low, high);
         Ok(TransactionRows::of(
