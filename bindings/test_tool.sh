@@ -3,10 +3,11 @@
 #
 #     bindings/test_tool.sh [PART..]
 #
-# The parts are units, cases, damage, rows, crashes and modes, or all where none is named. `needs` alone says what is missing.
+# The parts are units, cases, beside, damage, rows, crashes and modes, or all where none is named. `needs` alone says what is missing.
 # - units: the tests of its modules.
 # - cases: commands, what they read, what they print and how they end, also with damaged and foreign directories, locked ones, full
 #   devices, closed pipes and a terminal.
+# - beside: the commands that read beside an owner that writes and makes checkpoints, and is killed. LONG=1 takes a minute.
 # - damage: each byte of small directories is changed, and `verify` finds it and changes nothing.
 # - rows: drawn rows are dumped and loaded into another database, and logs are printed as `ucstore dump` prints them, if that is built.
 # - crashes: a backup is killed before each call by which it changes files.
@@ -70,6 +71,12 @@ try_units() {
 
 try_cases() { "$tool/cases/run"; }
 
+try_beside() {
+    CARGO_TARGET_DIR="$work/target" RUSTFLAGS="--remap-path-prefix=$(dirname "$here")=/ucstore" \
+        "$tool/cargo" build --quiet --release --example owner
+    UCSTORE_DB_OWNER=$work/target/release/examples/owner "$tool/cases/beside"
+}
+
 try_damage() { "$tool/cases/damage"; }
 
 try_crashes() { "$tool/cases/crashes"; }
@@ -99,7 +106,7 @@ if ! "$tool/cargo" metadata --quiet --format-version 1 > /dev/null 2>&1; then
     echo "test_tool: left out: there are no crates clap, clap_complete and indicatif (Debian's librust-clap-complete-dev and librust-indicatif-dev)"
     exit
 fi
-if [ $# -eq 0 ]; then set -- units cases damage rows crashes modes; fi
+if [ $# -eq 0 ]; then set -- units cases beside damage rows crashes modes; fi
 build
 for part; do
     declare -F "try_$part" > /dev/null || fail "there is no part $part"

@@ -13,8 +13,8 @@ const HELP: &str = "\
 Keys and values are UTF-8. \\\\ is a backslash, \\t a tab, \\n a line feed, \\r a carriage return, and \\xHH any byte; --hex has two digits \
 for each byte instead. A line of output has a key, a tab, and its value.
 
-Commands that only read change nothing in the directory. While they open it, no other process may have it open, unless that reads \
-it too; `watch` reads it beside its owner.
+Commands that only read change nothing in the directory. While another process has it open, they read what that had acknowledged by then. \
+The others need it alone, also `backup` and `repair`.
 
 Status: 0 done, 1 the key has no value, 2 a refused command line or input, or a directory that can't be opened, 3 a file is damaged \
 or missing, 4 out of memory, 5 a read or write fault.

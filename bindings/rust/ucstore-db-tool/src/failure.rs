@@ -83,6 +83,10 @@ impl fmt::Display for Failure {
                 Error::Missing { file } if file == dir => {
                     write!(formatter, "there is no database in {dir}")
                 }
+                Error::Locked { file } => write!(
+                    formatter,
+                    "{file} is locked: another process has the database open, and the command needs it alone"
+                ),
                 error if is_named(dir, error) => write!(formatter, "{error}"),
                 error => write!(formatter, "{dir}: {error}"),
             },

@@ -11,6 +11,7 @@ mod form;
 mod opening;
 mod output;
 mod progress;
+mod still_folder;
 
 use args::Args;
 use clap::Parser;

@@ -3,13 +3,19 @@
 use crate::args::Args;
 use crate::failure::{Failure, Outcome};
 use crate::progress::Bar;
+use crate::still_folder::StillFolder;
 use std::sync::Arc;
-use ucstore_db::{operator_of, Db, DiskFolder, Error, Operator, Options};
+use ucstore_db::{operator_of, Db, DiskFolder, Error, Folder, Operator, Options};
 
-/// Opens the database to read it. Nothing in its directory is changed.
+/// Opens the database to read it, also while another process has it open. Nothing in its directory is changed.
 pub fn to_read(args: &Args) -> Outcome<Db> {
-    let folder = folder_to_read(args)?;
-    read_from(args, folder, &Options::default())
+    read_from(args, folder_beside(args)?, &Options::default())
+}
+
+/// Opens the files of the directory as they are now, also while another process changes it.
+pub fn still_folder(args: &Args) -> Outcome<Arc<StillFolder>> {
+    let folder = StillFolder::open(&args.dir).map_err(Failure::of(&args.dir))?;
+    Ok(Arc::new(folder))
 }
 
 /// Locks the directory to read it.
@@ -25,10 +31,10 @@ pub fn folder_beside(args: &Args) -> Outcome<Arc<DiskFolder>> {
 }
 
 /// Opens the database of a directory to read it, with some more options.
-pub fn read_from(args: &Args, folder: Arc<DiskFolder>, options: &Options) -> Outcome<Db> {
+pub fn read_from(args: &Args, folder: Arc<dyn Folder>, options: &Options) -> Outcome<Db> {
     let bar = Bar::of_opening();
     let options = Options {
-        operator: Some(operator(args, &folder)?),
+        operator: Some(operator(args, &*folder)?),
         read_only: true,
         compactors: 0,
         progress: bar.listener(),
@@ -63,7 +69,7 @@ pub fn close(args: &Args, db: &Db) -> Outcome {
 }
 
 /// The merge operator: the one of the command line, or the directory's.
-fn operator(args: &Args, folder: &DiskFolder) -> Outcome<Operator> {
+fn operator(args: &Args, folder: &dyn Folder) -> Outcome<Operator> {
     if let Some(operator) = args.operator() {
         return Ok(operator);
     }

@@ -4,8 +4,9 @@ use crate::args::Args;
 use crate::failure::{Failure, Outcome};
 use crate::opening;
 use crate::output::Output;
-use std::path::PathBuf;
-use ucstore_db::Options;
+use std::path::{Path, PathBuf};
+use std::sync::Arc;
+use ucstore_db::{operator_of, Db, DiskFolder, Error, Options};
 
 /// Make another directory with the same contents, and print the sequence number of the last write
 #[derive(clap::Args)]
@@ -13,11 +14,14 @@ use ucstore_db::Options;
     after_help = "DEST is absent, or whole and durable, also if the program or the machine stops. In the same file system files \
 that don't change any more are linked. A program that has the database open calls the library's function `backup` instead.
 
-Example: ucstore-db visits backup visits-monday"
+Example: ucstore-db visits backup visits-monday --check"
 )]
 pub struct Backup {
     /// Directory to make; nothing may have its name
     dest: PathBuf,
+    /// Open the backup once it is made, which reads all of it; status 3 if it doesn't end at that write
+    #[arg(long)]
+    check: bool,
 }
 
 impl Backup {
@@ -27,8 +31,33 @@ impl Backup {
             .backup(&self.dest)
             .map_err(Failure::of_copy(&args.dir, &self.dest))?;
         opening::close(args, &db)?;
+        if self.check {
+            check(&self.dest, last).map_err(Failure::of(&self.dest))?;
+        }
         let mut output = Output::new(args.form());
         output.line(&format!("sequence {last}"))?;
         output.finish()
     }
+}
+
+/// Opens a backup as a reader does, and checks that its last write has a sequence number.
+fn check(dest: &Path, last: u64) -> Result<(), Error> {
+    let folder = DiskFolder::open_beside(dest)?;
+    let mut options = Options {
+        read_only: true,
+        compactors: 0,
+        ..Options::default()
+    };
+    if let Some(operator) = operator_of(&folder)? {
+        options.operator = operator;
+    }
+    let found = Db::open_on(Arc::new(folder), &options)?.stats().last;
+    if found == last {
+        return Ok(());
+    }
+    Err(Error::Damaged {
+        file: dest.display().to_string(),
+        offset: 0,
+        fault: format!("its last write is {found} instead of {last}"),
+    })
 }

@@ -7,7 +7,7 @@ use crate::opening;
 use crate::output::Output;
 use std::path::Path;
 use ucstore_db::ucstore::{BatchFault, Ended, LogFault, Operation, Write};
-use ucstore_db::{files_of, read_writes, DiskFolder, Error, FileKind, FolderFile};
+use ucstore_db::{files_of, read_writes, Error, FileKind, Folder, FolderFile};
 
 /// Print the writes of the checkpoint and the logs, in order
 #[derive(clap::Args)]
@@ -25,9 +25,9 @@ pub struct Log {
 
 impl Log {
     pub fn run(&self, args: &Args) -> Outcome {
-        let folder = opening::folder_to_read(args)?;
+        let folder = opening::still_folder(args)?;
         let mut output = Output::new(args.form());
-        for name in self.names(args, &folder)? {
+        for name in self.names(args, &*folder)? {
             output.line(&format!("file {name}"))?;
             let read = read_writes(&*folder, &name, |write| {
                 print(&mut output, args.form(), &write)
@@ -39,7 +39,7 @@ impl Log {
     }
 
     /// The names of the files to print.
-    fn names(&self, args: &Args, folder: &DiskFolder) -> Outcome<Vec<String>> {
+    fn names(&self, args: &Args, folder: &dyn Folder) -> Outcome<Vec<String>> {
         let files = files_of(folder).map_err(Failure::of(&args.dir))?;
         let is_printed =
             |file: &FolderFile| matches!(file.kind, FileKind::Checkpoint | FileKind::Log);

@@ -30,7 +30,7 @@ struct Figure {
 impl Stats {
     pub fn run(&self, args: &Args) -> Outcome {
         let fault = Failure::of(&args.dir);
-        let folder = opening::folder_to_read(args)?;
+        let folder = opening::still_folder(args)?;
         let files = files_of(&*folder).map_err(&fault)?;
         let db = opening::read_from(args, folder, &Default::default())?;
         let stats = db.stats();

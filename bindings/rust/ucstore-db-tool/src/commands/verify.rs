@@ -6,7 +6,7 @@ use crate::opening;
 use crate::output::Output;
 use ucstore_db::ucstore::Ended;
 use ucstore_db::WritesRead;
-use ucstore_db::{files_of, read_writes, Db, DiskFolder, Error, FileKind, FolderFile, Options};
+use ucstore_db::{files_of, read_writes, Db, Error, FileKind, Folder, FolderFile, Options};
 
 /// Read all files, print what is in each, and find damage; nothing is changed
 #[derive(clap::Args)]
@@ -18,6 +18,8 @@ use ucstore_db::{files_of, read_writes, Db, DiskFolder, Error, FileKind, FolderF
 where STATE is `whole`, `torn OFFSET` after a crash, which an opening cuts off, `damaged OFFSET`, or `unneeded` if no opening reads the \
 file. Then come the other files, and `total rows R last SEQUENCE`. Takes as much memory as an opening.
 
+While another process has the database open, all is as at one moment: `torn OFFSET` is also a log in which a write wasn't finished then.
+
 Status 3: a file is damaged or missing. The last synced writes of a process that was killed can't be told from a torn end.
 
 Example: ucstore-db visits verify"
@@ -26,7 +28,7 @@ pub struct Verify {}
 
 impl Verify {
     pub fn run(&self, args: &Args) -> Outcome {
-        let folder = opening::folder_to_read(args)?;
+        let folder = opening::still_folder(args)?;
         let files = files_of(&*folder).map_err(Failure::of(&args.dir))?;
         let opened = opening::read_from(args, folder.clone(), &Options::default());
         let damage = match &opened {
@@ -35,7 +37,7 @@ impl Verify {
         };
         let mut output = Output::new(args.form());
         for file in &files {
-            output.line(&line_of(args, &folder, file, damage)?)?;
+            output.line(&line_of(args, &*folder, file, damage)?)?;
         }
         let (rows, last) = match &opened {
             Ok(db) => totals(db).map_err(Failure::of(&args.dir))?,
@@ -63,7 +65,7 @@ fn totals(db: &Db) -> Result<(u64, u64), Error> {
 /// The line of a file.
 fn line_of(
     args: &Args,
-    folder: &DiskFolder,
+    folder: &dyn Folder,
     file: &FolderFile,
     damage: Option<&Error>,
 ) -> Outcome<String> {
