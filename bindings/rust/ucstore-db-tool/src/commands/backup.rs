@@ -6,7 +6,7 @@ use crate::opening;
 use crate::output::Output;
 use std::path::{Path, PathBuf};
 use std::sync::Arc;
-use ucstore_db::{operator_of, Db, DiskFolder, Error, Options};
+use ucstore_db::{Db, DiskFolder, Error, Options};
 
 /// Make another directory with the same contents, and print the sequence number of the last write
 #[derive(clap::Args)]
@@ -43,14 +43,11 @@ impl Backup {
 /// Opens a backup as a reader does, and checks that its last write has a sequence number.
 fn check(dest: &Path, last: u64) -> Result<(), Error> {
     let folder = DiskFolder::open_beside(dest)?;
-    let mut options = Options {
+    let options = Options {
         read_only: true,
         compactors: 0,
         ..Options::default()
     };
-    if let Some(operator) = operator_of(&folder)? {
-        options.operator = operator;
-    }
     let found = Db::open_on(Arc::new(folder), &options)?.stats().last;
     if found == last {
         return Ok(());
