@@ -7,10 +7,11 @@ use std::sync::atomic::{AtomicBool, AtomicU64, Ordering};
 use std::sync::Arc;
 use std::thread;
 use std::time::{Duration, Instant};
-use ucstore_db::{Batch, Conflict, Db, Error, Options, Transaction};
+use ucstore_db::{Batch, Conflict, Db, Error, Operator, Options, Transaction};
 
 fn databases() -> [Db; 2] {
     let mut options = Options {
+        operator: Some(Operator::Append),
         compactors: 0,
         ..Options::default()
     };
