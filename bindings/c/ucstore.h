@@ -167,7 +167,7 @@ enum ucstore_part {
     UCSTORE_MAX_U64 = 11,       /* Keeps the greater number. */
     UCSTORE_MIN_U64 = 12,       /* Keeps the lesser number. */
     UCSTORE_ADD_U64 = 13,       /* Adds a number without a sign. A sum is at most 2^64 - 1. */
-    UCSTORE_SET_UNION = 14      /* Adds members to a set: each is 2 bytes of its length, little-endian, and its bytes. They ascend by bytes. */
+    UCSTORE_SET_UNION = 14      /* Adds members to a set, in ascending order, each 2 bytes of its length, little-endian, and its bytes. */
 };
 
 /* Part of the store that answers a lookup. */

@@ -9,6 +9,9 @@ use std::ffi::c_void;
 use std::mem::offset_of;
 use std::time::Duration;
 
+/// The number of the directory's own operator.
+const OWN: u32 = 255;
+
 const SYNC_ALWAYS: u32 = 0;
 const SYNC_EVERY: u32 = 1;
 const SYNC_NEVER: u32 = 2;
@@ -100,7 +103,7 @@ impl COptions {
         // SAFETY: The caller guarantees this.
         let marks = unsafe { items(self.marks, self.marks_count) }?;
         Ok(Options {
-            operator: operator_of(self.merge_operator)?,
+            operator: operator_or_own(self.merge_operator)?,
             sync: self.read_sync()?,
             store: self.read_store(),
             compactors: self.compactors as usize,
@@ -183,20 +186,22 @@ impl Default for COptions {
     }
 }
 
-/// The number of the directory's own operator.
-const OWN: u32 = 255;
-
 /// The operator of a number, or none for the directory's own.
-fn operator_of(number: u32) -> Result<Option<Operator>, Refusal> {
-    if number == OWN {
-        return Ok(None);
-    }
+fn operator_or_own(number: u32) -> Result<Option<Operator>, Refusal> {
     match number {
-        0 => Ok(Some(Operator::Append)),
-        1 => Ok(Some(Operator::Counter)),
-        2 => Ok(Some(Operator::Maximum)),
-        3 => Ok(Some(Operator::Tail)),
-        4 => Ok(Some(Operator::Mixed)),
+        OWN => Ok(None),
+        named => operator_of(named).map(Some),
+    }
+}
+
+/// The operator of a number.
+fn operator_of(number: u32) -> Result<Operator, Refusal> {
+    match number {
+        0 => Ok(Operator::Append),
+        1 => Ok(Operator::Counter),
+        2 => Ok(Operator::Maximum),
+        3 => Ok(Operator::Tail),
+        4 => Ok(Operator::Mixed),
         _ => Err(Status::UnknownOperator.into()),
     }
 }

@@ -129,7 +129,6 @@ impl Db {
     ///
     /// As [`write`](Db::write).
     pub fn delete(&self, key: impl AsRef<[u8]>) -> Result<(), Error> {
-        let key = key.as_ref();
         self.write_one(|batch| batch.delete(key).map(|_| ()))
     }
 
