@@ -1,4 +1,4 @@
-//! Lookups of many keys at once in large runs, of which memory is read ahead.
+//! Lookups of many keys at once in large runs.
 
 use ucstore::{Operator, Options, Store, View};
 
