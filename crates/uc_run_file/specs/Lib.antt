@@ -5,3 +5,4 @@ pub mod Footers
 pub mod Words
 pub mod Judging
 pub mod Files
+pub mod HeldRunBytes

@@ -1,4 +1,5 @@
 //! [`RunBytes`]: the bytes of a run's file.
+ghost use Rattle.std.specs.Arc.{arc_value};
 ghost use Rattle.std.specs.Prelude.{◌≡◌, ◌≤◌, ◌-◌, ◌+◌, ◌++◌, length, take, drop, min, IfOk};
 ghost use Rattle.uc_run_points.specs.Spelling.{entries_text};
 ghost use Rattle.uc_run_file.specs.Files.{file_text};
@@ -8,25 +9,26 @@ use crate::fragment_writer::push_fragments;
 use crate::pieces::{push_sums, split_front};
 use std::alloc::{AllocError, Global};
 use std::marker::Model;
+use std::sync::Arc;
 use uc_run::Run;
 
 /// The bytes of a run's file. A contract sees their list.
 ///
-/// The points stay in the run; only what follows them in the file is in memory of its own.
+/// It shares the run, and the points stay there; only what follows them in the file is in memory of its own.
 #[derive(Drop)]
-pub struct RunBytes<'a> {
-    /// The bytes of the points.
-    points: &'a [u8],
+pub struct RunBytes {
+    run: Arc<Run>,
     /// Fragments, checksums and footer.
     tail: Vec<u8>,
 }
 
-impl<'a> Model for RunBytes<'a> {
-    ghost use Rattle.std.specs.Prelude.{ℕ, List, ◌++◌};
+impl Model for RunBytes {
+    ghost use Rattle.std.specs.Prelude.{ℕ, List};
+    ghost use Rattle.uc_run_file.specs.HeldRunBytes.{bytes_held};
 
     ghost Value = { List ℕ };
 
-    ghost view = { λ bytes. bytes.points.now ++ bytes.tail.items };
+    ghost view = { bytes_held };
 }
 
 /// The bytes of a file after those of the points, which are given.
@@ -63,21 +65,35 @@ fn copy_at(buffer: &mut [u8], at: usize, bytes: &[u8]) -> usize
     count
 }
 
-impl<'a> RunBytes<'a> {
+/// Copies bytes of two parts of a file from an offset on into a buffer, as many as fit, and returns their number.
+fn copy_parts(points: &[u8], tail: &[u8], offset: usize, buffer: &mut [u8]) -> usize
+    ensures count { result ≡ min (length buffer.old) (length (points.now ++ tail.now) - offset) }
+    ensures copied { take result buffer.new ≡ take (length buffer.old) (drop offset (points.now ++ tail.now)) }
+    ensures rest { drop result buffer.new ≡ drop result buffer.old }
+{
+    let (passed, first) = split_front(points, offset);
+    let (_, second) = split_front(tail, offset - passed.len());
+    let count = copy_at(buffer, 0, first);
+    count + copy_at(buffer, count, second)
+}
+
+impl RunBytes {
     /// The bytes of a run's file. It sums each piece, and takes memory for all but the points.
-    pub fn new(alloc: Global, run: &'a Run) -> Result<RunBytes<'a>, AllocError>
-        ensures { IfOk result (λ bytes. bytes ≡ file_text run.now) }
+    pub fn new(alloc: Global, run: &Arc<Run>) -> Result<RunBytes, AllocError>
+        ensures { IfOk result (λ bytes. bytes ≡ file_text (arc_value run.now)) }
     {
-        let points = run.entries().as_bytes();
-        let tail = tail_of(alloc, run, points)?;
-        Ok(RunBytes { points, tail })
+        let tail = tail_of(alloc, run, run.entries().as_bytes())?;
+        Ok(RunBytes {
+            run: run.clone()?,
+            tail,
+        })
     }
 
     /// The size of the file in bytes.
     pub fn len(&self) -> u64
         ensures { result ≡ length self.now }
     {
-        self.points.len() as u64 + self.tail.len() as u64
+        self.run.entries().as_bytes().len() as u64 + self.tail.len() as u64
     }
 
     /// Copies bytes from an offset on into a buffer, as many as fit, and returns their number, which is 0 only at the end of the file.
@@ -86,9 +102,6 @@ impl<'a> RunBytes<'a> {
         ensures copied { take result buffer.new ≡ take (length buffer.old) (drop offset self.now) }
         ensures rest { drop result buffer.new ≡ drop result buffer.old }
     {
-        let (passed, first) = split_front(self.points, offset);
-        let (_, second) = split_front(&self.tail, offset - passed.len());
-        let count = copy_at(buffer, 0, first);
-        count + copy_at(buffer, count, second)
+        copy_parts(self.run.entries().as_bytes(), &self.tail, offset, buffer)
     }
 }

@@ -1,6 +1,7 @@
 //! Runs written and read, and damaged by hand.
 use crate::{FragmentsError, RunBytes, read_fragments, read_run};
 use std::alloc::Global;
+use std::sync::Arc;
 use std::test::Fail;
 use uc_bytes::Bytes;
 use uc_run::Run;
@@ -72,18 +73,18 @@ fn fragments_of(alloc: Global) -> Result<Vec<Fragment>, Fail> {
 }
 
 /// A run of three points and a fragment.
-fn run_of(alloc: Global) -> Result<Option<Run>, Fail> {
+fn run_of(alloc: Global) -> Result<Option<Arc<Run>>, Fail> {
     let entries = entries_of(alloc)?;
     let fragments = fragments_of(alloc)?;
     if !is_run(2, 900, &entries, &fragments) {
         return Ok(None);
     }
     let run = Run::build(alloc, 2, 900, entries, fragments)?;
-    Ok(Some(run))
+    Ok(Some(Arc::new(alloc, run)?))
 }
 
 /// The bytes of a run's file, seven at a time.
-fn file_of(alloc: Global, run: &Run) -> Result<Vec<u8>, Fail> {
+fn file_of(alloc: Global, run: &Arc<Run>) -> Result<Vec<u8>, Fail> {
     let bytes = RunBytes::new(alloc, run)?;
     let mut file = Vec::new(alloc);
     let mut piece = [0; 7];
@@ -122,7 +123,7 @@ fn are_all_refused(alloc: Global, file: &[u8]) -> Result<bool, Fail> {
 }
 
 /// Whether the run's file is read as the run, and each damaged byte is found.
-fn is_sound(alloc: Global, run: &Run) -> Result<bool, Fail> {
+fn is_sound(alloc: Global, run: &Arc<Run>) -> Result<bool, Fail> {
     let file = file_of(alloc, run)?;
     let refused = are_all_refused(alloc, &file)?;
     Ok(refused && is_file_of(alloc, file, run))
