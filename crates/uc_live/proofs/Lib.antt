@@ -23,3 +23,5 @@ pub mod FlushesTaken
 pub mod SeenEffects
 pub mod Sourced
 pub mod Judged
+pub mod Added
+pub mod Standing

@@ -14,3 +14,5 @@ pub mod HeldFlushJobs
 pub mod Coming
 pub mod Recording
 pub mod Judging
+pub mod Adding
+pub mod Standing

@@ -25,6 +25,9 @@
 //! `specs/LiveJobs.antt`). A [`FlushJob`] is such a flush of the memtables, if the options say that a full memtable waits for one
 //! (`flushes.rt`, `specs/LiveFlushes.antt`).
 //!
+//! A store is opened from the runs of a view, which [`LiveStore::add_run`] adds to it, the oldest first (`adding.rt`,
+//! `specs/Adding.antt`). By the laws of `standing_laws.rt` it stands for the same writes (`specs/Standing.antt`).
+//!
 //! By the laws of `laws.rt` a store answers as one thread that folds all writes it has taken, whatever it flushed and compacted,
 //! and so does a view of it.
 //!
@@ -33,6 +36,8 @@
 //! An `Err(AllocError)`, or a variant `Memory`, comes only if an allocation fails.
 #![tactic(auto)]
 
+mod add_run_error;
+mod adding;
 mod compacting;
 mod flush_end;
 mod flush_job;
@@ -55,6 +60,7 @@ mod recording;
 mod room_error;
 mod snapshots;
 mod source_laws;
+mod standing_laws;
 mod store_id;
 mod transaction_error;
 mod transaction_laws;
@@ -62,6 +68,7 @@ mod view;
 mod waiting;
 mod write_error;
 
+pub use add_run_error::AddRunError;
 pub use flush_end::FlushEnd;
 pub use flush_job::FlushJob;
 pub use flush_laws::{
@@ -81,6 +88,10 @@ pub use recorded_laws::{
 };
 pub use room_error::RoomError;
 pub use source_laws::sources_tell_what_values_come_of;
+pub use standing_laws::{
+    runs_carry_what_is_read, standing_stores_answer_as_their_writes, standing_stores_go_on,
+    stores_stand_for_their_writes,
+};
 pub use store_id::StoreId;
 pub use transaction_error::TransactionError;
 pub use transaction_laws::unchanged_transactions_may_commit;
