@@ -186,6 +186,16 @@ impl FolderMachine {
         expect(unsafe { sys::ucstore_folder_ask_checkpoint(&mut self.0, number, past) });
     }
 
+    /// The numbers of the machine, for a call.
+    pub(crate) fn state(&self) -> *const sys::ucstore_folder_state {
+        &self.0
+    }
+
+    /// The numbers of the machine, for a call that changes them.
+    pub(crate) fn state_mut(&mut self) -> *mut sys::ucstore_folder_state {
+        &mut self.0
+    }
+
     /// The operation that a function of the library tells.
     fn next(
         &self,
@@ -201,7 +211,7 @@ impl FolderMachine {
 }
 
 /// The operation of a step.
-fn action_of(step: sys::ucstore_folder_step) -> FolderAction {
+pub(crate) fn action_of(step: sys::ucstore_folder_step) -> FolderAction {
     let (number, count) = (step.number, step.count);
     match step.kind {
         0 => FolderAction::Nothing,
@@ -224,7 +234,7 @@ fn action_of(step: sys::ucstore_folder_step) -> FolderAction {
 }
 
 /// Checks the status of a function of machines: theirs are always numbers of one.
-fn expect(status: i32) {
+pub(crate) fn expect(status: i32) {
     assert_eq!(status, sys::UCSTORE_OK, "the library has another version");
 }
 
