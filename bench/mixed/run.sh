@@ -24,7 +24,7 @@ for keys in 1000 1000000; do
             "$folder/mixed" "$operator" "$keys" 1000000 | sed "s/^/$keys keys, $operator: /"
         done
     done
-done | sort | awk -F': ' '
+done | sort -V | awk -F': ' '
     function told() { if (count) { split(middle[int((count + 1) / 2)], figure, " "); print name " " middle[int((count + 1) / 2)] } }
     { line = $0; match(line, /[0-9.]+ (ns|bytes)$/); key = substr(line, 1, RSTART - 1); value = substr(line, RSTART)
       if (key != name) { told(); name = key; count = 0 }

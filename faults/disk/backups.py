@@ -19,7 +19,7 @@ import subprocess
 import sys
 import tempfile
 from pathlib import Path
-from typing import Callable, Counter, Dict, Iterator, List, NamedTuple
+from typing import Callable, Counter, Dict, Iterator, List, NamedTuple, Optional
 
 from adversary import MODES, Told, run_all
 from device import Call, calls_of
@@ -46,10 +46,10 @@ class Backup:
     def __init__(self, least: int) -> None:
         self.least = least
         # The last batch that it may have, once it was acknowledged.
-        self.most = 0
+        self.most: Optional[int] = None
 
     def check(self, found: List[int], most: int) -> None:
-        if found != list(range(1, len(found) + 1)) or not self.least <= len(found) <= (self.most or most):
+        if found != list(range(1, len(found) + 1)) or not self.least <= len(found) <= (most if self.most is None else self.most):
             raise Wrong(f"a backup has {len(found)} batches up to {found[-1:]}, of {self.least} to {self.most or most}")
 
 
@@ -163,7 +163,7 @@ class Job:
         def check() -> None:
             if path.exists():
                 backup.check(self._open(path), promises.tried)
-            elif backup.most:
+            elif backup.most is not None:
                 raise Wrong("an acknowledged backup isn't there")
 
         return check
@@ -201,8 +201,8 @@ def plans_of(arguments: argparse.Namespace) -> Iterator[Plan]:
 
 def read_arguments() -> argparse.Namespace:
     parser = argparse.ArgumentParser(description="Opens what a device may hold after each call of a database that makes backups.")
-    parser.add_argument("--states", type=int, default=2000, help="how many states are opened at least")
-    parser.add_argument("--most", type=int, default=150, help="how many of them a history has about")
+    parser.add_argument("--states", type=int, default=2000, help="least number of states to open")
+    parser.add_argument("--most", type=int, default=150, help="number of states of a history")
     parser.add_argument("--seed", type=int, default=1)
     parser.add_argument("--jobs", type=int, default=2)
     return parser.parse_args()

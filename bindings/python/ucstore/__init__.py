@@ -522,7 +522,7 @@ def _texts(*texts: bytes) -> Iterator[Union[bytes, int]]:
 def operand_bytes(part: Part, payload: bytes, parameter: int = 0) -> bytes:
     """Returns an operand of `Operator.MIXED`. Operands in turn, the first one first, are one operand that does what they do.
 
-    Raises `UnknownOperator` for a parameter out of range, `BadOperand` for a number that does not have 8 bytes, `TooLong` for a payload of
+    Raises `UnknownOperator` for a parameter out of range, `BadOperand` for a number that does not have 8 bytes or a set that is not in order, `TooLong` for a payload of
     2^32 bytes or more, and `OutOfMemory`.
     """
     room, size = ctypes.create_string_buffer(len(payload) + 8), _SIZE()
@@ -531,7 +531,7 @@ def operand_bytes(part: Part, payload: bytes, parameter: int = 0) -> bytes:
 
 
 def is_operand(operand: bytes) -> bool:
-    """Returns whether the bytes are operands of `Operator.MIXED` in turn, and numbers in them have 8 bytes."""
+    """Returns whether the bytes are operands of `Operator.MIXED` in turn, with numbers of 8 bytes and sets in order."""
     return _library.operand_check(*_texts(operand)) == _OK
 
 

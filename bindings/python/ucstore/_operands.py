@@ -103,7 +103,7 @@ class ReadsParts:
 def set_bytes(members: Iterable[bytes]) -> bytes:
     """Encodes a set: its members in ascending order, each 2 bytes of its length, little-endian, and its bytes. Raises `TooLong` for a
     member of 2^16 bytes or more."""
-    ordered = sorted(set(members))
+    ordered = sorted({bytes(memoryview(member)) for member in members})
     if any(len(member) >= 2**16 for member in ordered):
         from . import TooLong
 

@@ -86,7 +86,7 @@ impl Member {
 }
 
 impl Group {
-    /// Notes which transactions have nothing to judge, where this is the sequence of the store's last write before the group.
+    /// Marks the transactions since whose moment nothing was written; `last` is the sequence of the store's last write.
     pub(crate) fn note_unchanged(&mut self, last: u64) {
         for member in &mut self.members {
             member.is_unchanged = member.condition.is_as_of(last);

@@ -1,4 +1,4 @@
-//! [`Moment`]: what a database held between two writes, for transactions that began there.
+//! [`Moment`]: the state of a database between two writes, at which transactions read.
 
 use crate::error::Error;
 use crate::lock;
@@ -7,8 +7,8 @@ use std::sync::atomic::{AtomicUsize, Ordering};
 use std::sync::{Arc, Mutex};
 use ucstore::{Store, View};
 
-/// A moment between two writes. Until the next write the store itself holds what it held then, so a transaction that commits before that
-/// needs no view. The writer of the next group keeps a view, if a transaction still reads at the moment.
+/// A moment between two writes. Until the next write the store has the same contents, so a transaction that commits earlier needs no
+/// view. The writer of the next group makes a view if a transaction still reads there.
 pub(crate) struct Moment {
     /// The sequence of the last write before it. Each later write has a greater one: while this is the store's last, nothing was written.
     last: u64,
@@ -17,7 +17,7 @@ pub(crate) struct Moment {
     view: Mutex<Option<Result<View, ucstore::Error>>>,
 }
 
-/// A transaction's hold of a moment, until it ends or is judged.
+/// A transaction's reference to a moment, until it ends or is judged.
 pub(crate) struct MomentReader {
     moment: Arc<Moment>,
     is_over: Cell<bool>,
@@ -30,19 +30,20 @@ pub(crate) struct LastMoment {
 }
 
 impl LastMoment {
-    /// The moment, if it is known.
+    /// Returns a reader of the moment, if there is one.
     pub(crate) fn reader(&self) -> Option<MomentReader> {
         lock(&self.moment).as_ref().map(MomentReader::of)
     }
 
-    /// The moment of a store, which is locked.
+    /// Returns a reader of the store's moment. Requires `store` held.
     pub(crate) fn reader_of(&self, store: &Store) -> MomentReader {
         let mut held = lock(&self.moment);
         let moment = held.get_or_insert_with(|| Arc::new(Moment::of(store.last(), None)));
         MomentReader::of(moment)
     }
 
-    /// Keeps a view for those who read in it, before the store takes a write. The store is locked from before this until it has taken it.
+    /// Makes a view for the transactions that read at the moment. Requires `store` held until the write is taken: if it fails, this is
+    /// called again before the next attempt.
     pub(crate) fn leave(&self, store: &Store) {
         let Some(moment) = lock(&self.moment).take() else {
             return;
@@ -63,7 +64,7 @@ impl Moment {
         }
     }
 
-    /// The view that was kept of it.
+    /// Returns a handle of the moment's view, if there is one.
     fn kept(&self) -> Result<Option<View>, Error> {
         match &*lock(&self.view) {
             Some(Ok(view)) => Ok(Some(view.again()?)),
@@ -92,7 +93,7 @@ impl MomentReader {
         self.moment.last
     }
 
-    /// Whether the store, which is locked, is as it was at the moment.
+    /// Returns true if nothing was written since the moment. Requires `store` held.
     pub(crate) fn is_now(&self, store: &Store) -> bool {
         store.last() == self.moment.last
     }
@@ -115,7 +116,7 @@ impl MomentReader {
         Ok(kept.expect("the write after the moment kept a view"))
     }
 
-    /// Asks something of the view that was kept, because the store isn't as it was any more.
+    /// Calls a function with the moment's view. Requires that something was written since.
     pub(crate) fn judge<T>(
         &self,
         judge: impl FnOnce(&View) -> Result<T, ucstore::Error>,
@@ -175,7 +176,7 @@ mod tests {
     }
 
     #[test]
-    fn no_view_is_kept_for_nobody() {
+    fn no_view_is_made_without_readers() {
         let (store, last) = (store(), LastMoment::default());
         let [one, other] = [(); 2].map(|()| last.reader_of(&store));
         one.release();
@@ -188,7 +189,7 @@ mod tests {
     }
 
     #[test]
-    fn a_moment_that_a_write_left_is_found_by_who_asks_late() {
+    fn a_moment_that_a_write_left_is_found_by_a_late_reader() {
         let (store, last) = (store(), LastMoment::default());
         let reader = last.reader_of(&store);
         let view = reader.view(|| {

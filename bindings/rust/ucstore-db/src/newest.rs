@@ -21,7 +21,7 @@ const MANY_SCANS: u32 = 2;
 const MOST_TO_SORT: u64 = 1024;
 
 /// The number of times that a thread asks the store itself between two groups. Then it has a view, and needs no lock that threads share.
-const MOST_ASKED: u32 = 4;
+pub(crate) const MOST_ASKED: u32 = 4;
 
 /// The newest views of a store.
 ///
@@ -54,7 +54,7 @@ pub(crate) struct Newest {
     /// The number of scans since then, up to [`MANY_SCANS`].
     scans: CachePadded<AtomicU32>,
     touched: Touched,
-    /// The moment in which transactions begin. It is locked after the store.
+    /// The moment at which transactions begin. Locked after `store`.
     moment: CachePadded<LastMoment>,
 }
 
@@ -89,7 +89,7 @@ impl Newest {
         self.touched.note_all();
     }
 
-    /// The moment now, for a transaction. Where the store isn't free soon, it is that of a view.
+    /// The moment now, for a transaction. If the store stays locked, it has a view of its own.
     pub(crate) fn moment(&self, store: &Mutex<Store>) -> Result<MomentReader, Error> {
         if let Some(reader) = self.moment.0.reader() {
             return Ok(reader);
@@ -100,7 +100,7 @@ impl Newest {
         }
     }
 
-    /// Leaves the moment, before the store takes a group. It isn't unlocked between.
+    /// Leaves the moment. Requires `store` held until the group is taken.
     pub(crate) fn leave_moment(&self, store: &Store) {
         self.moment.0.leave(store);
     }

@@ -12,13 +12,19 @@ impl Db {
     /// # Errors
     ///
     /// As [`write`](Db::write), and [`ucstore::Error::BadOperand`] if the operator is [`Operator::Mixed`] and the bytes are not an
-    /// operand of it. A batch isn't checked so: there they replace the value.
+    /// operand of it. A batch is not checked: such bytes replace the value.
     pub fn merge(&self, key: impl AsRef<[u8]>, operand: impl AsRef<[u8]>) -> Result<(), Error> {
         let (key, operand) = (key.as_ref(), operand.as_ref());
+        self.check_operand(operand)?;
+        self.merge_checked(key, operand)
+    }
+
+    /// Refuses bytes that are no operand, where an operand has a shape.
+    pub(crate) fn check_operand(&self, operand: &[u8]) -> Result<(), Error> {
         if self.shared().options.operator() == Operator::Mixed {
             check_operand(operand)?;
         }
-        self.merge_checked(key, operand)
+        Ok(())
     }
 
     /// Combines a key with an operand that was checked.
@@ -28,6 +34,15 @@ impl Db {
 }
 
 impl MergeParts for &Db {
+    type Done = ();
+    type Error = Error;
+
+    fn merge_operand(self, key: &[u8], operand: &Operand) -> Result<(), Error> {
+        self.merge_checked(key, operand.as_ref())
+    }
+}
+
+impl MergeParts for &mut Transaction {
     type Done = ();
     type Error = Error;
 

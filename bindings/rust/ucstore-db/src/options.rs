@@ -26,7 +26,8 @@ pub enum Sync {
 #[derive(Clone, Debug, PartialEq, Eq)]
 pub struct Options {
     /// The operator that merges a key's operands into its value. With `None`, the default, it is the one that the folder was made with,
-    /// which its file `OPERATOR` names, and [`Operator::Mixed`] for a new database. Another one than the folder's is rejected.
+    /// which its file `OPERATOR` names ([`Operator::Append`] for an old folder without that file), and [`Operator::Mixed`] for a new
+    /// database. Another one than the folder's is rejected.
     pub operator: Option<Operator>,
     /// When a write is on the device.
     pub sync: Sync,

@@ -5,13 +5,14 @@ use crate::db::Db;
 use crate::error::Error;
 use crate::member::Candidate;
 use crate::moment::MomentReader;
+use crate::newest::MOST_ASKED;
 use crate::noted_reads::NotedReads;
 use crate::own_writes::{Found, OwnWrites};
 use crate::snapshot::Snapshot;
 use crate::spin_wait::SpinWait;
 use crate::transaction_rows::TransactionRows;
 use crate::try_lock;
-use std::cell::{OnceCell, RefCell};
+use std::cell::{Cell, OnceCell, RefCell};
 use std::fmt;
 use std::ops::{Bound, RangeBounds};
 use ucstore::{end_of_prefix, Batch};
@@ -37,12 +38,15 @@ use ucstore::{end_of_prefix, Batch};
 /// Values are compared: a key that was written and has its value again hasn't changed. A lookup that finds nothing is a read too, and so
 /// is each part of a range that was walked over, with the keys that aren't there. What its own writes decide isn't read.
 ///
-/// A transaction that is dropped writes nothing. It keeps the memory of its snapshot, and waits for nobody.
+/// A transaction that is dropped writes nothing. Once something was written after it
+/// began, it keeps the memory of the earlier contents. It waits for nobody.
 pub struct Transaction {
     db: Db,
     moment: MomentReader,
     /// The snapshot of the moment, if the transaction has needed one.
     snapshot: OnceCell<Snapshot>,
+    /// The number of lookups that asked the store itself.
+    asked: Cell<u32>,
     reads: RefCell<NotedReads>,
     writes: OwnWrites,
 }
@@ -58,6 +62,7 @@ impl Transaction {
             db: db.clone(),
             moment: shared.newest.moment(&shared.store)?,
             snapshot: OnceCell::new(),
+            asked: Cell::new(0),
             reads: RefCell::default(),
             writes: OwnWrites::new(shared.options.operator()),
         })
@@ -144,9 +149,16 @@ impl Transaction {
     ///
     /// # Errors
     ///
-    /// As [`put`](Transaction::put).
+    /// As [`put`](Transaction::put), and [`ucstore::Error::BadOperand`] as for [`Db::merge`].
     pub fn merge(&mut self, key: impl AsRef<[u8]>, operand: impl AsRef<[u8]>) -> Result<(), Error> {
-        self.writes.merge(key.as_ref(), operand.as_ref())
+        let operand = operand.as_ref();
+        self.db.check_operand(operand)?;
+        self.merge_checked(key.as_ref(), operand)
+    }
+
+    /// Combines a key with an operand that was checked.
+    pub(crate) fn merge_checked(&mut self, key: &[u8], operand: &[u8]) -> Result<(), Error> {
+        self.writes.merge(key, operand)
     }
 
     /// Removes a key.
@@ -228,9 +240,12 @@ impl Transaction {
         }
     }
 
-    /// The value that a key had at the moment: the store's own, if that is free soon and nothing was written since.
+    /// The value that a key had at the moment: the store's own, if that is free soon and nothing was written since. After a few lookups
+    /// there it is a view's, for which no lock is held that threads share.
     fn look_up(&self, key: &[u8]) -> Result<Option<Vec<u8>>, Error> {
-        if self.snapshot.get().is_none() {
+        let asked = self.asked.get();
+        if self.snapshot.get().is_none() && asked < MOST_ASKED {
+            self.asked.set(asked + 1);
             let shared = self.db.shared();
             let store = SpinWait::Short.spin_until(|| try_lock(&shared.store));
             if let Some(store) = store.filter(|store| self.moment.is_now(store)) {

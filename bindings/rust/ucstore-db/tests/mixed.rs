@@ -1,4 +1,4 @@
-//! One database with a counter, a maximum and a feed.
+//! The operator `mixed`, and the operator of a folder.
 
 use std::collections::BTreeSet;
 use ucstore_db::ucstore::Error as StoreError;

@@ -12,7 +12,7 @@ use ucstore_db::{Db, Error, Options, Sync, Transaction};
 /// The keys that transactions read and write. Each has the number of the transaction that wrote it last.
 const KEYS: u64 = 4;
 
-/// How a transaction ended.
+/// The end of a transaction.
 #[derive(Clone, Copy, Debug, PartialEq, Eq)]
 enum End {
     Acknowledged,
@@ -46,7 +46,7 @@ fn fill(transaction: &mut Transaction, own: u64, numbers: &mut Numbers) -> Resul
     transaction.put(format!("whole{own:04}"), vec![b'w'; size])
 }
 
-/// How a commit ends.
+/// Returns the end of a commit.
 fn end_of(outcome: Result<(), Error>, is_synced: bool) -> End {
     match outcome {
         Ok(()) if is_synced => End::Synced,
@@ -185,7 +185,9 @@ fn a_crash_at_any_call_leaves_whole_transactions() {
                     check(&db, &ends);
                     check_prefix(&db, &ends);
                     states += 1;
-                    lost += usize::from(found(&db).len() < ends.len());
+                    let is_taken = |end: &&End| matches!(end, End::Acknowledged | End::Synced);
+                    let taken = ends.values().filter(is_taken).count();
+                    lost += usize::from(found(&db).len() < taken);
                     // It goes on there, and what it has stays.
                     let before = found(&db);
                     let mut later = db.transaction().unwrap();

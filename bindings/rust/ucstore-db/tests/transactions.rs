@@ -12,15 +12,20 @@ use std::sync::Arc;
 use std::thread;
 use std::time::Duration;
 use ucstore_db::{
-    Conflict, Db, Error, File, Folder, KeyValue, Operator, Options, Snapshot, Transaction,
+    Conflict, Db, Error, File, Folder, KeyValue, MergeParts, Operator, Options, ReadParts,
+    Snapshot, Transaction,
 };
 
 /// Something that happens to a database while a transaction is open.
 type Change = fn(&Db);
 
 fn in_memory() -> Db {
+    in_memory_of(Operator::Append)
+}
+
+fn in_memory_of(operator: Operator) -> Db {
     let options = Options {
-        operator: Some(Operator::Append),
+        operator: Some(operator),
         ..Options::default()
     };
     Db::in_memory(&options).unwrap()
@@ -502,13 +507,11 @@ fn each_operator_merges_into_own_writes() {
         (Operator::Append, "b", "a,b"),
         (Operator::Maximum, "b", "b"),
         (Operator::Tail, "bcde", "bcde"),
+        // The payload, its length, and the delimiter and number of an append.
+        (Operator::Mixed, "b\x01,\x05", "a,b"),
     ];
     for (operator, operand, wanted) in cases {
-        let options = Options {
-            operator: Some(operator),
-            ..Options::default()
-        };
-        let db = Db::in_memory(&options).unwrap();
+        let db = in_memory_of(operator);
         db.put("key", "a").unwrap();
         let mut transaction = db.transaction().unwrap();
         transaction.merge("key", operand).unwrap();
@@ -516,6 +519,23 @@ fn each_operator_merges_into_own_writes() {
         transaction.commit().unwrap();
         assert_eq!(text(db.get("key").unwrap()), wanted);
     }
+}
+
+#[test]
+fn bytes_that_are_no_operand_are_rejected() {
+    let db = in_memory_of(Operator::Mixed);
+    let mut transaction = db.transaction().unwrap();
+    let error = transaction
+        .merge("visits", 1_u64.to_le_bytes())
+        .unwrap_err();
+    assert!(matches!(
+        error,
+        Error::Store(ucstore_db::ucstore::Error::BadOperand)
+    ));
+    (&mut transaction).add("visits", 2).unwrap();
+    assert_eq!(transaction.get_int("visits").unwrap(), Some(2));
+    transaction.commit().unwrap();
+    assert_eq!(db.get_int("visits").unwrap(), Some(2));
 }
 
 // ---- one key, and tries

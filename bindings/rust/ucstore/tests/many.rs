@@ -4,8 +4,8 @@ use ucstore::{Operator, Options, Store, View};
 
 const KEYS: u32 = 30_000;
 
-/// A store of three runs: one of all keys, one of each third that makes it longer, and a small one of a few keys that are deleted.
-/// What the value of a key has says in which runs it is.
+/// A store of three runs: one with all keys, one that appends to each third key, and a small one of deletions. A key's value shows which
+/// runs have it.
 fn runs_of(key: impl Fn(u32) -> Vec<u8>) -> Store {
     let options = Options {
         compacts_itself: false,

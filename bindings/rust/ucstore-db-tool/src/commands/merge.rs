@@ -9,10 +9,10 @@ use ucstore_db::Options;
 /// Merge an operand into the value of a key
 #[derive(clap::Args)]
 #[command(
-    after_help = "The operand of a counter has 8 bytes, the least significant first. It is durable when the \
-program ends with status 0.
+    after_help = "An operand of `mixed` is its payload, the payload's length and the operator's number; that of a counter has 8 \
+bytes, the least significant first. It is durable when the program ends with status 0.
 
-Example: ucstore-db visits --hex merge 766973697473 0200000000000000"
+Example: ucstore-db visits --hex merge 766973697473 02000000000000000801"
 )]
 pub struct Merge {
     /// Key

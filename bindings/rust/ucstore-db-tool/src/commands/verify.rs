@@ -18,7 +18,7 @@ use ucstore_db::{files_of, read_writes, Db, Error, FileKind, Folder, FolderFile,
 where STATE is `whole`, `torn OFFSET` after a crash, which an opening cuts off, `damaged OFFSET`, or `unneeded` if no opening reads the \
 file. Then come the other files, and `total rows R last SEQUENCE`. Takes as much memory as an opening.
 
-While another process has the database open, all is as at one moment: `torn OFFSET` is also a log in which a write wasn't finished then.
+While another process has the database open, the files are read as they were at one moment, and `torn OFFSET` may be a write in progress.
 
 Status 3: a file is damaged or missing. The last synced writes of a process that was killed can't be told from a torn end.
 
