@@ -1128,6 +1128,59 @@ static void check_checkpoint(struct moment *of) {
     CHECK(ucstore_close(&opened) == UCSTORE_OK);
 }
 
+/* Runs as files. */
+
+enum { RUN_FILE = 2 * KEYS * VALUE };
+
+/* Reads the file of the run at a place of a view, at most `piece` bytes at a time. Returns its size. */
+static size_t read_file(struct ucstore_view *view, size_t place, size_t piece, uint8_t *file, size_t file_room) {
+    struct ucstore_run run;
+    uint64_t size = 99;
+    size_t length = 0, count = 1;
+    run.at = NULL;
+    CHECK(ucstore_run(view, place, &run) == UCSTORE_OK && run.at != NULL);
+    CHECK(ucstore_run_size(&run, &size) == UCSTORE_OK && size <= file_room);
+    while (count > 0) {
+        size_t left = file_room - length;
+        CHECK(ucstore_run_read(&run, length, file + length, left < piece ? left : piece, &count) == UCSTORE_OK);
+        length += count;
+    }
+    CHECK(length == size && ucstore_run_close(&run) == UCSTORE_OK && run.at == NULL);
+    return length;
+}
+
+/* Opens a store from the files of the runs of a view, the oldest first. */
+static void open_runs(struct ucstore_view *view, uint64_t runs, struct ucstore *opened) {
+    static uint8_t file[RUN_FILE];
+    struct ucstore_options options;
+    uint64_t before = 0;
+    CHECK(ucstore_options_init(&options) == UCSTORE_OK);
+    CHECK(ucstore_create(opened, merge_operator, &options) == UCSTORE_OK);
+    for (uint64_t place = runs; place-- > 0;) {
+        uint64_t id = 0, low = 0, high = 0, given = 0, last = 0;
+        size_t length = read_file(view, (size_t)place, (size_t)(1 + draw(70000)), file, sizeof file), offset = 99;
+        CHECK(ucstore_view_run(view, (size_t)place, &id, &low, &high) == UCSTORE_OK && before < low && low <= high);
+        CHECK(ucstore_add_run(opened, file, length, &given, &offset) == UCSTORE_OK && given == runs - place && offset == 99);
+        CHECK(ucstore_last(opened, &last) == UCSTORE_OK && last == high);
+        before = high;
+    }
+}
+
+/* A store that is opened from the runs of a view reads as the view, which has no writes in memtables. */
+static void check_run_files(void) {
+    struct ucstore opened;
+    struct ucstore_view shown;
+    struct ucstore_report report;
+    opened.at = NULL;
+    shown.at = NULL;
+    report.size = sizeof report;
+    CHECK(ucstore_flush(&store) == UCSTORE_OK && ucstore_view(&store, &shown) == UCSTORE_OK);
+    CHECK(ucstore_view_report(&shown, &report) == UCSTORE_OK && report.gathered == 0);
+    open_runs(&shown, report.runs, &opened);
+    check_store(&opened, report.last);
+    CHECK(ucstore_close(&opened) == UCSTORE_OK && ucstore_view_close(&shown) == UCSTORE_OK);
+}
+
 /* Opens the log whole, torn, followed by zeros as a crash may leave them, and with a bit of its last byte changed. */
 static void check_log(void) {
     uint8_t bit = (uint8_t)(1 << draw(8));
@@ -1171,6 +1224,7 @@ static void step(void) {
     } else if (choice < 104) {
         view();
         check_checkpoint(draw_moment());
+        check_run_files();
     } else {
         job();
     }
@@ -1377,7 +1431,95 @@ static void without_checkpoint(void) {
     CHECK(ucstore_checkpoint_next(&none, 0, 9, room, sizeof room, &size, &done) == UCSTORE_NO_CHECKPOINT);
     CHECK(ucstore_checkpoint_close(&none) == UCSTORE_NO_CHECKPOINT && room[0] == 0xAA && size == 99 && done);
     CHECK(strcmp(ucstore_status_text(UCSTORE_NO_CHECKPOINT), "checkpoint is not open") == 0);
-    CHECK(strcmp(ucstore_status_text(UCSTORE_READ_CHANGED + 1), ucstore_status_text(-1)) == 0);
+    CHECK(strcmp(ucstore_status_text(UCSTORE_BAD_RUN + 1), ucstore_status_text(-1)) == 0);
+}
+
+/* Statuses of handles without a run, and of places that have none. */
+static void without_run(struct ucstore_view *view, uint64_t runs) {
+    struct ucstore nothing;
+    struct ucstore_view unseen;
+    struct ucstore_run none;
+    uint8_t room[] = {0xAA};
+    uint64_t id = 7, low = 7, high = 7;
+    size_t count = 7, offset = 7;
+    nothing.at = NULL;
+    unseen.at = NULL;
+    none.at = NULL;
+    CHECK(ucstore_view_run(&unseen, 0, &id, &low, &high) == UCSTORE_NO_VIEW && ucstore_run(&unseen, 0, &none) == UCSTORE_NO_VIEW);
+    CHECK(ucstore_view_run(view, (size_t)runs, &id, &low, &high) == UCSTORE_BAD_RUN);
+    CHECK(ucstore_run(view, (size_t)runs, &none) == UCSTORE_BAD_RUN && ucstore_run(view, SIZE_MAX, &none) == UCSTORE_BAD_RUN);
+    CHECK(ucstore_run_size(&none, &id) == UCSTORE_BAD_RUN && ucstore_run_read(&none, 0, room, 1, &count) == UCSTORE_BAD_RUN);
+    CHECK(ucstore_run_close(&none) == UCSTORE_BAD_RUN && ucstore_add_run(&nothing, room, 1, &id, &offset) == UCSTORE_NO_STORE);
+    CHECK(id == 7 && low == 7 && high == 7 && count == 7 && offset == 7 && room[0] == 0xAA && none.at == NULL);
+    CHECK(ucstore_run(view, 0, &none) == UCSTORE_OK && ucstore_run(view, 0, &none) == UCSTORE_OK);
+    CHECK(ucstore_run_read(&none, SIZE_MAX, room, 1, &count) == UCSTORE_OK && count == 0);
+    CHECK(ucstore_run_read(&none, 0, NULL, 0, &count) == UCSTORE_OK && count == 0 && room[0] == 0xAA);
+    CHECK(ucstore_run(view, (size_t)runs, &none) == UCSTORE_BAD_RUN && none.at == NULL);
+}
+
+/* A file is refused with any one byte changed, and cut at any place. */
+static void damaged_files(uint8_t *file, size_t length) {
+    struct ucstore opened;
+    struct ucstore_options options;
+    uint64_t id = 7, last = 7;
+    size_t offset = 7;
+    opened.at = NULL;
+    CHECK(ucstore_options_init(&options) == UCSTORE_OK && ucstore_create(&opened, UCSTORE_APPEND, &options) == UCSTORE_OK);
+    for (size_t place = 0; place < length; place++) {
+        uint8_t bit = (uint8_t)(1 << draw(8));
+        file[place] ^= bit;
+        CHECK(ucstore_add_run(&opened, file, length, &id, &offset) == UCSTORE_RUN_DAMAGED);
+        CHECK(offset == (place + 68 < length ? 0 : length));
+        file[place] ^= bit;
+        CHECK(ucstore_add_run(&opened, file, place, &id, &offset) == UCSTORE_RUN_DAMAGED && offset == place);
+    }
+    CHECK(id == 7 && ucstore_last(&opened, &last) == UCSTORE_OK && last == 0);
+    CHECK(ucstore_close(&opened) == UCSTORE_OK);
+}
+
+/* Two runs as files: in order, out of order, and added to a store that has writes of its own. */
+static void run_files(void) {
+    static uint8_t older[RUN_FILE], newer[RUN_FILE];
+    const uint8_t text[] = {'a', 'b', 'c'};
+    uint8_t room[8];
+    struct ucstore from, opened;
+    struct ucstore_view view;
+    struct ucstore_options options;
+    uint64_t id = 7, low = 7, high = 7;
+    size_t older_length, newer_length, offset = 7, size = 7;
+    from.at = NULL;
+    opened.at = NULL;
+    view.at = NULL;
+    CHECK(ucstore_options_init(&options) == UCSTORE_OK);
+    options.compacts_itself = 0;
+    CHECK(ucstore_create(&from, UCSTORE_APPEND, &options) == UCSTORE_OK);
+    CHECK(ucstore_put(&from, text, 1, text, 1) == UCSTORE_OK && ucstore_put(&from, text + 1, 1, text, 1) == UCSTORE_OK);
+    CHECK(ucstore_flush(&from) == UCSTORE_OK && ucstore_merge(&from, text, 1, text + 2, 1) == UCSTORE_OK);
+    CHECK(ucstore_delete_range(&from, text + 1, 1, text + 2, 1) == UCSTORE_OK && ucstore_flush(&from) == UCSTORE_OK);
+    CHECK(ucstore_view(&from, &view) == UCSTORE_OK && ucstore_close(&from) == UCSTORE_OK);
+    CHECK(ucstore_view_run(&view, 0, &id, &low, &high) == UCSTORE_OK && id == 2 && low == 3 && high == 4);
+    CHECK(ucstore_view_run(&view, 1, &id, &low, &high) == UCSTORE_OK && id == 1 && low == 1 && high == 2);
+    without_run(&view, 2);
+    newer_length = read_file(&view, 0, 7, newer, sizeof newer);
+    older_length = read_file(&view, 1, RUN_FILE, older, sizeof older);
+    CHECK(ucstore_view_close(&view) == UCSTORE_OK);
+    damaged_files(newer, newer_length);
+    CHECK(ucstore_create(&opened, UCSTORE_APPEND, &options) == UCSTORE_OK);
+    CHECK(ucstore_add_run(&opened, older, older_length, &id, &offset) == UCSTORE_OK && id == 1);
+    CHECK(ucstore_add_run(&opened, older, older_length, &id, &offset) == UCSTORE_BAD_RUN);
+    CHECK(ucstore_put(&opened, text, 1, text, 1) == UCSTORE_OK);
+    CHECK(ucstore_add_run(&opened, newer, newer_length, &id, &offset) == UCSTORE_BAD_RUN && id == 1 && offset == 7);
+    CHECK(ucstore_close(&opened) == UCSTORE_OK && ucstore_create(&opened, UCSTORE_APPEND, &options) == UCSTORE_OK);
+    CHECK(ucstore_add_run(&opened, older, older_length, &id, &offset) == UCSTORE_OK);
+    CHECK(ucstore_add_run(&opened, newer, newer_length, &id, &offset) == UCSTORE_OK && id == 2);
+    CHECK(ucstore_add_run(&opened, older, older_length, &id, &offset) == UCSTORE_BAD_RUN && id == 2 && offset == 7);
+    CHECK(ucstore_last(&opened, &high) == UCSTORE_OK && high == 4);
+    CHECK(ucstore_get(&opened, text, 1, room, sizeof room, &size) == UCSTORE_OK && size == 3 && memcmp(room, "a,c", 3) == 0);
+    CHECK(ucstore_get(&opened, text + 1, 1, room, sizeof room, &size) == UCSTORE_NOT_FOUND);
+    CHECK(ucstore_merge(&opened, text, 1, text + 1, 1) == UCSTORE_OK && ucstore_flush(&opened) == UCSTORE_OK);
+    CHECK(ucstore_last(&opened, &high) == UCSTORE_OK && high == 5);
+    CHECK(ucstore_get(&opened, text, 1, room, sizeof room, &size) == UCSTORE_OK && size == 5 && memcmp(room, "a,c,b", 5) == 0);
+    CHECK(ucstore_close(&opened) == UCSTORE_OK);
 }
 
 /* A transaction that reads in a view, and is prepared in its store. */
@@ -1569,6 +1711,7 @@ int main(int argc, char **argv) {
     without_store();
     without_view();
     without_checkpoint();
+    run_files();
     transactions();
     refusals();
     refused_jobs();

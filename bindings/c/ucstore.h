@@ -6,8 +6,8 @@
  *
  * Each function of a store takes a pointer to the handle first. Each function except `ucstore_version` returns one of the statuses
  * below. On any status but UCSTORE_OK no write takes effect and no output is written, except as stated at `ucstore_prepare`,
- * `ucstore_prepare_bytes`, `ucstore_prepare_marked`, `ucstore_prepare_if`, `ucstore_checkpoint_next`, `ucstore_log_next`,
- * `ucstore_replay`, `ucstore_log_mark_bytes` and `ucstore_operand`.
+ * `ucstore_prepare_bytes`, `ucstore_prepare_marked`, `ucstore_prepare_if`, `ucstore_checkpoint_next`, `ucstore_run`, `ucstore_add_run`,
+ * `ucstore_log_next`, `ucstore_replay`, `ucstore_log_mark_bytes` and `ucstore_operand`.
  *
  * Writes go to a memtable, which is flushed to a run when it is full, and runs are compacted. By default the calling thread does
  * both, automatically. With jobs, other threads do.
@@ -31,6 +31,10 @@
  *
  * A program shortens its log with it: it writes the pieces to a new file in order, and then the batches written after the view was taken.
  *
+ * A run of a view is written to a file once, since no run changes, and read back into an empty store:
+ *
+ *     struct ucstore_run run = {0};
+ *
  * A job is a flush or a compaction that runs outside its store:
  *
  *     struct ucstore_job job = {0};
@@ -50,10 +54,10 @@
  * be truncated too. Batches written by other functions are not in such a log.
  *
  * Requirements on the caller:
- * - The contents of a handle, batch, view, checkpoint or job must not be copied, changed or freed except by these functions. Each may
- *   be stored anywhere and moved between calls, and must be closed before its memory is reused.
- * - A handle takes one call at a time, reads included, and so do a batch, a view, a checkpoint and a job. Two threads may use two of
- *   them at the same time, and each may move between threads.
+ * - The contents of a handle, batch, view, checkpoint, run or job must not be copied, changed or freed except by these functions. Each
+ *   may be stored anywhere and moved between calls, and must be closed before its memory is reused.
+ * - A handle takes one call at a time, reads included, and so do a batch, a view, a checkpoint, a run and a job. Two threads may use two
+ *   of them at the same time, and each may move between threads.
  * - Each pointer must lead to as much memory as its type or its length says. If a length is 0, its pointer is not read and may be
  *   null. No other pointer may be null. Memory that a function writes to must not overlap its other arguments.
  * - Memory that a function writes to must be initialized: `bool compacted = false;`.
@@ -100,6 +104,11 @@ struct ucstore_checkpoint {
     void *at;
 };
 
+/* The bytes of a run's file. All zeros: no run. */
+struct ucstore_run {
+    void *at;
+};
+
 /* A handle to a job. All zeros: no job. */
 struct ucstore_job {
     void *at;
@@ -139,7 +148,9 @@ enum ucstore_status {
     UCSTORE_LOG_MISSING = 29,      /* Log missing: the folder lists later logs, and not this one. */
     UCSTORE_NO_FOLDER = 30,        /* Folder is not open: its state was not set, or was changed. */
     UCSTORE_BAD_OPERAND = 31,      /* Malformed operand. */
-    UCSTORE_READ_CHANGED = 32      /* Read has changed: a key of the transaction has another value now. */
+    UCSTORE_READ_CHANGED = 32,     /* Read has changed: a key of the transaction has another value now. */
+    UCSTORE_RUN_DAMAGED = 33,      /* Corrupted run file. */
+    UCSTORE_BAD_RUN = 34           /* Invalid run: it is not open, or the view has none there, or the store cannot take it. */
 };
 
 /* Merge operators. An operator combines a key's operands and its value. */
@@ -213,6 +224,8 @@ static inline const char *ucstore_status_text(int32_t status) {
         "folder is not open",
         "malformed operand",
         "read has changed",
+        "corrupted run file",
+        "invalid run",
     };
     return status >= 0 && (size_t)status < sizeof texts / sizeof texts[0] ? texts[status] : "unknown status";
 }
@@ -644,6 +657,43 @@ int32_t ucstore_checkpoint_next(struct ucstore_checkpoint *checkpoint, uint64_t 
 /* Frees a checkpoint. Its view stays open.
  * UCSTORE_NO_CHECKPOINT. */
 int32_t ucstore_checkpoint_close(struct ucstore_checkpoint *checkpoint);
+
+/* Stores the ID of the run at `place` of a view, 0 for the newest, and the least and the greatest sequence number of its writes. No other
+ * run of the store gets the ID until the store is closed. `ucstore_view_report` has the number of runs.
+ * UCSTORE_NO_VIEW, UCSTORE_BAD_RUN. */
+int32_t ucstore_view_run(struct ucstore_view *view, size_t place, uint64_t *id, uint64_t *low, uint64_t *high);
+
+/* Opens the file of the run at `place` of a view, 0 for the newest, as bytes to be read. Computes the checksums of the file, and copies no
+ * point. Closes the run that `run` has first. The view stays open.
+ * UCSTORE_NO_VIEW, UCSTORE_BAD_RUN, UCSTORE_OUT_OF_MEMORY: `run` is closed then. */
+int32_t ucstore_run(struct ucstore_view *view, size_t place, struct ucstore_run *run);
+
+/* Stores the size of the file in bytes.
+ * UCSTORE_BAD_RUN. */
+int32_t ucstore_run_size(struct ucstore_run *run, uint64_t *size);
+
+/* Copies the bytes of the file from `offset` on to `room`, as many as fit, and stores their number in `count`: 0 only at the end of the
+ * file, or if `room` is empty.
+ * UCSTORE_BAD_RUN. */
+int32_t ucstore_run_read(struct ucstore_run *run, size_t offset, uint8_t *room, size_t room_length, size_t *count);
+
+/* Frees the bytes of a run. Its view stays open.
+ * UCSTORE_BAD_RUN. */
+int32_t ucstore_run_close(struct ucstore_run *run);
+
+/* Adds the run of a file to a store. The last sequence number of the store becomes that of the run, and `id` gets the ID of the run. The
+ * bytes are copied once.
+ *
+ * A store that was created empty reads as a view does, if all runs of that view are added to it, the oldest first. Writes in memtables are
+ * in no run: `gathered` of `ucstore_view_report` has to be 0. Snapshots are in no run either. `ucstore_replay` then adds the batches of
+ * a log.
+ *
+ * UCSTORE_RUN_DAMAGED: the bytes are not those of a run's file. `offset` gets the offset of the first piece of 64 KiB, point or fragment
+ * that is not as it was written, or `file_length` if the fault is elsewhere.
+ * UCSTORE_BAD_RUN: the sequence numbers of the run do not all exceed the last one of the store; or the store has writes in memtables, a
+ * prepared batch, jobs, 256 runs, or no run ID left.
+ * UCSTORE_NO_STORE, UCSTORE_OUT_OF_MEMORY. */
+int32_t ucstore_add_run(struct ucstore *store, const uint8_t *file, size_t file_length, uint64_t *id, size_t *offset);
 
 /* Does the next compaction that is due, and stores in `compacted` whether there was one. Optional if the store compacts automatically.
  * UCSTORE_NO_STORE, UCSTORE_IDS_SPENT, UCSTORE_OUT_OF_MEMORY. */

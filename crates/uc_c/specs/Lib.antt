@@ -24,3 +24,4 @@ pub mod Checkpoints
 pub mod Folders
 pub mod Transactions
 pub mod RunFolders
+pub mod Runs

@@ -20,12 +20,14 @@
 //! `log_ends.rt` writes and reads marks, and finds the batch after a fault that tells damage. `logging.rt` prepares and commits what a
 //! database logs.
 //! `folders.rt` finds the files of a database's directory that opening reads, and determines the next file operation; C holds its
-//! state machine in a struct of numbers. `run_folder.rt` does this where checkpoints are lists of run files.
+//! state machine in a struct of numbers. `run_folder.rt` does this where checkpoints are lists of run files, and `runs.rt` gives these files'
+//! bytes and reads them.
 //!
 //! Read `status.rt` and `specs/Replies.antt` first, for the results of the functions, then `opening.rt`, `batches.rt`,
 //! `writing.rt`, `snapshots.rt`, `readable.rt`, `reading.rt`, `many.rt`, `scanning.rt`, `views.rt`, `view_reading.rt`,
 //! `sources.rt`, `reads.rt`, `transactions.rt`, `checkpoints.rt`, `compacting.rt`, `jobs.rt`, `job_laws.rt`, `c_report.rt`, with
-//! `specs/LogWalk.antt`, `logs.rt` and `replaying.rt`, `log_ends.rt`, `logging.rt`, `folders.rt`, `run_folder.rt` and `operands.rt`.
+//! `specs/LogWalk.antt`, `logs.rt` and `replaying.rt`, `log_ends.rt`, `logging.rt`, `folders.rt`, `run_folder.rt`, `runs.rt` and
+//! `operands.rt`.
 //!
 //! Tests: `bindings/c/worked.c`, `bindings/c/test.c`.
 #![tactic(auto)]
@@ -54,6 +56,7 @@ mod reads;
 mod replaying;
 mod room;
 mod run_folder;
+mod runs;
 mod scanning;
 mod snapshots;
 mod sources;

@@ -104,6 +104,12 @@ pub const BAD_OPERAND: i32 = 31;
 /// A read of the transaction is changed.
 pub const READ_CHANGED: i32 = 32;
 
+/// The bytes aren't those of a run's file.
+pub const RUN_DAMAGED: i32 = 33;
+
+/// There is no such run, or the store doesn't take it.
+pub const BAD_RUN: i32 = 34;
+
 /// The statuses have the numbers that `enum ucstore_status` gives them, in its order.
 pub fn statuses_are_numbered()
     ensures first { statuses.OK ∷ statuses.OUT_OF_MEMORY ∷ statuses.NO_STORE ∷ statuses.HAS_STORE ∷ statuses.NOT_FOUND
@@ -121,6 +127,7 @@ pub fn statuses_are_numbered()
     ensures logs { statuses.SEQUENCE_GAP ∷ statuses.LOG_MISSING ∷ statuses.NO_FOLDER ∷ [] ≡ pos 28 ∷ pos 29 ∷ pos 30 ∷ [] }
     ensures operands { statuses.BAD_OPERAND ≡ pos 31 }
     ensures transactions { statuses.READ_CHANGED ≡ pos 32 }
+    ensures runs { statuses.RUN_DAMAGED ∷ statuses.BAD_RUN ∷ [] ≡ pos 33 ∷ pos 34 ∷ [] }
 {}
 
 /// The status if a run can't be added.

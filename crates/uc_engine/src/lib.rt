@@ -7,8 +7,8 @@
 //! [`EngineCheckpoint`] a [`Checkpoint`](uc_checkpoint::Checkpoint). A [`TakenJob`] is an [`EngineJob`] or a [`FlushJob`].
 //!
 //! Read `specs/Engines.antt` first, then `operator_kind.rt`, `engine.rt`, `opening.rt`, `writing.rt`, `reading.rt`,
-//! `snapshots.rt`, `compacting.rt`, `engine_job.rt`, `engine_flush.rt`, `taken_job.rt`, `engine_view.rt`, `transactions.rt` and
-//! `engine_checkpoint.rt`.
+//! `snapshots.rt`, `compacting.rt`, `engine_job.rt`, `engine_flush.rt`, `taken_job.rt`, `engine_view.rt`, `runs.rt`, `transactions.rt`
+//! and `engine_checkpoint.rt`.
 //!
 //! An `Err(AllocError)`, or a variant `Memory`, comes only if an allocation fails.
 //!
@@ -26,6 +26,7 @@ mod opening;
 mod operator_kind;
 mod reading;
 mod report;
+mod runs;
 mod snapshots;
 mod store_job;
 mod taken_job;
@@ -47,11 +48,11 @@ pub use uc_checkpoint::{
     CheckpointError, pieces_are_read_back, pieces_have_a_most, rows_are_at_most_the_writes,
 };
 pub use uc_live::{
-    FeedError, FlushEnd, FlushJob, GREATEST_STOP, InstallError, JobEnd, JobStage, LiveOpenError,
-    LiveOptions, LookupSource, Options, Read, ReadSet, ReleaseError, RoomError, StoreId,
-    TransactionError, WriteError, batches_are_walked, commits_go_on, flushes_go_in, jobs_go_in,
-    limits_have_their_numbers, recorded_batch_is_recovered, sources_tell_what_values_come_of,
-    spent_flushes_stay_spent, unchanged_transactions_may_commit,
+    AddRunError, FeedError, FlushEnd, FlushJob, GREATEST_STOP, InstallError, JobEnd, JobStage,
+    LiveOpenError, LiveOptions, LookupSource, Options, Read, ReadSet, ReleaseError, RoomError,
+    StoreId, TransactionError, WriteError, batches_are_walked, commits_go_on, flushes_go_in,
+    jobs_go_in, limits_have_their_numbers, recorded_batch_is_recovered,
+    sources_tell_what_values_come_of, spent_flushes_stay_spent, unchanged_transactions_may_commit,
 };
 pub use uc_oper::ValueRef;
 pub use uc_query_read::{Answer, Laid, Query, RowBuffer, Rows};

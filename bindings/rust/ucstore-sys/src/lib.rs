@@ -70,6 +70,10 @@ pub const UCSTORE_NO_FOLDER: i32 = 30;
 pub const UCSTORE_BAD_OPERAND: i32 = 31;
 /// Read has changed.
 pub const UCSTORE_READ_CHANGED: i32 = 32;
+/// Corrupted run file.
+pub const UCSTORE_RUN_DAMAGED: i32 = 33;
+/// Invalid run.
+pub const UCSTORE_BAD_RUN: i32 = 34;
 
 /// The memtables: they hold a put or a deletion of the key, or a range deletion over it.
 pub const UCSTORE_MEMTABLE: u32 = 0;
@@ -132,6 +136,12 @@ pub struct ucstore_view {
 /// A handle to a checkpoint. All zeros: no checkpoint.
 #[repr(C)]
 pub struct ucstore_checkpoint {
+    pub at: *mut c_void,
+}
+
+/// The bytes of a run's file. All zeros: no run.
+#[repr(C)]
+pub struct ucstore_run {
     pub at: *mut c_void,
 }
 
@@ -567,6 +577,31 @@ extern "C" {
         done: *mut bool,
     ) -> i32;
     pub fn ucstore_checkpoint_close(checkpoint: *mut ucstore_checkpoint) -> i32;
+
+    pub fn ucstore_view_run(
+        view: *mut ucstore_view,
+        place: usize,
+        id: *mut u64,
+        low: *mut u64,
+        high: *mut u64,
+    ) -> i32;
+    pub fn ucstore_run(view: *mut ucstore_view, place: usize, run: *mut ucstore_run) -> i32;
+    pub fn ucstore_run_size(run: *mut ucstore_run, size: *mut u64) -> i32;
+    pub fn ucstore_run_read(
+        run: *mut ucstore_run,
+        offset: usize,
+        room: *mut u8,
+        room_length: usize,
+        count: *mut usize,
+    ) -> i32;
+    pub fn ucstore_run_close(run: *mut ucstore_run) -> i32;
+    pub fn ucstore_add_run(
+        store: *mut ucstore,
+        file: *const u8,
+        file_length: usize,
+        id: *mut u64,
+        offset: *mut usize,
+    ) -> i32;
 
     pub fn ucstore_job(store: *mut ucstore, job: *mut ucstore_job, taken: *mut bool) -> i32;
     pub fn ucstore_job_run(job: *mut ucstore_job) -> i32;

@@ -5,6 +5,7 @@ use crate::error::{check, Error};
 use crate::lookup_source::LookupSource;
 use crate::reads::{Functions, Reads};
 use crate::report::Report;
+use crate::runs::Runs;
 use crate::scan::{end_of_prefix, ends_of, Scan};
 use crate::sys;
 use std::cell::UnsafeCell;
@@ -213,6 +214,12 @@ impl View {
     /// [`Error::OutOfMemory`].
     pub fn checkpoint(&self) -> Result<Checkpoint, Error> {
         Checkpoint::of(self)
+    }
+
+    /// Returns the runs, the newest first. Writes in memtables are in no run: flush the store before taking the view, until
+    /// [`gathered`](Report::gathered) of [`report`](View::report) is 0.
+    pub fn runs(&self) -> Runs<'_> {
+        Runs::of(self)
     }
 
     /// Returns the last sequence number of the view: 0 if nothing was written.
