@@ -110,6 +110,9 @@ static void try_many(void) {
     struct ucstore_report report;
     uint64_t sequence, at;
     CHECK(ucstore_options_init(&options) == UCSTORE_OK);
+    /* Two runs are always compacted. */
+    options.compaction_trigger = 2;
+    options.max_size_amplification_percent = 0;
     CHECK(ucstore_create(&store, UCSTORE_MIXED, &options) == UCSTORE_OK);
     CHECK(ucstore_put(&store, (const uint8_t *)"z", 1, one, 1) == UCSTORE_OK);
     CHECK(ucstore_snapshot(&store, &sequence) == UCSTORE_OK);

@@ -14,6 +14,7 @@ type Map = BTreeMap<Vec<u8>, Vec<u8>>;
 /// Options with small memtables, whose runs the store never compacts by itself.
 fn options(idle: Option<Duration>) -> Options {
     let mut options = Options {
+        operator: Some(Operator::Append),
         compact_when_idle: idle,
         slow_trigger: 200,
         ..Default::default()

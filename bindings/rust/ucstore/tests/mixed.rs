@@ -99,7 +99,7 @@ fn parts_of_several_operators_are_applied_in_turn() {
 
 #[test]
 fn bytes_that_are_no_operand_replace_the_value() {
-    for bytes in [&b""[..], b"\xff", b"abc", &[0, 13], &[2, 4]] {
+    for bytes in [&b""[..], b"\xff", b"abc", &[0, 15], &[2, 4]] {
         assert_eq!(
             Operand::from_bytes(bytes.to_vec()),
             Err(Error::BadOperand),
