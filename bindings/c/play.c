@@ -13,7 +13,7 @@
 
 #define PAGE_ROWS UINT64_C(100)
 
-enum { LINE = 256, WORDS = 12, NAMES = 16, LONG_RUN = 16, MOST_BYTES = 1 << 22 };
+enum { LINE = 1 << 14, WORDS = 12, NAMES = 16, LONG_RUN = 16, MOST_BYTES = 1 << 22 };
 
 /* Kinds of writes: the tags of RocksDB's batches (`dbformat.h`). */
 enum kind { DELETE = 0, PUT = 1, MERGE = 2, DELETE_RANGE = 15 };

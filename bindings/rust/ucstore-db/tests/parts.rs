@@ -6,11 +6,12 @@ mod common;
 use common::{is_long, map_of, seed, Call, Device, Histories, History, Map, Numbers};
 use std::collections::BTreeMap;
 use std::sync::Arc;
-use ucstore_db::{Batch, Db, Error, Options, Snapshot, Sync};
+use ucstore_db::{Batch, Db, Error, Operator, Options, Snapshot, Sync};
 
 /// The options of a part's openings, without threads.
 fn options() -> Options {
     let mut options = Options {
+        operator: Some(Operator::Append),
         compactors: 0,
         sync: Sync::Never,
         checkpoint_least: u64::MAX,

@@ -235,6 +235,7 @@ fn a_folder_keeps_its_operator() {
     assert_eq!(files["OPERATOR"], b"counter\n");
     for recover_to_fault in [false, true] {
         let others = Options {
+            operator: Some(Operator::Append),
             recover_to_fault,
             ..Default::default()
         };

@@ -330,6 +330,7 @@ fn reads(db: &Db) -> [Transaction; 2] {
 fn conflicts_are_found_after_whatever_happens() {
     let device = Arc::new(Device::default());
     let options = Options {
+        operator: Some(Operator::Append),
         compactors: 0,
         ..Options::default()
     };

@@ -191,10 +191,11 @@ impl History {
     }
 }
 
-/// Opens a device without threads, so that each run makes the same calls.
+/// Opens a device without threads, so that each run makes the same calls. A new database is made with `append`.
 pub fn open(device: &Device) -> Result<Db, Error> {
+    let is_made = device.files().contains_key("OPERATOR");
     let mut options = Options {
-        operator: Some(Operator::Append),
+        operator: (!is_made).then_some(Operator::Append),
         compactors: 0,
         sync: Sync::Never,
         ..Default::default()
