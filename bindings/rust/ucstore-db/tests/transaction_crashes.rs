@@ -204,7 +204,7 @@ fn a_crash_at_any_call_leaves_whole_transactions() {
         }
     }
     assert!(
-        states > 300 && lost > 50 && conflicts > 20,
+        states > 300 && lost > 20 && conflicts > 20,
         "{states} {lost} {conflicts}"
     );
 }
