@@ -12,6 +12,7 @@ from . import _end_of_prefix
 from ._db_library import NOT_FOUND, ROOM
 from ._db_reader import Alone, Bytes, bytes_of
 from ._db_types import Conflict
+from ._operands import ReadsParts
 
 if TYPE_CHECKING:
     from ._db import Db
