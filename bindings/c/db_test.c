@@ -667,6 +667,7 @@ static void try_full_device(void) {
     struct rlimit limit, before;
     struct ucstore_db *db;
     OK(ucstore_db_options_init(&options, sizeof options));
+    options.merge_operator = UCSTORE_DB_APPEND;
     options.event = hear_event;
     options.event_context = &told;
     CHECK(pthread_mutex_init(&told.lock, NULL) == 0);
