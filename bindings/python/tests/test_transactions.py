@@ -216,14 +216,15 @@ class Schedules(unittest.TestCase):
     def test_drawn_schedules_are_serial(self):
         for number in range(200 if LONG else 10):
             draw = random.Random(SEED * 1000 + number)
-            with Db.in_memory(options=DbOptions(write_buffer_size=draw.choice((200, 4096, 1 << 20)))) as db:
+            options = DbOptions(write_buffer_size=draw.choice((200, 4096, 1 << 20)))
+            with Db.in_memory(Operator.APPEND, options=options) as db:
                 outcomes = self.draw(db, draw, 400)
             self.assertTrue(all(outcomes.values()), outcomes)
 
     def test_drawn_schedules_go_on_after_openings(self):
         with tempfile.TemporaryDirectory() as folder:
             for number in range(40 if LONG else 5):
-                with Db(folder, options=DbOptions(sync=Sync.NEVER)) as db:
+                with Db(folder, Operator.APPEND, options=DbOptions(sync=Sync.NEVER)) as db:
                     self.draw(db, random.Random(SEED * 1000 + number), 200)
 
 
