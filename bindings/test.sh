@@ -11,7 +11,7 @@
 # Each language runs its examples, the cases of bindings/cases, a million puts in a row, and drawn calls beside a plain
 # dictionary: OPERATIONS (50000) for each of the four operators in C. `refused` refuses each allocation of CALLS (1000) drawn
 # calls, and tries what promises.c counts. SEED (1) is the seed of what C draws, and of cases of the operator `mixed`: 500, or with LONG=1
-# 25,000, which merge 100,000 operands and more.
+# 3,000, which is what the player for C has memory for.
 set -euo pipefail
 here=$(cd "$(dirname "${BASH_SOURCE[0]}")" && pwd)
 work=$(mktemp -d)
@@ -22,7 +22,7 @@ export PATH=$PATH:${CARGO_HOME:-$HOME/.cargo}/bin
 operations=${OPERATIONS:-50000}
 calls=${CALLS:-1000}
 seed=${SEED:-1}
-cases_drawn=${LONG:+25000}
+cases_drawn=${LONG:+3000}
 read -ra cc <<< "${CC:-cc}"
 read -ra cxx <<< "${CXX:-c++}"
 strict=(-Wall -Wextra -Werror -pedantic)
