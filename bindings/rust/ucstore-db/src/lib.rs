@@ -143,7 +143,10 @@ pub use stats::Stats;
 pub use transaction::Transaction;
 pub use transaction_rows::TransactionRows;
 pub use ucstore;
-pub use ucstore::{set_bytes, Batch, KeyValue, MergeParts, Operand, Operator, Part, ReadParts};
+pub use ucstore::{
+    check_operand, int_of, set_bytes, set_of, Batch, KeyValue, MergeParts, Operand, Operator, Part,
+    ReadParts,
+};
 
 use std::sync::{Mutex, MutexGuard, PoisonError, TryLockError};
 
