@@ -675,7 +675,7 @@ class WriteBatch(_Held):
         self._call(_library.batch_delete, *_texts(key))
 
     def merge(self, key: bytes, operand: bytes) -> None:
-        """Adds a merge. Raises what `put` does."""
+        """Adds a merge. Under `Operator.MIXED`, bytes that are not an operand replace the value. Raises what `put` does."""
         self._call(_library.batch_merge, *_texts(key, operand))
 
     def delete_range(self, begin: bytes, end: bytes) -> None:
@@ -947,7 +947,7 @@ class Store(_HeldReader, MergesParts):
         self.delete(key)
 
     def merge(self, key: bytes, operand: bytes) -> None:
-        """Merges an operand into a key's value. Raises what `put` does."""
+        """Merges an operand into a key's value. Under `Operator.MIXED`, bytes that are not an operand replace it. Raises what `put` does."""
         self._call(_library.merge, *_texts(key, operand))
 
     def merge_part(self, part: Part, key: bytes, payload: bytes, parameter: int = 0) -> None:

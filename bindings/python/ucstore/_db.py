@@ -53,7 +53,7 @@ class DbBatch(Alone, MergesParts):
         self._call("batch_put", first, len(first), second, len(second))
 
     def merge(self, key: Bytes, operand: Bytes) -> None:
-        """Adds a merge."""
+        """Adds a merge. Under `Operator.MIXED`, bytes that are not an operand replace the value."""
         first, second = bytes_of(key), bytes_of(operand)
         self._call("batch_merge", first, len(first), second, len(second))
 

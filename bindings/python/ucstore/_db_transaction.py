@@ -99,7 +99,8 @@ class DbTransaction(Alone, ReadsParts):
         self.put(key, value)
 
     def merge(self, key: Bytes, operand: Bytes) -> None:
-        """Merges an operand into a key's value at the commit. The key is not read."""
+        """Merges an operand into a key's value at the commit. The key is not read. Under `Operator.MIXED` it raises `BadOperand` for bytes
+        that are not an operand."""
         first, second = bytes_of(key), bytes_of(operand)
         self._call("transaction_merge", first, len(first), second, len(second))
 

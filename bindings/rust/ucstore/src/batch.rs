@@ -51,6 +51,8 @@ impl Batch {
 
     /// Adds a merge.
     ///
+    /// Under [`Operator::Mixed`](crate::Operator::Mixed), bytes that are not an [`Operand`](crate::Operand) replace the value.
+    ///
     /// # Errors
     ///
     /// Those of [`put`](Batch::put).

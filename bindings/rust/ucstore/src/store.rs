@@ -189,6 +189,8 @@ impl Store {
 
     /// Merges an operand into a key's value.
     ///
+    /// Under [`Operator::Mixed`](crate::Operator::Mixed), bytes that are not an [`Operand`](crate::Operand) replace the value.
+    ///
     /// # Errors
     ///
     /// Those of [`put`](Store::put).
