@@ -49,7 +49,7 @@ class Options(ctypes.Structure):
         ("recovers_to_fault", ctypes.c_uint32), ("progress", _ProgressFunction), ("progress_context", _Pointer),
         ("event", _EventFunction), ("event_context", _Pointer), ("recover_to", _U64), ("give_up_until", _U64),
         ("marks", ctypes.POINTER(_U64)), ("marks_count", _Size), ("must_exist", ctypes.c_uint32), ("read_only", ctypes.c_uint32),
-        ("compact_when_idle_milliseconds", _U64),
+        ("compact_when_idle_milliseconds", _U64), ("checkpoint_bytes_per_second", _U64),
     ]
 
     @classmethod

@@ -132,7 +132,7 @@ class DbOptions(NamedTuple):
     """Number of compaction threads; one more is for flushes. With 0, writers do both."""
     slow_trigger: int = 20
     """Number of runs at which each write is delayed by a millisecond."""
-    checkpoint_ratio: int = 2
+    checkpoint_ratio: int = 0
     """Size of the logs, as a multiple of the data's, at which a checkpoint is made."""
     checkpoint_least: int = 67108864
     """Minimum size of the logs in bytes for a checkpoint. 2^64 - 1: never make one automatically."""
@@ -141,6 +141,8 @@ class DbOptions(NamedTuple):
     compact_when_idle_milliseconds: int = 0
     """Time without a write after which the database is compacted to one run, if there are `compactors`: reads become faster.
     It takes up to twice the data's memory meanwhile. A write ends this work, and does not wait for it. 0: never."""
+    checkpoint_bytes_per_second: int = 0
+    """Maximum bytes of run files that a checkpoint writes in a second. 0: no limit."""
 
 
 class Progress(NamedTuple):
@@ -248,3 +250,7 @@ class DbStats(NamedTuple):
     """Lookups that the runs answered."""
     set_aside_bytes: int
     """Bytes that opening cut off the last log and kept in a file (`EventKind.SET_ASIDE`)."""
+    run_files: int
+    """Number of run files that checkpoints wrote."""
+    kept_bytes: int
+    """Bytes of the run files that checkpoints kept from older ones."""

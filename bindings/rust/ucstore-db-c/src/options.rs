@@ -80,6 +80,8 @@ pub struct COptions {
     pub read_only: u32,
     /// Milliseconds without a write after which the database is compacted to one run; 0 for never.
     pub compact_when_idle_milliseconds: u64,
+    /// Maximum bytes of run files that a checkpoint writes in a second; 0 for no limit.
+    pub checkpoint_bytes_per_second: u64,
 }
 
 impl COptions {
@@ -114,6 +116,10 @@ impl COptions {
             slow_trigger: self.slow_trigger,
             checkpoint_ratio: self.checkpoint_ratio,
             checkpoint_least: self.checkpoint_least,
+            checkpoint_bytes_per_second: match self.checkpoint_bytes_per_second {
+                0 => None,
+                bytes => Some(bytes),
+            },
             must_exist: self.must_exist != 0,
             read_only: self.read_only != 0,
             recover_to_fault: self.recovers_to_fault != 0,
@@ -182,6 +188,7 @@ impl Default for COptions {
             compact_when_idle_milliseconds: options
                 .compact_when_idle
                 .map_or(0, |after| after.as_millis() as u64),
+            checkpoint_bytes_per_second: options.checkpoint_bytes_per_second.unwrap_or(0),
         }
     }
 }

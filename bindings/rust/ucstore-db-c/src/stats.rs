@@ -74,6 +74,10 @@ pub struct CStats {
     pub lookups_by_runs: u64,
     /// Bytes that opening cut off the last log and set aside.
     pub set_aside_bytes: u64,
+    /// Number of run files that checkpoints wrote.
+    pub run_files: u64,
+    /// Bytes of the run files that checkpoints kept.
+    pub kept_bytes: u64,
 }
 
 impl From<Stats> for CStats {
@@ -109,6 +113,8 @@ impl From<Stats> for CStats {
             lookups_by_filters: stats.lookups_by_filters,
             lookups_by_runs: stats.lookups_by_runs,
             set_aside_bytes: stats.set_aside_bytes,
+            run_files: stats.run_files,
+            kept_bytes: stats.kept_bytes,
         }
     }
 }

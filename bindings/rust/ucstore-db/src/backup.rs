@@ -18,6 +18,7 @@ use crate::lock;
 use crate::name::Name;
 use crate::operator_file;
 use crate::partial::Partial;
+use crate::run_list::RunList;
 use crate::shared::Shared;
 use crate::staging::Staging;
 use std::fs;
@@ -143,15 +144,17 @@ impl Shared {
         let source = &*ended.folder;
         let texts = source.names().map_err(Error::of_file(""))?;
         let names: Vec<Name> = texts.iter().filter_map(|text| Name::of(text)).collect();
-        let bases = names.iter().copied();
-        let base = bases.filter(|name| matches!(name, Name::Base(..))).max();
-        let least = match base {
-            Some(Name::Base(number, _)) => number,
-            _ => 0,
+        let newest = Name::newest(names.iter().copied());
+        let least = newest.and_then(Name::checkpoint);
+        let least = least.map_or(0, |(number, ..)| number);
+        let runs = match newest {
+            Some(name @ Name::List(..)) => RunList::read(source, name)?.numbers(),
+            _ => vec![],
         };
         let is_kept = |name: &Name| match *name {
             Name::Log(number) => (least..ended.number).contains(&number),
-            name => Some(name) == base,
+            Name::Run(number) => runs.contains(&number),
+            name => Some(name) == newest,
         };
         // It comes first: a file that is linked is never made anew.
         make_log(target, ended.number)?;

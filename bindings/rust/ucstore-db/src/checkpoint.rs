@@ -1,51 +1,73 @@
-//! Checkpoints, which let logs go.
+//! Checkpoints, which let logs go: when one is made, and of what.
+//!
+//! A checkpoint is a list of run files, or a base, which has the rows of a view. It is a list if the runs of the view end at its last
+//! sequence number: flushes take whole memtables and compactions whole runs, so that is the end of a batch.
 
-use crate::base_file::Base;
 use crate::error::Error;
-use crate::event::Event;
 use crate::folder::{File, Folder};
 use crate::lock;
 use crate::log::{Log, Machine};
 use crate::name::Name;
+use crate::run_files::{PlannedRun, RunFiles};
 use crate::shared::Shared;
 use std::io::ErrorKind;
 use std::sync::atomic::Ordering;
 use std::sync::{Arc, MutexGuard};
 use std::thread;
 use std::time::Instant;
-use ucstore::{FolderAction, View};
+use ucstore::{FolderAction, RunFolderAction, RunFolderMachine, View};
 
 /// From how many bytes on a log is synced again before it is locked for that, and how often at most.
 const FEW_BYTES: u64 = 64 << 10;
 const MOST_SYNCS: usize = 3;
 
-/// The contents of a checkpoint, and its place.
-struct Begun {
-    folder: Arc<dyn Folder>,
-    machine: Machine,
+/// A checkpoint that the machine was asked for.
+pub(crate) struct Begun {
+    pub(crate) folder: Arc<dyn Folder>,
+    pub(crate) machine: Machine,
     /// The number of the log that goes on after its last sequence.
-    number: u64,
+    pub(crate) number: u64,
+    /// The last sequence.
+    pub(crate) last: u64,
+    pub(crate) view: View,
+    /// The runs that a list names; none for a base of the view's rows.
+    pub(crate) runs: Option<Vec<PlannedRun>>,
+    /// The store that the view is of, by the number of times that it was replaced; none if that isn't known.
+    pub(crate) store: Option<u64>,
+}
+
+/// A view, and what a checkpoint of it is up to.
+struct Wanted {
     view: View,
+    store: Option<u64>,
+    last: u64,
+    /// The number of the log that goes on after it, and a number in the order of the batches that it has of that.
+    place: (u64, u64),
 }
 
 impl Shared {
-    /// Writes all that is there to a base, while writes go to a new log. Then older files are removed. In memory it
-    /// does nothing.
+    /// Writes all that is there to runs, and to a list of these, while writes go to a new log. Then older files are removed. In memory
+    /// it does nothing.
     ///
     /// If it fails, what was logged is where it was: a crash at any step loses nothing.
     pub(crate) fn checkpoint(&self) -> Result<(), Error> {
-        self.checkpoint_by(|| self.begin_checkpoint())
+        self.checkpoint_by(|run_files| self.begin_checkpoint(run_files))
     }
 
-    /// Writes the rows of a view of this database to a base. Removes the logs that have nothing after it.
+    /// Writes what a view of this database has. Removes the logs that have nothing after it.
     pub(crate) fn checkpoint_to(&self, view: &View) -> Result<(), Error> {
-        self.checkpoint_by(|| self.begin_checkpoint_to(view))
+        self.checkpoint_by(|run_files| self.begin_checkpoint_to(run_files, view))
+    }
+
+    /// Writes the runs that there are, while writes go on. What isn't flushed stays in logs.
+    fn checkpoint_runs(&self) -> Result<(), Error> {
+        self.checkpoint_by(|run_files| self.begin_checkpoint_of_runs(run_files))
     }
 
     /// Makes a checkpoint that a function begins, unless it says that there is none.
     fn checkpoint_by(
         &self,
-        begin: impl FnOnce() -> Result<Option<Begun>, Error>,
+        begin: impl FnOnce(&RunFiles) -> Result<Option<Begun>, Error>,
     ) -> Result<(), Error> {
         let outcome = self.make_checkpoint(begin);
         self.events.tell();
@@ -55,11 +77,11 @@ impl Shared {
     /// Makes a checkpoint, which is reported after its locks are given back.
     fn make_checkpoint(
         &self,
-        begin: impl FnOnce() -> Result<Option<Begun>, Error>,
+        begin: impl FnOnce(&RunFiles) -> Result<Option<Begun>, Error>,
     ) -> Result<(), Error> {
         let begun_at = Instant::now();
-        let _checkpointing = lock(&self.checkpointing);
-        let Some(begun) = begin()? else {
+        let mut run_files = lock(&self.checkpointing);
+        let Some(begun) = begin(&run_files)? else {
             return Ok(());
         };
         // After a failure it isn't tried again before as much more was logged.
@@ -67,98 +89,82 @@ impl Shared {
             .log_bytes()
             .saturating_add(self.options.checkpoint_least);
         self.checkpoint_due.store(due, Ordering::Relaxed);
-        self.write_base(&begun, begun_at)
+        self.write_checkpoint(&mut run_files, begun, begun_at)
     }
 
-    /// Does what the machine asks for until a checkpoint is there, and what it has is removed elsewhere.
-    fn write_base(&self, begun: &Begun, begun_at: Instant) -> Result<(), Error> {
-        let (folder, last) = (&*begun.folder, begun.view.last());
-        let check = || match self.is_closing.load(Ordering::Acquire) {
-            true => Err(Error::Closed),
-            false => Ok(()),
+    /// Goes on in a new log, flushes what was logged before, and takes a view of that. Writes wait for the flush, so that the new log has
+    /// nothing of it.
+    fn begin_checkpoint(&self, run_files: &RunFiles) -> Result<Option<Begun>, Error> {
+        let log = self.switch_if(|_| true)?;
+        let Some(log) = &*log else {
+            return Ok(None);
         };
-        let name = Name::Base(begun.number, Some(last));
-        let (mut base, mut bytes, mut removal, mut is_there) = (None, 0, None, false);
-        loop {
-            let action = lock(&begun.machine).next_checkpoint();
-            let outcome = match action {
-                FolderAction::WriteBase(number, _) => {
-                    Base::write(folder, number, &begun.view, &check).map(|written| {
-                        bytes = written.length();
-                        base = Some(written);
-                    })
-                }
-                FolderAction::SyncBase => base.as_mut().map_or(Ok(()), |base| base.sync(&check)),
-                FolderAction::NameBase(..) => base.take().map_or(Ok(()), Base::rename),
-                FolderAction::SyncNames => folder.sync().map_err(Error::of_file("")),
-                _ => match remove_for(folder, &mut removal, action) {
-                    Some(outcome) => outcome,
-                    None => break,
-                },
+        if lock(&self.store).report().gathered > 0 {
+            self.flush_gathered()?;
+        }
+        let (view, store) = self.view_of_store()?;
+        let wanted = Wanted {
+            last: view.last(),
+            view,
+            store,
+            place: (log.number(), 0),
+        };
+        Ok(ask(log, run_files, wanted))
+    }
+
+    /// Goes on in a new log, unless this one begins after the view: so a checkpoint lets it go. There is nothing to do if one has
+    /// all of the view.
+    fn begin_checkpoint_to(
+        &self,
+        run_files: &RunFiles,
+        view: &View,
+    ) -> Result<Option<Begun>, Error> {
+        // A view may be of a store that was replaced, and its runs have IDs that others have now.
+        let store = Some(self.stores.load(Ordering::Acquire)).filter(|number| *number == 0);
+        let last = view.last();
+        let log = self.switch_behind(last)?;
+        let Some((log, place)) = log.as_ref().and_then(|log| log.place_and_log(last)) else {
+            return Ok(None);
+        };
+        let wanted = Wanted {
+            view: view.again()?,
+            store,
+            last,
+            place,
+        };
+        Ok(ask(log, run_files, wanted))
+    }
+
+    /// Takes a view, and goes on in a new log if its runs have writes of this one. If the newest checkpoint has all of the runs, what
+    /// isn't flushed is as long as the options let logs be: then it is flushed before.
+    fn begin_checkpoint_of_runs(&self, run_files: &RunFiles) -> Result<Option<Begun>, Error> {
+        let (view, store) = self.view_of_store()?;
+        let last = last_of_runs(&view);
+        let log = self.switch_behind(last)?;
+        if let Some((log, place)) = log.as_ref().and_then(|log| log.place_and_log(last)) {
+            let wanted = Wanted {
+                view,
+                store,
+                last,
+                place,
             };
-            lock(&begun.machine).told_checkpoint(outcome.is_ok());
-            outcome?;
-            if action == FolderAction::SyncNames {
-                is_there = true;
-                if let Some(log) = &mut *lock(&self.log) {
-                    log.forget_before(begun.number, last);
-                }
-                self.checkpoint_due
-                    .store(self.options.checkpoint_least, Ordering::Relaxed);
-                self.counts.checkpoints.add(1);
-                self.counts.base_bytes.add(bytes);
-                self.events.push(Event::Checkpointed {
-                    file: name.text(),
-                    bytes,
-                    took: begun_at.elapsed(),
-                });
+            if let Some(begun) = ask(log, run_files, wanted) {
+                return Ok(Some(begun));
             }
         }
-        // Files with temporary names, and bases of the same number that have less.
-        remove(folder, &mut removal, |it| match it {
-            Name::Partial(number) => is_there && number < begun.number,
-            Name::Base(..) => is_there && it < name,
-            _ => false,
-        })
+        drop(log);
+        self.begin_checkpoint(run_files)
     }
 
-    /// Goes on in a new log, and takes a view of what was logged before.
-    fn begin_checkpoint(&self) -> Result<Option<Begun>, Error> {
-        let mut log = self.switch_if(|_| true)?;
-        let Some(log) = &mut *log else {
-            return Ok(None);
-        };
-        let view = lock(&self.store).view()?;
-        let number = log.number();
-        lock(&log.machine).ask_checkpoint(number, 0);
-        Ok(Some(Begun {
-            folder: Arc::clone(&log.folder),
-            machine: Arc::clone(&log.machine),
-            number,
-            view,
-        }))
+    /// A view of the store, and the number of times that this was replaced.
+    fn view_of_store(&self) -> Result<(View, Option<u64>), Error> {
+        let store = lock(&self.store);
+        Ok((store.view()?, Some(self.stores.load(Ordering::Acquire))))
     }
 
-    /// Goes on in a new log, unless this one begins after the view: so a checkpoint lets it go. There is nothing to do if a base has
-    /// all of the view.
-    fn begin_checkpoint_to(&self, view: &View) -> Result<Option<Begun>, Error> {
-        let last = view.last();
-        let is_needed = |log: &Log| log.place_behind(last).is_some() && log.before < last;
-        let mut log = self.switch_if(is_needed)?;
-        let Some(log) = &mut *log else {
-            return Ok(None);
-        };
-        let Some((number, past)) = log.place_behind(last) else {
-            return Ok(None);
-        };
-        let view = view.again()?;
-        lock(&log.machine).ask_checkpoint(number, past);
-        Ok(Some(Begun {
-            folder: Arc::clone(&log.folder),
-            machine: Arc::clone(&log.machine),
-            number,
-            view,
-        }))
+    /// Goes on in a new log if this one has a part of what is logged up to a sequence, and no checkpoint has that.
+    fn switch_behind(&self, last: u64) -> Result<MutexGuard<'_, Option<Log>>, Error> {
+        self.switch_if(|log| log.place_behind(last).is_some() && log.before < last)
     }
 
     /// Goes on in a new log, unless nothing is in this one. In memory it does nothing.
@@ -233,7 +239,7 @@ impl Shared {
             if !self.is_checkpoint_due.swap(false, Ordering::AcqRel) {
                 thread::park();
             } else if self.is_log_long() {
-                match self.checkpoint() {
+                match self.checkpoint_runs() {
                     Ok(()) => self.forget_noted(),
                     // The close doesn't wait for the rest of it.
                     Err(Error::Closed) => {}
@@ -255,13 +261,63 @@ impl Shared {
     }
 }
 
+/// Asks the machine for a checkpoint of a view: a list of its runs, or else a base of its rows. Returns none if there is nothing to do.
+fn ask(log: &Log, run_files: &RunFiles, wanted: Wanted) -> Option<Begun> {
+    let Wanted {
+        view,
+        store,
+        last,
+        place: (number, past),
+    } = wanted;
+    let mut machine = lock(&log.machine);
+    let mut runs = None;
+    if last_of_runs(&view) == last {
+        // A list that couldn't be read back lends none of its files.
+        let store = store.filter(|_| machine.is_read_back());
+        let planned = run_files.plan(&view, store);
+        let files = planned.iter().filter_map(|run| run.file);
+        let kept = Vec::from_iter(files.map(|file| file.number));
+        let count = (planned.len() - kept.len()) as u64;
+        machine.ask_checkpoint(number, past, &kept, &run_files.named, count);
+        runs = Some(planned).filter(|_| is_asked(&machine));
+    }
+    if runs.is_none() && last == view.last() {
+        machine.ask_checkpoint(number, past, &[], &run_files.named, 0);
+        if !is_asked(&machine) && machine.is_read_back() {
+            // No list has the number of another one. A base may, which names no runs: it is one of the folder's machine alone.
+            machine.folder_mut().ask_checkpoint(number, past);
+        }
+    }
+    let begun = is_asked(&machine).then(|| Begun {
+        folder: Arc::clone(&log.folder),
+        machine: Arc::clone(&log.machine),
+        number,
+        last,
+        view,
+        runs,
+        store,
+    });
+    drop(machine);
+    begun
+}
+
+/// Whether a machine makes a checkpoint.
+fn is_asked(machine: &RunFolderMachine) -> bool {
+    machine.next_checkpoint() != RunFolderAction::OfFolder(FolderAction::Nothing)
+}
+
+/// The last sequence number of a view's runs: 0 if there are none.
+fn last_of_runs(view: &View) -> u64 {
+    view.runs().next().map_or(0, |run| *run.sequences().end())
+}
+
 /// Makes the file of the next log, whose name is on the device then. The log isn't locked meanwhile.
 fn make_next(folder: &dyn Folder, machine: &Machine) -> Result<Box<dyn File>, Error> {
-    lock(machine).ask_next();
-    let name = Name::Log(lock(machine).log() + 1).text();
+    lock(machine).folder_mut().ask_next();
+    let name = Name::Log(lock(machine).folder().log() + 1).text();
     let mut made = None;
     loop {
-        let action = lock(machine).next_make();
+        let action = lock(machine).folder().next_make();
         let outcome = match action {
             FolderAction::CreateLog(_) => folder
                 .create(&name)
@@ -270,7 +326,7 @@ fn make_next(folder: &dyn Folder, machine: &Machine) -> Result<Box<dyn File>, Er
             FolderAction::SyncNames => folder.sync().map_err(Error::of_file("")),
             _ => break,
         };
-        lock(machine).told_make(outcome.is_ok());
+        lock(machine).folder_mut().told_make(outcome.is_ok());
         outcome?;
     }
     match made {
@@ -290,13 +346,26 @@ pub(crate) fn remove_for(
         FolderAction::RemoveLog(number) => {
             Some(remove(folder, listed, |it| it == Name::Log(number)))
         }
-        FolderAction::RemoveBase(number) => Some(remove(
-            folder,
-            listed,
-            |it| matches!(it, Name::Base(it, _) if it == number),
-        )),
+        FolderAction::RemoveBase(number) => Some(remove(folder, listed, |it| {
+            it.checkpoint().is_some_and(|(it, ..)| it == number)
+        })),
         _ => None,
     }
+}
+
+/// Removes the run files that the machine lets go, of which the newest checkpoint names others.
+pub(crate) fn remove_runs(
+    folder: &dyn Folder,
+    machine: &RunFolderMachine,
+    named: &[u64],
+    listed: &mut Option<Vec<Name>>,
+) -> Result<(), Error> {
+    remove(folder, listed, |name| match name {
+        Name::Run(number) => {
+            machine.next_removal(number, named) == RunFolderAction::RemoveRun(number)
+        }
+        _ => false,
+    })
 }
 
 /// Removes files that are listed, if they are there yet. The names are read once.

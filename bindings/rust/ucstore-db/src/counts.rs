@@ -31,8 +31,12 @@ pub(crate) struct Counts {
     pub(crate) logged_bytes: Count,
     /// The bytes that the logs have now and no base holds.
     pub(crate) log_bytes: Count,
-    /// The bytes of the bases that were written.
+    /// The bytes of the lists, the run files and the bases that were written.
     pub(crate) base_bytes: Count,
+    /// The number of run files that were written.
+    pub(crate) run_files: Count,
+    /// The bytes of the run files that lists name which were written before.
+    pub(crate) kept_bytes: Count,
     /// The bytes that the opening cut off a log and set aside.
     pub(crate) set_aside_bytes: Count,
 }
@@ -76,6 +80,8 @@ impl Default for Counts {
             logged_bytes: Count::default(),
             log_bytes: Count::default(),
             base_bytes: Count::default(),
+            run_files: Count::default(),
+            kept_bytes: Count::default(),
             set_aside_bytes: Count::default(),
         }
     }

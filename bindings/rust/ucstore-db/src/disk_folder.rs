@@ -216,9 +216,12 @@ fn settled_names_of(path: &Path) -> io::Result<Vec<String>> {
     Err(io::ErrorKind::ResourceBusy.into())
 }
 
-/// Whether a file is a log or a base.
+/// Whether a file is a log or a checkpoint.
 pub(crate) fn is_database(name: &str) -> bool {
-    matches!(Name::of(name), Some(Name::Log(_) | Name::Base(..)))
+    matches!(
+        Name::of(name),
+        Some(Name::Log(_) | Name::Base(..) | Name::List(..))
+    )
 }
 
 impl Folder for DiskFolder {

@@ -28,11 +28,11 @@ pub enum Event {
         /// The time that it took.
         took: Duration,
     },
-    /// A base was written, and the logs before it are gone.
+    /// A checkpoint was written, and the logs before it are about to go.
     Checkpointed {
-        /// The name of the base.
+        /// The name of the list of runs, or of the base.
         file: String,
-        /// Its size in bytes.
+        /// The number of bytes that were written: of that file, and of the runs that no older checkpoint has.
         bytes: u64,
         /// The time that it took.
         took: Duration,

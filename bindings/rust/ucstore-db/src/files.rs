@@ -4,6 +4,7 @@ use crate::error::Error;
 use crate::folder::Folder;
 use crate::name::Name;
 use crate::operator_file::OPERATOR;
+use crate::run_list::RunList;
 use crate::windows::Windows;
 use std::cmp::Ordering;
 use std::io::ErrorKind;
@@ -14,8 +15,10 @@ use ucstore::{log_writes_at, BatchFault, Ended, LogPlace, Write};
 #[derive(Clone, Copy, Debug, PartialEq, Eq)]
 #[non_exhaustive]
 pub enum FileKind {
-    /// A checkpoint.
+    /// A checkpoint: a list of run files, or a base, which has rows.
     Checkpoint,
+    /// A run file, which a list may name.
+    Run,
     /// A write-ahead log.
     Log,
     /// The file that names the merge operator.
@@ -40,7 +43,8 @@ pub struct FolderFile {
     pub kind: FileKind,
     /// Its length in bytes.
     pub length: u64,
-    /// Whether an opening reads it. An older log or checkpoint, of which a later checkpoint has all, isn't read.
+    /// Whether an opening reads it. An older log or checkpoint, of which a later checkpoint has all, isn't read, nor a run file that the
+    /// newest checkpoint doesn't name.
     pub is_read: bool,
 }
 
@@ -64,8 +68,8 @@ pub struct WritesRead {
     pub length: u64,
 }
 
-/// Returns the files of a folder: first checkpoints and logs, in the order in which an opening reads them, and then the others by name. One
-/// that an owner removes meanwhile may be left out.
+/// Returns the files of a folder: first checkpoints and logs, in the order in which an opening reads them, then run files by number, and then
+/// the others by name. One that an owner removes meanwhile may be left out. If the newest list is damaged, all run files count as read.
 ///
 /// # Errors
 ///
@@ -77,10 +81,8 @@ pub fn files_of(folder: &dyn Folder) -> Result<Vec<FolderFile>, Error> {
         .map(|text| (Name::of(&text), text))
         .collect();
     found.sort_by(order);
-    let bases = found
-        .iter()
-        .filter_map(|(name, _)| name.filter(|name| matches!(name, Name::Base(..))));
-    let base = bases.max();
+    let newest = Name::newest(found.iter().filter_map(|(name, _)| *name));
+    let runs = runs_of(folder, newest)?;
     let files = found.into_iter().filter_map(|(name, text)| {
         let length = match folder.length(&text) {
             Err(error) if error.kind() == ErrorKind::NotFound => return None,
@@ -89,19 +91,36 @@ pub fn files_of(folder: &dyn Folder) -> Result<Vec<FolderFile>, Error> {
         Some(length.map(|length| FolderFile {
             kind: kind_of(name, &text),
             length,
-            is_read: is_read(name, base) || text == OPERATOR,
+            is_read: is_read(name, newest, runs.as_deref()) || text == OPERATOR,
             name: text,
         }))
     });
     files.collect()
 }
 
+/// The numbers of the run files that the newest checkpoint names; none if it can't be read.
+fn runs_of(folder: &dyn Folder, newest: Option<Name>) -> Result<Option<Vec<u64>>, Error> {
+    let Some(name @ Name::List(..)) = newest else {
+        return Ok(Some(vec![]));
+    };
+    match RunList::read(folder, name) {
+        Ok(list) => Ok(Some(list.numbers())),
+        Err(Error::Damaged { .. }) => Ok(None),
+        Err(error) if error.is_not_found() => Ok(None),
+        Err(error) => Err(error),
+    }
+}
+
 /// The order of two files: a checkpoint comes before the log that goes on after it.
 fn order(one: &(Option<Name>, String), other: &(Option<Name>, String)) -> Ordering {
     let place = |name: Option<Name>| match name {
-        Some(Name::Base(number, sequence)) => (0, number, 0, sequence),
-        Some(Name::Log(number)) => (0, number, 1, None),
-        _ => (1, 0, 0, None),
+        Some(name @ (Name::Base(..) | Name::List(..))) => {
+            let (number, sequence, is_list) = name.checkpoint().unwrap_or_default();
+            (0, number, 0, sequence, is_list)
+        }
+        Some(Name::Log(number)) => (0, number, 1, None, false),
+        Some(Name::Run(number)) => (1, number, 0, None, false),
+        _ => (2, 0, 0, None, false),
     };
     place(one.0)
         .cmp(&place(other.0))
@@ -110,27 +129,31 @@ fn order(one: &(Option<Name>, String), other: &(Option<Name>, String)) -> Orderi
 
 fn kind_of(name: Option<Name>, text: &str) -> FileKind {
     match name {
-        Some(Name::Base(..)) => FileKind::Checkpoint,
+        Some(Name::Base(..) | Name::List(..)) => FileKind::Checkpoint,
+        Some(Name::Run(_)) => FileKind::Run,
         Some(Name::Log(_)) => FileKind::Log,
         Some(Name::Lost(..)) => FileKind::SetAside,
-        Some(Name::Partial(_) | Name::NewLog(_) | Name::NewLost(_)) => FileKind::Unfinished,
+        Some(Name::Partial(_) | Name::NewLog(_) | Name::NewLost(_) | Name::NewList(_)) => {
+            FileKind::Unfinished
+        }
         None if text == OPERATOR => FileKind::Operator,
         None if text == "LOCK" => FileKind::Lock,
         None => FileKind::Foreign,
     }
 }
 
-/// Whether an opening reads a file of a folder that has this newest checkpoint.
-fn is_read(name: Option<Name>, base: Option<Name>) -> bool {
-    match (name, base) {
-        (Some(Name::Log(number)), Some(Name::Base(least, _))) => number >= least,
-        (Some(Name::Log(_)), _) => true,
-        (Some(Name::Base(..)), base) => name == base,
+/// Whether an opening reads a file of a folder that has this newest checkpoint, which names some runs.
+fn is_read(name: Option<Name>, newest: Option<Name>, runs: Option<&[u64]>) -> bool {
+    let least = newest.and_then(Name::checkpoint);
+    match name {
+        Some(Name::Log(number)) => least.is_none_or(|(least, ..)| number >= least),
+        Some(Name::Base(..) | Name::List(..)) => name == newest,
+        Some(Name::Run(number)) => runs.is_none_or(|runs| runs.contains(&number)),
         _ => false,
     }
 }
 
-/// Visits each write of a log or a checkpoint of a folder, in order, up to the end of the file or to its first fault. The file is read a
+/// Visits each write of a log or a base of a folder, in order, up to the end of the file or to its first fault. The file is read a
 /// window at a time.
 ///
 /// ```
@@ -157,7 +180,7 @@ fn is_read(name: Option<Name>, base: Option<Name>) -> bool {
 ///
 /// # Errors
 ///
-/// The visitor's, [`Error::Missing`] if the name is none of a log or a checkpoint, [`Error::File`], [`Error::Store`]. A fault of the file
+/// The visitor's, [`Error::Missing`] if the name is none of a log or a base, [`Error::File`], [`Error::Store`]. A fault of the file
 /// is no error: [`WritesRead::ended`] has it.
 pub fn read_writes<E: From<Error>>(
     folder: &dyn Folder,
@@ -251,8 +274,12 @@ mod tests {
             ]
         );
         let base = Some(Name::Base(2, Some(7)));
-        let are_read = found.map(|(name, _)| is_read(name, base));
+        let are_read = found.map(|(name, _)| is_read(name, base, Some(&[])));
         assert_eq!(are_read, [false, false, true, true, false, false, false]);
-        assert!(is_read(Some(Name::Log(1)), None));
+        assert!(is_read(Some(Name::Log(1)), None, Some(&[])));
+        let list = Some(Name::List(2, 7));
+        let run = |number| is_read(Some(Name::Run(number)), list, Some(&[3, 5]));
+        assert_eq!([3, 4, 5].map(run), [true, false, true]);
+        assert!(is_read(list, list, None) && is_read(Some(Name::Run(4)), list, None));
     }
 }

@@ -158,6 +158,7 @@ impl Shared {
         }
         self.newest.leave_moment(&store);
         let old = mem::replace(&mut *store, copy);
+        self.stores.fetch_add(1, Ordering::AcqRel);
         self.newest.change(&store);
         self.gathered.store(0, Ordering::Relaxed);
         self.tell_runs(store.report().runs);

@@ -13,13 +13,13 @@ use std::io;
 use std::panic::{catch_unwind, AssertUnwindSafe};
 use std::sync::{Arc, Mutex};
 use std::time::Instant;
-use ucstore::{FolderAction, FolderMachine};
+use ucstore::{FolderAction, RunFolderMachine};
 
 /// A handle by which a log is synced while another one appends to it.
 pub(crate) type SyncHandle = Arc<Mutex<Box<dyn File>>>;
 
 /// The machine of a folder, which says what is done next. It outlives the log, for a checkpoint that is under way at a close.
-pub(crate) type Machine = Arc<Mutex<FolderMachine>>;
+pub(crate) type Machine = Arc<Mutex<RunFolderMachine>>;
 
 /// The log that a database writes, and the folder that it is in. Its machine says what is done next, and what may be acknowledged.
 pub(crate) struct Log {
@@ -117,7 +117,7 @@ impl Log {
 
     /// Its number.
     pub(crate) fn number(&self) -> u64 {
-        lock(&self.machine).log()
+        lock(&self.machine).folder().log()
     }
 
     /// Counts the bytes of the logs for those who ask without the lock.
@@ -170,12 +170,13 @@ impl Log {
     /// Whether all of its batches may be acknowledged as synced. What an opening has read is answered as it was.
     fn is_synced(&self) -> bool {
         let machine = lock(&self.machine);
-        matches!(self.writer, Writer::Pending(_)) || machine.synced() == machine.count()
+        matches!(self.writer, Writer::Pending(_))
+            || machine.folder().synced() == machine.folder().count()
     }
 
     /// Whether a sync is under way.
     fn is_syncing(&self) -> bool {
-        lock(&self.machine).next_sync() != FolderAction::Nothing
+        lock(&self.machine).folder().next_sync() != FolderAction::Nothing
     }
 
     /// The error that the machine does nothing any more.
@@ -185,7 +186,7 @@ impl Log {
 
     /// Asks the machine for a sync of all bytes.
     fn ask_sync(&mut self) {
-        lock(&self.machine).ask_sync();
+        lock(&self.machine).folder_mut().ask_sync();
         self.asked = self.length;
     }
 
@@ -201,7 +202,7 @@ impl Log {
 
     /// Tells the machine how a sync went.
     fn tell_sync(&mut self, begun: Instant, outcome: Result<(), Error>) -> Result<(), Error> {
-        lock(&self.machine).told_sync(outcome.is_ok());
+        lock(&self.machine).folder_mut().told_sync(outcome.is_ok());
         self.told += 1;
         outcome?;
         self.counts.add_sync(begun.elapsed());
@@ -292,11 +293,18 @@ impl Log {
         (self.based < sequence).then_some((number, past))
     }
 
-    /// Forgets the logs before one, which a base holds up to a sequence.
-    pub(crate) fn forget_before(&mut self, number: u64, based: u64) {
+    /// The log itself, with the [place](Log::place_behind) of a checkpoint.
+    pub(crate) fn place_and_log(&self, sequence: u64) -> Option<(&Log, (u64, u64))> {
+        self.place_behind(sequence).map(|place| (self, place))
+    }
+
+    /// Forgets the logs before one, which a checkpoint holds up to a sequence. Returns the size of the log of which it has a part in bytes.
+    pub(crate) fn forget_before(&mut self, number: u64, based: u64) -> u64 {
         self.older.retain(|log| log.number >= number);
         self.based = self.based.max(based);
         self.count_bytes();
+        let held = self.older.iter().filter(|log| log.before < based);
+        held.map(|log| log.length).sum()
     }
 
     /// Goes on in the next log after a sequence, whose name is on the device, once all bytes of this one are.
@@ -307,11 +315,11 @@ impl Log {
         let ended = Older {
             number: self.number(),
             before: self.before,
-            batches: lock(&self.machine).count(),
+            batches: lock(&self.machine).folder().count(),
             length: self.length,
         };
-        lock(&self.machine).ask_switch();
-        let action = lock(&self.machine).next_write();
+        lock(&self.machine).folder_mut().ask_switch();
+        let action = lock(&self.machine).folder().next_write();
         if action == FolderAction::Nothing {
             return Err(Refusal::Passes(self.failed()));
         }
@@ -322,7 +330,7 @@ impl Log {
             true => Ok(()),
             false => self.ask(|file| file.sync()),
         };
-        lock(&self.machine).told_write(outcome.is_ok());
+        lock(&self.machine).folder_mut().told_write(outcome.is_ok());
         outcome.map_err(Refusal::Lasts)?;
         if !is_synced {
             self.counts.add_sync(begun.elapsed());
@@ -352,13 +360,13 @@ impl Log {
         let length = self.length;
         let (mut refused, mut is_mended) = (None, false);
         let mut machine = lock(&self.machine);
-        let mut action = machine.append();
+        let mut action = machine.folder_mut().append();
         drop(machine);
         loop {
             match action {
                 FolderAction::Append(..) => {
                     let outcome = self.ask(|file| file.append(record));
-                    lock(&self.machine).told_write(outcome.is_ok());
+                    lock(&self.machine).folder_mut().told_write(outcome.is_ok());
                     match outcome {
                         Ok(()) => {
                             self.length += record.len() as u64;
@@ -370,7 +378,7 @@ impl Log {
                 FolderAction::CutLog(..) => {
                     let outcome = self.ask(|file| file.cut(length).and_then(|()| file.sync()));
                     is_mended = outcome.is_ok();
-                    lock(&self.machine).told_write(is_mended);
+                    lock(&self.machine).folder_mut().told_write(is_mended);
                 }
                 // It is cut off once the sync beside it is done.
                 _ if refused.is_some() && self.is_syncing() => {
@@ -378,7 +386,7 @@ impl Log {
                 }
                 _ => break,
             }
-            action = lock(&self.machine).next_write();
+            action = lock(&self.machine).folder().next_write();
         }
         self.count_bytes();
         match refused {

@@ -1,8 +1,8 @@
 //! The file `OPERATOR`, which names the operator that a folder was made with.
 
+use crate::disk_folder::is_database;
 use crate::error::Error;
 use crate::folder::Folder;
-use crate::name::Name;
 use crate::partial::Partial;
 use ucstore::Operator;
 
@@ -62,8 +62,7 @@ pub(crate) fn chosen(folder: &dyn Folder, asked: Option<Operator>) -> Result<Ope
         return Ok(made);
     }
     let names = folder.names().map_err(Error::of_file(""))?;
-    let has_data = |name: &String| matches!(Name::of(name), Some(Name::Log(_) | Name::Base(..)));
-    Ok(match names.iter().any(has_data) {
+    Ok(match names.iter().any(|name| is_database(name)) {
         // A version that named no operator made it, whose default this was.
         true => Operator::Append,
         false => Operator::Mixed,

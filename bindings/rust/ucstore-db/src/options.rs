@@ -43,10 +43,13 @@ pub struct Options {
     pub compact_when_idle: Option<Duration>,
     /// From how many runs on writes are slowed, by a millisecond each time.
     pub slow_trigger: u32,
-    /// By how many times the logs exceed the data when a checkpoint is made.
+    /// By how many times the logs exceed the data when a checkpoint is made. A checkpoint writes only the runs that no older one has, so the
+    /// default is 0: `checkpoint_least` alone decides. With more, logs are longer, and so are openings.
     pub checkpoint_ratio: u64,
     /// The least size of the logs in bytes at which a checkpoint is made. With [`u64::MAX`] none is made by itself.
     pub checkpoint_least: u64,
+    /// The most bytes of run files that a checkpoint writes in a second. With `None`, the default, it writes as fast as the device.
+    pub checkpoint_bytes_per_second: Option<u64>,
     /// Refuses to make a database: there has to be one in the folder. Nothing is made there then.
     pub must_exist: bool,
     /// Opens a database to read it, also while another process has it open: there has to be one, nothing is locked, nothing in its folder
@@ -121,8 +124,9 @@ impl Default for Options {
             compactors: 2,
             compact_when_idle: None,
             slow_trigger: 20,
-            checkpoint_ratio: 2,
+            checkpoint_ratio: 0,
             checkpoint_least: 64 << 20,
+            checkpoint_bytes_per_second: None,
             must_exist: false,
             read_only: false,
             recover_to_fault: false,

@@ -1,4 +1,4 @@
-//! [`Partial`]: a file that gets its name once it is whole and on the device.
+//! [`Partial`]: a file that gets its name, or keeps it, once it is whole and on the device.
 
 use crate::error::Error;
 use crate::folder::{File, Folder};
@@ -31,6 +31,11 @@ impl<'a> Partial<'a> {
     /// Waits until its bytes are on the device.
     pub(crate) fn sync(&mut self) -> Result<(), Error> {
         self.file.sync().map_err(Error::of_file(&self.name))
+    }
+
+    /// Keeps it under the name that it has.
+    pub(crate) fn keep(mut self) {
+        self.is_named = true;
     }
 
     /// Gives it its name, once it was synced.

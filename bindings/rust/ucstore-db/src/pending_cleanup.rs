@@ -1,6 +1,6 @@
 //! [`PendingCleanup`]: the work that an opening leaves on a directory, before it is written to.
 
-use crate::checkpoint::{remove, remove_for};
+use crate::checkpoint::{remove, remove_for, remove_runs};
 use crate::ending::{is_batch, Ending};
 use crate::error::Error;
 use crate::folder::Folder;
@@ -8,9 +8,10 @@ use crate::kept::{self, SetAside};
 use crate::name::Name;
 use crate::operator_file;
 use crate::partial::Partial;
-use crate::recovery::listed_base;
 use crate::windows::Windows;
-use ucstore::{FolderAction, FolderFiles, FolderMachine, Operator};
+use ucstore::{
+    FolderAction, FolderFiles, FolderMachine, Operator, RunFolderAction, RunFolderMachine,
+};
 
 /// The work that is done on a directory before it is written to: what the machine asks for of the files that were found.
 pub(crate) struct PendingCleanup {
@@ -29,15 +30,20 @@ pub(crate) struct PendingCleanup {
     pub(crate) gives_up: bool,
     /// The names of all files.
     pub(crate) names: Vec<Name>,
+    /// The numbers of the run files that the newest checkpoint names.
+    pub(crate) runs: Vec<u64>,
+    /// The number of the next run file.
+    pub(crate) next_run: u64,
 }
 
 impl PendingCleanup {
     /// The machine of the files that were found.
-    pub(crate) fn machine(&self) -> FolderMachine {
+    pub(crate) fn machine(&self) -> RunFolderMachine {
         // Nothing is in an empty log that could be lost.
         let is_sealed =
             self.ending == Ending::Closed || self.ending == Ending::Whole && self.length == 0;
-        FolderMachine::open(&self.found, self.batches, is_sealed)
+        let folder = FolderMachine::open(&self.found, self.batches, is_sealed);
+        RunFolderMachine::open(folder, self.next_run)
     }
 
     /// Does what the machine asks for until batches may be appended. Returns what was set aside. If it fails it may be done again, with a
@@ -45,7 +51,7 @@ impl PendingCleanup {
     pub(crate) fn finish(
         &self,
         folder: &dyn Folder,
-        machine: &mut FolderMachine,
+        machine: &mut RunFolderMachine,
     ) -> Result<Option<SetAside>, Error> {
         if let Some(operator) = self.operator {
             operator_file::write(folder, operator)?;
@@ -53,21 +59,27 @@ impl PendingCleanup {
         if self.gives_up {
             self.give_up(folder)?;
         }
-        let set_aside = self.write_all(folder, machine)?;
+        let set_aside = self.write_all(folder, machine.folder_mut())?;
         let mut names = Some(self.names.clone());
-        while let Some(outcome) = remove_for(folder, &mut names, machine.next_checkpoint()) {
+        while let RunFolderAction::OfFolder(action) = machine.next_checkpoint() {
+            let Some(outcome) = remove_for(folder, &mut names, action) else {
+                break;
+            };
             machine.told_checkpoint(outcome.is_ok());
             outcome?;
         }
-        // Files with temporary names, and bases of the newest one's number that have less.
-        let (number, most) = (self.found.base, self.found.past);
+        // Files with temporary names, and checkpoints of the newest one's number that have less.
+        let newest = Name::newest(self.names.iter().copied()).and_then(Name::checkpoint);
+        let number = self.found.base;
         remove(folder, &mut names, |name| match name {
-            Name::Log(_) | Name::Lost(..) => false,
-            Name::Base(..) => {
-                listed_base(&name).is_some_and(|base| base.number == number && base.past < most)
+            Name::Log(_) | Name::Lost(..) | Name::Run(_) => false,
+            Name::Base(..) | Name::List(..) => {
+                let place = name.checkpoint();
+                place.is_some_and(|(it, ..)| it == number) && place < newest
             }
             _ => true,
         })?;
+        remove_runs(folder, machine, &self.runs, &mut names)?;
         Ok(set_aside)
     }
 

@@ -14,11 +14,16 @@ use crate::pending_cleanup::PendingCleanup;
 use crate::reading::Reading;
 use crate::recovery_target::RecoveryTarget;
 use crate::replay::{Begin, Replay};
+use crate::run_files::{self, RunFiles};
+use crate::run_list::{ListedRun, RunList};
+use crate::run_loading::add_runs;
 use crate::settle::settle;
 use crate::windows::Windows;
 use std::mem;
 use std::sync::Arc;
-use ucstore::{FolderFiles, ListedBase, ListedLog, MissingLog, Operator, Store, View};
+use ucstore::{
+    next_run, FolderFiles, ListedBase, ListedLog, MissingLog, Operator, RunFolderFault, Store, View,
+};
 
 /// The files of a folder.
 struct Files {
@@ -62,6 +67,12 @@ pub(crate) struct Recovery {
     based: u64,
     /// Where the next log begins.
     begin: Begin,
+    /// The list that the newest checkpoint is.
+    list: Option<RunList>,
+    /// The number of the next run file.
+    next_run: u64,
+    /// The run files that were read, with the IDs of their runs.
+    run_files: Vec<(u64, ListedRun)>,
 }
 
 /// The result of an opening.
@@ -70,6 +81,7 @@ pub(crate) struct Opened {
     /// The snapshots at the marks.
     pub(crate) marks: Vec<View>,
     pub(crate) set_aside: Option<SetAside>,
+    pub(crate) run_files: RunFiles,
 }
 
 impl Files {
@@ -92,8 +104,10 @@ impl Files {
             number: found.base,
             past: found.past,
         };
-        let is_newest = |name: &Name| listed_base(name) == Some(newest);
-        let base = names.iter().copied().find(is_newest);
+        let are_newest = names
+            .iter()
+            .filter(|name| listed_base(name) == Some(newest));
+        let base = Name::newest(are_newest.copied());
         if base.is_some() && !found.is_there {
             // A log is made before the base of its number.
             return Err(missing(found.log));
@@ -116,10 +130,21 @@ impl Files {
             .collect()
     }
 
-    /// The names of those that may be read.
-    fn names(&self) -> impl Iterator<Item = Name> + '_ {
+    /// The names of those that may be read, if the newest checkpoint names some runs.
+    fn names<'a>(&'a self, list: Option<&'a RunList>) -> impl Iterator<Item = Name> + 'a {
+        let runs = list.into_iter().flat_map(|list| &list.runs);
+        let runs = runs.map(|run| Name::Run(run.number));
         let logs = self.logs().into_iter().map(Name::Log);
-        self.base.into_iter().chain(logs)
+        self.base.into_iter().chain(runs).chain(logs)
+    }
+
+    /// The numbers of all run files.
+    fn runs(&self) -> Vec<u64> {
+        let runs = self.names.iter().filter_map(|name| match *name {
+            Name::Run(number) => Some(number),
+            _ => None,
+        });
+        runs.collect()
     }
 
     /// Notes that a log is used.
@@ -130,15 +155,13 @@ impl Files {
     }
 }
 
-/// A base as it is listed. One of an older version, whose name has no sequence, comes before the others of its number.
-pub(crate) fn listed_base(name: &Name) -> Option<ListedBase> {
-    match *name {
-        Name::Base(number, sequence) => Some(ListedBase {
-            number,
-            past: sequence.map_or(0, |sequence| sequence.saturating_add(1)),
-        }),
-        _ => None,
-    }
+/// A checkpoint as it is listed. One of an older version, whose name has no sequence, comes before the others of its number.
+fn listed_base(name: &Name) -> Option<ListedBase> {
+    let (number, sequence, _) = name.checkpoint()?;
+    Some(ListedBase {
+        number,
+        past: sequence.map_or(0, |sequence| sequence.saturating_add(1)),
+    })
 }
 
 /// The files that are read of those that are listed.
@@ -169,10 +192,12 @@ impl Recovery {
             older: vec![],
             based: 0,
             begin: Begin::Behind,
+            list: None,
+            next_run: 1,
+            run_files: vec![],
         };
-        let mut reading = Reading::of(folder, recovery.files.names(), &options.progress)?;
         recovery.judge(recovery.check_operator(folder), options)?;
-        let outcome = recovery.replay_all(folder, &mut reading);
+        let outcome = recovery.read_all(folder, options);
         recovery.judge(outcome, options)?;
         Ok(recovery)
     }
@@ -210,13 +235,40 @@ impl Recovery {
         operator_file::check(folder, self.operator)
     }
 
-    /// Writes what the files have to the store, up to the first fault, or to where the options say. The base and all logs but the
+    /// Reads the list if the newest checkpoint is one, and then all files.
+    fn read_all(&mut self, folder: &dyn Folder, options: &Options) -> Result<(), Error> {
+        if let Some(name @ Name::List(..)) = self.files.base {
+            let list = RunList::read(folder, name)?;
+            if list.operator != self.operator {
+                return Err(Error::OtherOperator {
+                    made: list.operator,
+                    asked: self.operator,
+                });
+            }
+            self.list = Some(list);
+        }
+        let named = self.list.as_ref().map(RunList::numbers);
+        let next = next_run(&named.unwrap_or_default(), &self.files.runs());
+        self.next_run = next.map_err(|fault| match fault {
+            RunFolderFault::Missing(number) => run_files::missing(number),
+            RunFolderFault::Spent => ucstore::Error::IdsSpent.into(),
+        })?;
+        let names = self.files.names(self.list.as_ref());
+        let mut reading = Reading::of(folder, names, &options.progress)?;
+        self.replay_all(folder, &mut reading)
+    }
+
+    /// Writes what the files have to the store, up to the first fault, or to where the options say. The checkpoint and all logs but the
     /// last one that has bytes have to be whole.
     fn replay_all(&mut self, folder: &dyn Folder, reading: &mut Reading) -> Result<(), Error> {
         let mut name = Name::Log(self.number);
         if let Some(base @ Name::Base(_, sequence)) = self.files.base {
             name = base;
             self.replay_base(name, &mut Windows::of(folder, name)?, sequence, reading)?;
+        } else if let (Some(base), Some(list)) = (self.files.base, self.list.take()) {
+            name = base;
+            self.add_runs(folder, name, &list, reading)?;
+            self.list = Some(list);
         }
         self.target.begin(Name::Log(self.number));
         for (number, wanted) in self.files.logs().into_iter().zip(self.number..) {
@@ -283,15 +335,41 @@ impl Recovery {
                 fault: format!("it ends at sequence {}, and not at {sequence}", self.based),
             });
         }
-        self.target.begin(name);
-        // Where the log goes on is found there, also if nothing of it is read.
-        self.target.reach(&self.store, self.length)?;
-        self.before = self.based;
-        (self.batches, self.length) = (0, 0);
-        self.begin = match sequence {
+        let begin = match sequence {
             Some(_) => Begin::InBase,
             None => Begin::Anywhere,
         };
+        self.begin_logs(name, self.length, begin)
+    }
+
+    /// Adds the runs of a list to the store, which ends where its name says then.
+    fn add_runs(
+        &mut self,
+        folder: &dyn Folder,
+        name: Name,
+        list: &RunList,
+        reading: &mut Reading,
+    ) -> Result<(), Error> {
+        let length = list.bytes().len() as u64;
+        reading.end(name, length);
+        let tell = |run: &ListedRun| reading.end(Name::Run(run.number), run.size);
+        self.run_files = add_runs(folder, list, &self.store, tell)?;
+        self.based = self.store.last();
+        if self.based != list.last() {
+            let fault = format!("its runs end at sequence {}", self.based);
+            return Err(damaged(name, 0, fault));
+        }
+        self.begin_logs(name, length, Begin::InBase)
+    }
+
+    /// Goes on to the logs after a checkpoint of a length.
+    fn begin_logs(&mut self, name: Name, length: u64, begin: Begin) -> Result<(), Error> {
+        self.target.begin(name);
+        // Where the log goes on is found there, also if nothing of it is read.
+        self.target.reach(&self.store, length)?;
+        self.before = self.based;
+        (self.batches, self.length) = (0, 0);
+        self.begin = begin;
         Ok(())
     }
 
@@ -366,6 +444,8 @@ impl Recovery {
             torn: self.torn,
             gives_up: self.is_enough,
             names: self.files.names,
+            runs: self.list.as_ref().map_or(vec![], RunList::numbers),
+            next_run: self.next_run,
         };
         let last = Older {
             number: self.number,
@@ -383,6 +463,7 @@ impl Recovery {
             store: self.store,
             marks: self.target.marks,
             set_aside,
+            run_files: RunFiles::opened(self.run_files),
         };
         Ok((opened, log))
     }

@@ -191,7 +191,9 @@ impl Shared {
             return self.begin_log(place, number, &mut windows);
         }
         let last = lock(&self.store).last();
-        let is_next = names.contains(&Name::Base(number, Some(last)));
+        let is_next = [Name::Base(number, Some(last)), Name::List(number, last)]
+            .iter()
+            .any(|name| names.contains(name));
         if is_next {
             *place = Place::of(number, 0);
         }
@@ -287,6 +289,7 @@ impl Shared {
         }
         self.newest.leave_moment(&store);
         let old = mem::replace(&mut *store, newer);
+        self.stores.fetch_add(1, Ordering::AcqRel);
         let report = store.report();
         // The writes that were recovered aren't measured.
         let gathered = u64::from(report.gathered > 0) * self.options.most_gathered();

@@ -17,6 +17,7 @@ use crate::newest::Newest;
 use crate::operator_file;
 use crate::options::{Options, Sync};
 use crate::recovery::Recovery;
+use crate::run_files::RunFiles;
 use crate::spin_wait::SpinWait;
 use std::sync::atomic::{AtomicBool, AtomicU64, Ordering};
 use std::sync::{Arc, Condvar, Mutex, OnceLock};
@@ -33,7 +34,7 @@ const LONG_GROUP: usize = 64 << 10;
 pub(crate) struct Shared {
     pub(crate) options: Options,
     /// Held by a checkpoint.
-    pub(crate) checkpointing: Mutex<()>,
+    pub(crate) checkpointing: Mutex<RunFiles>,
     /// Held while the next log is made.
     pub(crate) switching: Mutex<()>,
     /// The place in the logs of the owner, if the database was opened to be read beside it.
@@ -42,6 +43,8 @@ pub(crate) struct Shared {
     pub(crate) log: CachePadded<Mutex<Option<Log>>>,
     pub(crate) newest: Newest,
     pub(crate) store: CachePadded<Mutex<Store>>,
+    /// The number of times that the store was replaced by another one, whose runs have other IDs. Changed while `store` is locked.
+    pub(crate) stores: AtomicU64,
     /// Notified when there may be a job, or one has ended.
     pub(crate) work: Condvar,
     /// Whether a group is written now, as far as who waits for the log has to know.
@@ -108,6 +111,7 @@ impl Shared {
         let (opened, log) = recovery.into_log(folder, options.recover_to.is_some(), &counts)?;
         let shared = Shared {
             marks: Mutex::new(opened.marks),
+            checkpointing: Mutex::new(opened.run_files),
             ..Shared::of(opened.store, Some(log), None, options, counts)?
         };
         if let Some(SetAside { file, bytes }) = opened.set_aside {
@@ -139,6 +143,7 @@ impl Shared {
             gathered: AtomicU64::new(gathered),
             runs: AtomicU64::new(report.runs),
             store: CachePadded(Mutex::new(store)),
+            stores: AtomicU64::new(0),
             work: Condvar::new(),
             is_writing: CachePadded::default(),
             groups: CachePadded::default(),

@@ -30,8 +30,12 @@ pub struct Stats {
     pub user_bytes: u64,
     /// The bytes that were appended to logs for them.
     pub logged_bytes: u64,
-    /// The bytes of the bases that were written.
+    /// The bytes that checkpoints wrote: run files, lists of these, and bases.
     pub base_bytes: u64,
+    /// The number of run files that checkpoints wrote.
+    pub run_files: u64,
+    /// The bytes of the run files that checkpoints kept, each counted by every checkpoint that names it and didn't write it.
+    pub kept_bytes: u64,
     /// The bytes that the opening cut off the end of a log, where a crash had left them, and [set aside](crate::Event::SetAside).
     pub set_aside_bytes: u64,
     /// The number of keys looked up, in it and in its snapshots.
@@ -91,6 +95,8 @@ impl Stats {
             user_bytes: counts.user_bytes.get(),
             logged_bytes: counts.logged_bytes.get(),
             base_bytes: counts.base_bytes.get(),
+            run_files: counts.run_files.get(),
+            kept_bytes: counts.kept_bytes.get(),
             set_aside_bytes: counts.set_aside_bytes.get(),
             lookups: counts.lookups.count(),
             lookups_by_memtable: counts.lookups.estimate(LookupSource::Memtable),
@@ -172,7 +178,7 @@ impl fmt::Display for Millis {
 
 impl fmt::Display for Stats {
     fn fmt(&self, formatter: &mut fmt::Formatter<'_>) -> fmt::Result {
-        let rows: [(&str, &dyn fmt::Display); 30] = [
+        let rows: [(&str, &dyn fmt::Display); 32] = [
             ("last sequence", &self.last),
             ("runs", &self.runs),
             ("bytes of runs", &Bytes(self.bytes)),
@@ -183,7 +189,9 @@ impl fmt::Display for Stats {
             ("batches a group", &format!("{:.2}", self.batches_a_group())),
             ("bytes of batches", &Bytes(self.user_bytes)),
             ("bytes written to logs", &Bytes(self.logged_bytes)),
-            ("bytes written to bases", &Bytes(self.base_bytes)),
+            ("bytes of checkpoints", &Bytes(self.base_bytes)),
+            ("run files written", &self.run_files),
+            ("bytes of runs kept", &Bytes(self.kept_bytes)),
             ("bytes set aside", &Bytes(self.set_aside_bytes)),
             (
                 "write amplification",
