@@ -148,9 +148,13 @@ impl Shared {
                 last,
                 place,
             };
-            if let Some(begun) = ask(log, run_files, wanted) {
-                return Ok(Some(begun));
+            let begun = ask(log, run_files, wanted);
+            if begun.is_none() {
+                // No list has the number of another one. The next flush has writes of the next log.
+                let due = log.bytes().saturating_add(self.options.most_gathered());
+                self.checkpoint_due.store(due, Ordering::Relaxed);
             }
+            return Ok(begun);
         }
         drop(log);
         self.begin_checkpoint(run_files)
