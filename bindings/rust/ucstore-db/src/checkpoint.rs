@@ -135,8 +135,8 @@ impl Shared {
         Ok(ask(log, run_files, wanted))
     }
 
-    /// Takes a view, and goes on in a new log if its runs have writes of this one. If the newest checkpoint has all of the runs, what
-    /// isn't flushed is as long as the options let logs be: then it is flushed before.
+    /// Takes a view, and goes on in a new log if its runs have writes of this one. If the newest checkpoint has all of the runs, the
+    /// memtables have as much as the options let logs have: then they are flushed before.
     fn begin_checkpoint_of_runs(&self, run_files: &RunFiles) -> Result<Option<Begun>, Error> {
         let (view, store) = self.view_of_store()?;
         let last = last_of_runs(&view);
@@ -148,13 +148,16 @@ impl Shared {
                 last,
                 place,
             };
-            let begun = ask(log, run_files, wanted);
-            if begun.is_none() {
-                // No list has the number of another one. The next flush has writes of the next log.
-                let due = log.bytes().saturating_add(self.options.most_gathered());
-                self.checkpoint_due.store(due, Ordering::Relaxed);
+            if let Some(begun) = ask(log, run_files, wanted) {
+                return Ok(Some(begun));
             }
-            return Ok(begun);
+            // No list has the number of another one. The next flush has writes of the next log, and comes soon if memtables are small.
+            let most = self.options.most_gathered();
+            if most <= self.options.checkpoint_least {
+                let due = log.bytes().saturating_add(most);
+                self.checkpoint_due.store(due, Ordering::Relaxed);
+                return Ok(None);
+            }
         }
         drop(log);
         self.begin_checkpoint(run_files)
@@ -357,17 +360,14 @@ pub(crate) fn remove_for(
     }
 }
 
-/// Removes the run files that the machine lets go, of which the newest checkpoint names others.
+/// Removes the run files that a machine says may go. It isn't locked while a file is removed: the writer asks it too.
 pub(crate) fn remove_runs(
     folder: &dyn Folder,
-    machine: &RunFolderMachine,
-    named: &[u64],
+    next_removal: impl Fn(u64) -> RunFolderAction,
     listed: &mut Option<Vec<Name>>,
 ) -> Result<(), Error> {
     remove(folder, listed, |name| match name {
-        Name::Run(number) => {
-            machine.next_removal(number, named) == RunFolderAction::RemoveRun(number)
-        }
+        Name::Run(number) => next_removal(number) == RunFolderAction::RemoveRun(number),
         _ => false,
     })
 }

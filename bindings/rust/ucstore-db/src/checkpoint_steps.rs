@@ -56,8 +56,7 @@ impl Shared {
         let outcome = self.write_steps(run_files, &begun, begun_at);
         if outcome.is_err() {
             // Runs that no list names take space. What can't be removed is left to the next checkpoint.
-            let machine = lock(&begun.machine);
-            let _ = remove_runs(&*begun.folder, &machine, &run_files.named, &mut None);
+            let _ = begun.remove_runs(run_files, &mut None);
         }
         outcome
     }
@@ -91,8 +90,7 @@ impl Shared {
             return self.check();
         }
         steps.clean_up()?;
-        let machine = lock(&begun.machine);
-        remove_runs(steps.folder, &machine, &run_files.named, &mut steps.removal)
+        begun.remove_runs(run_files, &mut steps.removal)
     }
 
     /// Counts a checkpoint, from which on the logs before it aren't needed, and reports it.
@@ -113,6 +111,18 @@ impl Shared {
             bytes: steps.bytes,
             took: begun_at.elapsed(),
         });
+    }
+}
+
+impl Begun {
+    /// Removes the run files that the newest checkpoint doesn't name.
+    fn remove_runs(
+        &self,
+        run_files: &RunFiles,
+        listed: &mut Option<Vec<Name>>,
+    ) -> Result<(), Error> {
+        let next_removal = |run| lock(&self.machine).next_removal(run, &run_files.named);
+        remove_runs(&*self.folder, next_removal, listed)
     }
 }
 
@@ -198,7 +208,6 @@ impl<C: Fn() -> Result<(), Error>> Steps<'_, C> {
 
     /// Writes the list or the base under a temporary name.
     fn write_file(&mut self) -> Result<(), Error> {
-        (self.check)()?;
         let Some(runs) = &self.runs else {
             let base = Base::write(self.folder, self.number, self.view, &self.check)?;
             self.bytes = base.length();
@@ -219,6 +228,7 @@ impl<C: Fn() -> Result<(), Error>> Steps<'_, C> {
 
     /// Syncs that file, and reads it again.
     fn sync_file(&mut self) -> Result<(), Error> {
+        (self.check)()?;
         if let Some(base) = &mut self.base {
             base.sync(&self.check)?;
         }

@@ -79,7 +79,8 @@ impl PendingCleanup {
             }
             _ => true,
         })?;
-        remove_runs(folder, machine, &self.runs, &mut names)?;
+        let next_removal = |run| machine.next_removal(run, &self.runs);
+        remove_runs(folder, next_removal, &mut names)?;
         Ok(set_aside)
     }
 

@@ -227,7 +227,7 @@ fn files_that_stay_are_linked_and_never_changed() {
     let map = map_of(&db);
     assert_eq!(db.backup(&one).unwrap(), 101);
     let linked = shared(&own, &one);
-    assert_eq!(linked, ["000002-100.base", "000002.log"]);
+    assert_eq!(linked, ["000001.run", "000002-100.runs", "000002.log"]);
     let kept = files(&one);
     db.merge("key 2", "more").unwrap();
     assert_eq!(db.backup(&other).unwrap(), 102);

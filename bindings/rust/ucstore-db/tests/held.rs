@@ -63,8 +63,8 @@ impl Folder for Held {
     }
 }
 
-/// Closes a database while a file of a base wants its name: the close waits for it, and the directory may be opened then. Tells whether
-/// there is a base then, and the outcome of the checkpoint.
+/// Closes a database while a file of a checkpoint wants its name: the close waits for it, and the directory may be opened then. Tells
+/// whether there is a checkpoint then, and its outcome.
 fn close_while_held(name: &'static str) -> (bool, Result<(), Error>) {
     let temporary = Temporary::new(name);
     let gate = Arc::new((Barrier::new(2), Barrier::new(2)));
@@ -76,9 +76,10 @@ fn close_while_held(name: &'static str) -> (bool, Result<(), Error>) {
     let db = Db::open_on(Arc::new(folder), &Options::default()).unwrap();
     db.put("a", "1").unwrap();
     let again = db.clone();
-    let base = thread::spawn(move || {
-        let now = again.snapshot().unwrap();
-        again.checkpoint_to(&now)
+    let is_list = name.contains("runs");
+    let base = thread::spawn(move || match is_list {
+        true => again.checkpoint(),
+        false => again.checkpoint_to(&again.snapshot().unwrap()),
     });
     gate.0.wait();
     db.put("b", "2").unwrap();
@@ -91,18 +92,23 @@ fn close_while_held(name: &'static str) -> (bool, Result<(), Error>) {
     closing.join().unwrap().unwrap();
     assert_eq!(map_of(&open().unwrap()).len(), 2);
     let outcome = base.join().unwrap();
-    let base = temporary.path().join("000002-1.base");
-    assert!(!temporary.path().join("000002.base.new").exists());
-    (base.exists(), outcome)
+    let kind = if is_list { "runs" } else { "base" };
+    let made = temporary.path().join(format!("000002-1.{kind}"));
+    let new = temporary.path().join(format!("000002.{kind}.new"));
+    assert!(!new.exists());
+    (made.exists(), outcome)
 }
 
 #[test]
 fn a_close_waits_for_the_name_of_a_base() {
     assert!(matches!(close_while_held(".base"), (true, Ok(()))));
+    assert!(matches!(close_while_held(".runs"), (true, Ok(()))));
 }
 
 #[test]
 fn a_base_ends_if_its_database_is_closed() {
-    let ended = close_while_held(".base.new");
-    assert!(matches!(ended, (false, Err(Error::Closed))), "{ended:?}");
+    for name in [".base.new", ".runs.new"] {
+        let ended = close_while_held(name);
+        assert!(matches!(ended, (false, Err(Error::Closed))), "{ended:?}");
+    }
 }

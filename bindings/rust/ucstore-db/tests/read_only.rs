@@ -170,6 +170,8 @@ fn files_are_listed_in_the_order_of_their_writes() {
         "notes.txt",
         "000003.log.lost",
         "000004.base.new",
+        "000004.runs.new",
+        "000007.run",
     ] {
         fs::write(folder.path().join(name), "text").unwrap();
     }
@@ -181,11 +183,14 @@ fn files_are_listed_in_the_order_of_their_writes() {
         .collect();
     let wanted = [
         ("000001.log", FileKind::Log, false),
-        ("000002-1.base", FileKind::Checkpoint, true),
+        ("000002-1.runs", FileKind::Checkpoint, true),
         ("000002.log", FileKind::Log, true),
         ("000003.log", FileKind::Log, true),
+        ("000001.run", FileKind::Run, true),
+        ("000007.run", FileKind::Run, false),
         ("000003.log.lost", FileKind::SetAside, false),
         ("000004.base.new", FileKind::Unfinished, false),
+        ("000004.runs.new", FileKind::Unfinished, false),
         ("LOCK", FileKind::Lock, false),
         ("OPERATOR", FileKind::Operator, true),
         ("notes.txt", FileKind::Foreign, false),

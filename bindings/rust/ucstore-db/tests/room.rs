@@ -133,7 +133,7 @@ fn a_checkpoint_without_room_gives_back_what_it_took() {
             .device
             .files()
             .keys()
-            .any(|name| name.contains(".base")));
+            .any(|name| name.contains(".run")));
         db.put("small", "write").unwrap();
     }
     drop(db);
@@ -326,27 +326,35 @@ fn a_log_goes_on_if_the_name_of_the_next_one_is_not_synced() {
     }
 }
 
-/// A base that isn't read as it was written takes nothing away.
+/// A base, a run file or a list that isn't read as it was written takes nothing away.
 #[test]
-fn a_base_that_is_read_otherwise_is_refused() {
-    let device = Device::default();
-    let db = Db::open_on(Arc::new(Over(Misread(device.clone()))), &by_hand()).unwrap();
-    for row in 0..100u32 {
-        db.put(row.to_be_bytes(), [7; 30]).unwrap();
+fn a_checkpoint_that_is_read_otherwise_is_refused() {
+    for kind in [".base.new", ".run", ".runs.new"] {
+        let device = Device::default();
+        let misread = Misread(device.clone(), kind);
+        let db = Db::open_on(Arc::new(Over(misread)), &by_hand()).unwrap();
+        for row in 0..100u32 {
+            db.put(row.to_be_bytes(), [7; 30]).unwrap();
+        }
+        let before = device.files();
+        let refused = match kind {
+            ".base.new" => db.checkpoint_to(&db.snapshot().unwrap()),
+            _ => db.checkpoint(),
+        };
+        let refused = refused.unwrap_err();
+        assert!(matches!(refused, Error::Damaged { .. }), "{refused}");
+        let after = device.files();
+        assert_eq!(after["000001.log"], before["000001.log"]);
+        let is_checkpoint = |name: &String| name.contains(".base") || name.contains(".run");
+        assert!(!after.keys().any(is_checkpoint), "{:?}", after.keys());
+        db.put("more", "value").unwrap();
+        drop(db);
+        assert_eq!(map_of(&open(&device).unwrap()).len(), 101);
     }
-    let before = device.files();
-    let refused = db.checkpoint().unwrap_err();
-    assert!(matches!(refused, Error::Damaged { .. }), "{refused}");
-    let after = device.files();
-    assert_eq!(after["000001.log"], before["000001.log"]);
-    assert!(!after.keys().any(|name| name.contains(".base")));
-    db.put("more", "value").unwrap();
-    drop(db);
-    assert_eq!(map_of(&open(&device).unwrap()).len(), 101);
 }
 
-/// A device on which a bit of each base goes bad.
-struct Misread(Device);
+/// A device on which a bit of each file of a kind goes bad.
+struct Misread(Device, &'static str);
 
 impl Around for Misread {
     fn device(&self) -> &Device {
@@ -355,8 +363,8 @@ impl Around for Misread {
 
     fn read_at(&self, name: &str, offset: u64, length: usize) -> io::Result<Vec<u8>> {
         let mut bytes = self.0.read_at(name, offset, length)?;
-        if name.contains(".base") {
-            bytes[100] ^= 1;
+        if name.ends_with(self.1) {
+            bytes[60] ^= 1;
         }
         Ok(bytes)
     }

@@ -22,7 +22,8 @@ const LONGEST: u64 = 400;
 
 /// Bounds of files, their bytes, and the process. What is held has 1 MiB at most, and logs that are longer than
 /// 64 MiB ask for a checkpoint by themselves.
-const MOST_FILES: usize = 8;
+/// Of the files there is one for each run, of which there are `stop_trigger` at most, also while others replace them.
+const MOST_FILES: usize = 8 + 2 * 36;
 const MOST_BYTES: u64 = 128 << 20;
 const MOST_MEMORY: u64 = 128 << 20;
 

@@ -77,7 +77,7 @@ fn flushes_compactions_and_checkpoints_are_told() {
     let Event::Checkpointed { file, bytes, .. } = made else {
         unreachable!();
     };
-    assert_eq!((&*file, bytes), ("000002-4.base", db.stats().base_bytes));
+    assert_eq!((&*file, bytes), ("000002-4.runs", db.stats().base_bytes));
     // Nothing is gathered: no run is made.
     told.take();
     db.flush().unwrap();
@@ -220,7 +220,10 @@ fn the_progress_of_an_opening_is_told() {
     assert_eq!(told.last().unwrap().read, whole);
     let mut names: Vec<_> = told.iter().map(|it| &*it.file).collect();
     names.dedup();
-    assert_eq!(names, ["000002-40.base", "000002.log"]);
+    let (first, last) = (names[0], names[names.len() - 1]);
+    assert_eq!((first, last), ("000002-40.runs", "000002.log"));
+    let runs = &names[1..names.len() - 1];
+    assert!(!runs.is_empty() && runs.iter().all(|name| name.ends_with(".run")));
 }
 
 #[test]
@@ -316,8 +319,10 @@ fn numbers_of_work_are_counted() {
     assert!(stats.syncs == 10 && stats.sync_p50 <= stats.sync_p99);
     db.checkpoint().unwrap();
     let stats = db.stats();
-    let base = device.files()["000002-10.base"].len() as u64;
+    let files = device.files();
+    let base = (files["000002-10.runs"].len() + files["000001.run"].len()) as u64;
     assert_eq!((stats.base_bytes, stats.log_bytes), (base, 0));
+    assert_eq!((stats.run_files, stats.kept_bytes), (1, 0));
     let wanted = (logged + base) as f64 / stats.user_bytes as f64;
     assert_eq!(stats.write_amplification(), wanted);
 }

@@ -12,7 +12,7 @@ use ucstore_db::{ucstore, Db, Error, Event, File, Folder, Listener, Options, Syn
 /// The duration of a sync of a slow device.
 const SLOW: Duration = Duration::from_secs(2);
 
-/// A device whose files take long to sync, or whose bases take long to be appended to.
+/// A device whose files take long to sync, or whose run files take long to be appended to.
 struct Slow {
     device: Device,
     sync: Duration,
@@ -27,7 +27,7 @@ struct SlowFile {
 
 impl Slow {
     fn file(&self, name: &str, file: Box<dyn File>) -> Box<dyn File> {
-        let append = match name.contains(".base") {
+        let append = match name.ends_with(".run") {
             true => self.append,
             false => Duration::ZERO,
         };

@@ -141,8 +141,8 @@ fn a_batch_may_end_in_the_last_bytes_of_a_window() {
         drop(db);
 
         // A base that has all of the log is passed over to the last batch.
-        let db = open(&device).unwrap();
-        db.checkpoint().unwrap();
+        let db = Db::open_on(Arc::new(device.clone()), &options()).unwrap();
+        db.checkpoint_to(&db.snapshot().unwrap()).unwrap();
         drop(db);
         let files = device.files();
         let base = files.keys().find(|name| name.ends_with(".base")).unwrap();
