@@ -1,7 +1,8 @@
 //! Checkpoints, which let logs go: when one is made, and of what.
 //!
 //! A checkpoint is a list of run files, or a base, which has the rows of a view. It is a list if the runs of the view end at its last
-//! sequence number: flushes take whole memtables and compactions whole runs, so that is the end of a batch.
+//! sequence number: flushes take whole memtables and compactions whole runs, so that is the end of a batch. Where a view has a write in
+//! its memtables for each sequence number after its newest run's, the runs have all others: `newest_run_ends_below_memtables` of `uc_live`.
 
 use crate::error::Error;
 use crate::folder::{File, Folder};
@@ -140,6 +141,10 @@ impl Shared {
     fn begin_checkpoint_of_runs(&self, run_files: &RunFiles) -> Result<Option<Begun>, Error> {
         let (view, store) = self.view_of_store()?;
         let last = last_of_runs(&view);
+        if last + view.report().gathered != view.last() {
+            // A gap in the sequence numbers hides where the runs end.
+            return self.begin_checkpoint(run_files);
+        }
         let log = self.switch_behind(last)?;
         if let Some((log, place)) = log.as_ref().and_then(|log| log.place_and_log(last)) {
             let wanted = Wanted {

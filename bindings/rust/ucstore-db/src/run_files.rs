@@ -10,13 +10,16 @@ use crate::run_list::ListedRun;
 use crate::throttle::Throttle;
 use std::collections::BTreeMap;
 use std::io::{self, Read};
-use ucstore::{Operator, Run, RunError, Store, View};
+use ucstore::{LoadedRun, Run, RunError, RunFile, View};
 
 /// The size of a window in bytes, in which files are written and read.
 const WINDOW: usize = 256 << 10;
 
 /// The number of bytes after which a run file is synced while it is written. A log's sync waits for no more of it.
 const SYNCED_BYTES: u64 = 8 << 20;
+
+/// The number of the last bytes of a file by which its list knows it: the file's footer, which has a checksum of those of all pieces.
+const LAST_BYTES: usize = 64;
 
 /// The run files of the newest checkpoint. Protected by `checkpointing`.
 #[derive(Debug, Default)]
@@ -88,6 +91,8 @@ pub(crate) struct RunWriter<'a> {
     folder: &'a dyn Folder,
     file: Partial<'a>,
     written: ListedRun,
+    /// CRC-32C of all bytes.
+    crc: u32,
 }
 
 impl<'a> RunWriter<'a> {
@@ -103,12 +108,13 @@ impl<'a> RunWriter<'a> {
         let size = bytes.size();
         let mut file = Partial::create(folder, Name::Run(number).text())?;
         let mut window = vec![0; WINDOW.min(usize::try_from(size).unwrap_or(WINDOW))];
-        let (mut crc, mut written) = (Crc::new(), 0);
+        let (mut crc, mut written, mut last) = (Crc::new(), 0, LastBytes::default());
         while written < size {
             throttle.wait(check)?;
             let count = bytes.read(&mut window).expect("a read of memory");
             let piece = &window[..count];
             crc.add(piece);
+            last.add(piece);
             file.append(piece)?;
             let before = written;
             written += count as u64;
@@ -126,8 +132,9 @@ impl<'a> RunWriter<'a> {
                 size,
                 low: *sequences.start(),
                 high: *sequences.end(),
-                checksum: crc.value(),
+                checksum: last.checksum(),
             },
+            crc: crc.value(),
         })
     }
 
@@ -144,7 +151,7 @@ impl<'a> RunWriter<'a> {
             check()
         })?;
         check_length(self.folder, &self.written)?;
-        if crc.value() != self.written.checksum {
+        if crc.value() != self.crc {
             let fault = "what is read isn't what was written".into();
             return Err(damaged(Name::Run(self.written.number), 0, fault));
         }
@@ -177,39 +184,50 @@ pub(crate) fn missing(number: u64) -> Error {
     }
 }
 
-/// Reads the bytes of a run file, and compares them with what its list says. The operator is the folder's.
-pub(crate) fn read_run(
-    folder: &dyn Folder,
-    run: &ListedRun,
-    operator: Operator,
-) -> Result<Vec<u8>, Error> {
+/// Reads the run of a file, and compares it with what its list says.
+pub(crate) fn load_run(folder: &dyn Folder, run: &ListedRun) -> Result<LoadedRun, Error> {
     check_length(folder, run)?;
-    let mut bytes = Vec::new();
-    let size = usize::try_from(run.size).unwrap_or(usize::MAX);
-    let reserved = bytes.try_reserve_exact(size);
-    reserved.map_err(ucstore::Error::from)?;
-    let mut crc = Crc::new();
-    read_windows(folder, &Name::Run(run.number).text(), run.size, |window| {
-        crc.add(window);
-        bytes.extend_from_slice(window);
-        Ok(())
+    let name = Name::Run(run.number);
+    let size = usize::try_from(run.size).map_err(|_| ucstore::Error::OutOfMemory)?;
+    let mut file = RunFile::with_capacity(size)?;
+    let mut last = LastBytes::default();
+    read_windows(folder, &name.text(), run.size, |window| {
+        last.add(window);
+        Ok(file.append(window)?)
     })?;
-    match crc.value() == run.checksum {
-        true => Ok(bytes),
-        false => Err(fault_of(run, &bytes, operator)?),
+    let loaded = file.read().map_err(|error| match error {
+        RunError::Damaged { offset, .. } => {
+            damaged(name, offset as u64, "it isn't as it was written".into())
+        }
+        RunError::Failed(error) => Error::Store(error),
+        error => damaged(name, 0, error.to_string()),
+    })?;
+    let is_listed = last.checksum() == run.checksum && loaded.sequences() == (run.low..=run.high);
+    match is_listed {
+        true => Ok(loaded),
+        false => Err(damaged(
+            name,
+            0,
+            "it is another run than its list names".into(),
+        )),
     }
 }
 
-/// The error of a run file whose checksum isn't the one of its list: the place where it is no run's, or that it is another run's.
-fn fault_of(run: &ListedRun, bytes: &[u8], operator: Operator) -> Result<Error, Error> {
-    let name = Name::Run(run.number);
-    let scratch = Store::create(operator, &ucstore::Options::default())?;
-    Ok(match scratch.add_run(bytes) {
-        Err(RunError::Damaged { offset, .. }) => {
-            damaged(name, offset as u64, "it isn't as it was written".into())
-        }
-        _ => damaged(name, 0, "it is another run than its list names".into()),
-    })
+/// The last bytes of a file that comes piece by piece.
+#[derive(Debug, Default)]
+struct LastBytes(Vec<u8>);
+
+impl LastBytes {
+    fn add(&mut self, piece: &[u8]) {
+        let last = &piece[piece.len().saturating_sub(LAST_BYTES)..];
+        self.0.extend_from_slice(last);
+        let before = self.0.len().saturating_sub(LAST_BYTES);
+        self.0.drain(..before);
+    }
+
+    fn checksum(&self) -> u32 {
+        Crc::of(&self.0)
+    }
 }
 
 /// Reads a file window by window, up to a size.

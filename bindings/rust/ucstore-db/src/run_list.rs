@@ -48,7 +48,7 @@ pub(crate) struct ListedRun {
     pub(crate) low: u64,
     /// The greatest sequence number of the run.
     pub(crate) high: u64,
-    /// CRC-32C of the file.
+    /// CRC-32C of the last 64 bytes of the file, which have the checksums of the others.
     pub(crate) checksum: u32,
 }
 

@@ -4,77 +4,101 @@ use crate::error::Error;
 use crate::folder::Folder;
 use crate::name::Name;
 use crate::recovery::damaged;
-use crate::run_files::read_run;
+use crate::run_files::load_run;
 use crate::run_list::{ListedRun, RunList};
-use std::sync::mpsc;
+use std::collections::BTreeMap;
+use std::sync::atomic::{AtomicUsize, Ordering};
+use std::sync::mpsc::{self, Receiver, Sender};
 use std::thread;
-use ucstore::{RunError, Store};
+use ucstore::{LoadedRun, RunError, Store};
+
+/// A run, by its place in a list.
+type Placed = (usize, Result<LoadedRun, Error>);
 
 /// Adds the runs of a list to an empty store, the oldest first, and tells of each one that was added. Returns their IDs.
 ///
-/// A thread reads the next file while one is added. So two files are in memory at most, beside the store. If one is damaged, the store has
-/// the runs before it.
+/// As many threads as there are processors read the files. What they read is the memory of the runs, so nothing is held twice. If a file is
+/// damaged, the store has the runs before it.
 pub(crate) fn add_runs(
     folder: &dyn Folder,
     list: &RunList,
     store: &Store,
     mut tell: impl FnMut(&ListedRun),
 ) -> Result<Vec<(u64, ListedRun)>, Error> {
-    let read = |run: &ListedRun| read_run(folder, run, list.operator);
-    let mut ids = Vec::with_capacity(list.runs.len());
-    let mut add = |run: &ListedRun, file: Result<Vec<u8>, Error>| -> Result<(), Error> {
-        ids.push((add_run(store, run, file?)?, *run));
-        tell(run);
-        Ok(())
-    };
-    let is_alone = thread::available_parallelism().map_or(1, usize::from) == 1;
-    if is_alone || list.runs.len() < 2 {
-        list.runs.iter().try_for_each(|run| add(run, read(run)))?;
-        return Ok(ids);
-    }
-    let outcome = thread::scope(|scope| {
-        let (sender, files) = mpsc::sync_channel(0);
-        let reader = thread::Builder::new().name("ucstore-reader".into());
-        let started = reader.spawn_scoped(scope, move || {
-            for run in &list.runs {
-                let file = read(run);
-                let is_last = file.is_err();
-                if sender.send(file).is_err() || is_last {
-                    break;
-                }
-            }
-        });
-        started.map_err(Error::of_file(""))?;
-        for run in &list.runs {
-            let file = files.recv().map_err(|_| Error::Internal {
-                thread: "reader".into(),
-            })?;
-            add(run, file)?;
+    let processors = thread::available_parallelism().map_or(1, usize::from);
+    let threads = processors.min(list.runs.len());
+    let next = AtomicUsize::new(0);
+    let (sender, receiver) = mpsc::channel();
+    thread::scope(|scope| {
+        let mut is_started = false;
+        for _ in 0..if threads > 1 { threads } else { 0 } {
+            let (next, sender) = (&next, sender.clone());
+            let reader = thread::Builder::new().name("ucstore-reader".into());
+            let started = reader.spawn_scoped(scope, move || load_all(folder, list, next, &sender));
+            is_started |= started.is_ok();
         }
-        Ok(())
-    });
-    outcome.map(|()| ids)
+        if !is_started {
+            load_all(folder, list, &next, &sender);
+        }
+        drop(sender);
+        // Where an error ends this, the others read no further file.
+        let mut loaded = Loaded {
+            receiver,
+            early: BTreeMap::new(),
+        };
+        let runs = list.runs.iter().enumerate();
+        let added = runs.map(|(place, run)| {
+            let id = add_run(store, run, loaded.take(place)?)?;
+            tell(run);
+            Ok((id, *run))
+        });
+        added.collect()
+    })
 }
 
-/// Adds the run of a file, and returns its ID.
-fn add_run(store: &Store, run: &ListedRun, file: Vec<u8>) -> Result<u64, Error> {
-    let name = Name::Run(run.number);
-    let id = store.add_run(&file).map_err(|error| match error {
-        RunError::Damaged { offset, .. } => {
-            damaged(name, offset as u64, "it isn't as it was written".into())
+/// The runs that were read, in any order.
+struct Loaded {
+    receiver: Receiver<Placed>,
+    /// Those that came before their turn.
+    early: BTreeMap<usize, Result<LoadedRun, Error>>,
+}
+
+impl Loaded {
+    /// Takes the run of a place, once it is read.
+    fn take(&mut self, place: usize) -> Result<LoadedRun, Error> {
+        loop {
+            if let Some(outcome) = self.early.remove(&place) {
+                return outcome;
+            }
+            let (other, outcome) = self.receiver.recv().map_err(|_| Error::Internal {
+                thread: "reader".into(),
+            })?;
+            self.early.insert(other, outcome);
         }
-        RunError::Failed(error) => Error::Store(error),
-        error => damaged(name, 0, error.to_string()),
-    })?;
-    drop(file);
-    let view = store.view()?;
-    let added = view.runs().next().map(|run| run.sequences());
-    match added == Some(run.low..=run.high) {
-        true => Ok(id),
-        false => Err(damaged(
-            name,
-            0,
-            format!("its sequences aren't {} to {}", run.low, run.high),
-        )),
     }
+}
+
+/// Reads the files that no other thread reads, up to one that can't be read.
+fn load_all(folder: &dyn Folder, list: &RunList, next: &AtomicUsize, sender: &Sender<Placed>) {
+    while let Some((place, run)) = taken(list, next) {
+        let outcome = load_run(folder, run);
+        let is_last = outcome.is_err();
+        if sender.send((place, outcome)).is_err() || is_last {
+            break;
+        }
+    }
+}
+
+/// Takes the next run of a list.
+fn taken<'a>(list: &'a RunList, next: &AtomicUsize) -> Option<(usize, &'a ListedRun)> {
+    let place = next.fetch_add(1, Ordering::Relaxed);
+    Some((place, list.runs.get(place)?))
+}
+
+/// Adds a run, and returns its ID.
+fn add_run(store: &Store, run: &ListedRun, loaded: LoadedRun) -> Result<u64, Error> {
+    store.add_loaded(loaded).map_err(|error| match error {
+        RunError::Failed(error) => Error::Store(error),
+        error => damaged(Name::Run(run.number), 0, error.to_string()),
+    })
 }
