@@ -3,9 +3,9 @@
 use crate::disk_folder::DiskFolder;
 use crate::error::Error;
 use crate::folder::Folder;
-use crate::holder::Holder;
 use crate::lock;
 use crate::options::Options;
+use crate::read_source::ReadSource;
 use crate::shared::Shared;
 use crate::snapshot::{Rows, Snapshot};
 use crate::stats::Stats;
@@ -451,7 +451,7 @@ impl Db {
     fn look_up<T>(
         &self,
         key: &[u8],
-        read: impl FnOnce(Holder<'_>) -> Result<T, ucstore::Error>,
+        read: impl FnOnce(ReadSource<'_>) -> Result<T, ucstore::Error>,
     ) -> Result<T, Error> {
         let shared = self.shared();
         shared.read(key, |holder| {

@@ -2,7 +2,7 @@
 
 use crate::counts::Counts;
 use crate::error::Error;
-use crate::newest::sort;
+use crate::read_views::sort;
 use std::cell::Cell;
 use std::fmt;
 use std::mem::MaybeUninit;
