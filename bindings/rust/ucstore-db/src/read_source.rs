@@ -39,11 +39,11 @@ impl ReadSource<'_> {
     pub(crate) fn get_to_room(
         &self,
         key: &[u8],
-        room: &mut [MaybeUninit<u8>],
+        buf: &mut [MaybeUninit<u8>],
     ) -> Result<Option<usize>, Error> {
         match self {
-            ReadSource::View(view) => view.get_to_room(key, room),
-            ReadSource::Store(store) => store.get_to_room(key, room),
+            ReadSource::View(view) => view.get_to_room(key, buf),
+            ReadSource::Store(store) => store.get_to_room(key, buf),
         }
     }
 }

@@ -45,7 +45,7 @@ fn put(shared: &Shared, number: u64) {
 }
 
 fn get(shared: &Shared) -> u64 {
-    let value = shared.read(b"k", |holder| holder.get(b"k")).unwrap();
+    let value = shared.read(b"k", |source| source.get(b"k")).unwrap();
     value.map_or(0, |text| u64::from_le_bytes(text.try_into().unwrap()))
 }
 
