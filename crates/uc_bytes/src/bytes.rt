@@ -12,8 +12,8 @@ use std::marker::Model;
 
 /// An owned byte string. A contract sees it as the list of its bytes.
 ///
-/// It converts from and to a `Vec<u8>` without allocating. Strings are ordered byte by byte, a proper prefix first: the
-/// order of LevelDB's `BytewiseComparator`.
+/// Conversions from and to a `Vec<u8>` don't allocate. Byte strings are ordered byte by byte, and a proper prefix comes first, as
+/// LevelDB's `BytewiseComparator` orders keys.
 #[derive(Debug, Drop)]
 pub struct Bytes {
     bytes: Vec<u8>,
@@ -28,7 +28,7 @@ impl Model for Bytes {
 }
 
 impl Bytes {
-    /// A copy of the bytes.
+    /// Returns a copy of `bytes`. Fails if allocation fails.
     pub fn from_slice(alloc: Global, bytes: &[u8]) -> Result<Bytes, AllocError>
         ensures { IfOk result (λ copy. copy ≡ bytes.now) }
     {
@@ -37,7 +37,7 @@ impl Bytes {
         })
     }
 
-    /// The vector that holds the bytes. It doesn't allocate.
+    /// Returns the vector of the bytes, without copying.
     pub fn into_vec(self) -> Vec<u8>
         ensures { result.items ≡ self }
     {
@@ -45,21 +45,21 @@ impl Bytes {
         bytes
     }
 
-    /// The bytes.
+    /// Returns the bytes.
     pub fn as_slice(&self) -> &[u8]
         ensures { result.now ≡ self.now }
     {
         self.bytes.as_slice()
     }
 
-    /// The number of bytes.
+    /// Returns the number of bytes.
     pub fn len(&self) -> usize
         ensures { result ≡ length self.now }
     {
         self.bytes.len()
     }
 
-    /// Whether there are none.
+    /// Returns true if there are no bytes.
     pub fn is_empty(&self) -> bool
         ensures { IsTrue result ↔ (length self.now ≡ 0) }
     {
@@ -70,7 +70,7 @@ impl Bytes {
 impl From<Vec<u8>> for Bytes {
     ghost from_gives = { λ bytes b. b ≡ bytes.items };
 
-    /// Takes over the vector without allocating.
+    /// Takes ownership of `bytes`, without copying.
     fn from(bytes: Vec<u8>) -> Bytes {
         Bytes { bytes }
     }
@@ -79,7 +79,7 @@ impl From<Vec<u8>> for Bytes {
 impl Clone for Bytes {
     ghost is_clone = { λ bytes copy. copy ≡ bytes };
 
-    /// A copy.
+    /// Returns a copy. Fails if allocation fails.
     fn clone(&self) -> Result<Bytes, AllocError>
         ensures { IfOk result (λ copy. copy ≡ self.now) }
     {

@@ -8,9 +8,9 @@ use std::alloc::AllocError;
 use std::marker::Model;
 use std::slice;
 
-/// A list of items. A contract sees it as a list, with each item as contracts see it.
+/// A list of items. A contract sees it as the list of the items' views.
 ///
-/// It converts from and to a `Vec` without allocating.
+/// Conversions from and to a `Vec` don't allocate.
 #[derive(Debug, Drop)]
 pub struct Items<T> {
     items: Vec<T>,
@@ -25,7 +25,7 @@ impl<T> Model for Items<T> {
 }
 
 impl<T> Items<T> {
-    /// The vector that holds the items. It doesn't allocate.
+    /// Returns the vector of the items, without copying.
     pub fn into_vec(self) -> Vec<T>
         ensures { result.items ≡ self }
     {
@@ -33,14 +33,14 @@ impl<T> Items<T> {
         items
     }
 
-    /// The items.
+    /// Returns the items.
     pub fn as_slice(&self) -> &[T]
         ensures { result.now ≡ self.now }
     {
         self.items.as_slice()
     }
 
-    /// Goes over the items, the first one first.
+    /// Iterates over the items, in order.
     pub fn iter(&self) -> slice::Iter<'_, T>
         ensures { iter_rest result ≡ self.now }
     {
@@ -51,7 +51,7 @@ impl<T> Items<T> {
 impl<T> From<Vec<T>> for Items<T> {
     ghost from_gives = { λ items list. list ≡ items.items };
 
-    /// Takes over the vector without allocating.
+    /// Takes ownership of `items`, without copying.
     fn from(items: Vec<T>) -> Items<T> {
         Items { items }
     }
@@ -60,7 +60,7 @@ impl<T> From<Vec<T>> for Items<T> {
 impl<T: Clone> Clone for Items<T> {
     ghost is_clone = { AllZip T.is_clone };
 
-    /// A copy of each item. It also fails if an item's copy does.
+    /// Returns a list of copies of the items. Fails if allocation fails, or if an item can't be copied.
     fn clone(&self) -> Result<Items<T>, AllocError> {
         Ok(Items {
             items: self.items.clone()?,

@@ -1,13 +1,12 @@
-//! Byte strings and lists as contracts see them, and the writes that are made of them.
+//! Byte strings and lists as contracts see them, and the writes that consist of them.
 //!
-//! Keys, values, operands and payloads are [`Bytes`] wherever a contract compares them, and lists of them or of other
-//! things are [`Items`]: a public field is never a bare `Vec`. Read `bytes.rt` first.
+//! Keys, values, operands and payloads are [`Bytes`] wherever a contract compares them. Lists of these or other items are [`Items`]. No
+//! public field is a bare `Vec`. Read `bytes.rt` first.
 //!
-//! A write is what a user asks the store to change, with the sequence number that orders it. Logs, the meaning of
-//! reads, scripts and runs all speak of [`Op`] and [`Write`]; [`OpRef`] and [`WriteRef`] are the same with borrowed
-//! texts. Read `op.rt` first.
+//! A write is one change to the store, together with the sequence number that orders it. [`Op`] and [`Write`] own their byte strings, and
+//! [`OpRef`] and [`WriteRef`] borrow them. Logs, scripts, runs and the definition of a read all use these types. Read `op.rt` next.
 //!
-//! An `Err(AllocError)` comes only if an allocation fails.
+//! A call returns `Err(AllocError)` only if allocation fails.
 //!
 //! Tests: `tests/base.py`.
 #![tactic(auto)]

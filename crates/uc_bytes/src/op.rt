@@ -4,25 +4,25 @@ ghost use Rattle.std.specs.Prelude.{◌≡◌, IfOk};
 use crate::bytes::Bytes;
 use std::alloc::AllocError;
 
-/// One change to the store, as RocksDB's `WriteBatch` has them.
+/// One change to the store, as in RocksDB's `WriteBatch`.
 ///
-/// Keys are ordered by their bytes. A read of a key combines a merge's operand with the value below it (RocksDB wiki,
-/// "Merge Operator"). A range deletion covers the keys from `begin` to below `end` (RocksDB wiki, "DeleteRange"): none
-/// if `begin` is not below `end`.
+/// Keys are ordered by their bytes. A read of a key combines a merge operand with the next older value of the key (RocksDB wiki, "Merge
+/// Operator"). A range deletion covers the keys at or above `begin` and below `end` (RocksDB wiki, "DeleteRange"). It covers no key if
+/// `begin` isn't below `end`.
 #[derive(Debug, PartialEq, Eq, Drop)]
 pub enum Op {
-    /// Sets a key, the first, to a value, the second.
+    /// Sets a key (first) to a value (second).
     Put(Bytes, Bytes),
-    /// Removes a key.
+    /// Deletes a key.
     Delete(Bytes),
-    /// Combines a key, the first, with an operand, the second.
+    /// Merges an operand (second) into a key (first).
     Merge(Bytes, Bytes),
-    /// Removes each key from the first, `begin`, to below the second, `end`.
+    /// Deletes all keys from `begin` (first), inclusive, to `end` (second), exclusive.
     DeleteRange(Bytes, Bytes),
 }
 
 impl Clone for Op {
-    /// A copy.
+    /// Returns a copy. Fails if allocation fails.
     fn clone(&self) -> Result<Op, AllocError>
         ensures { IfOk result (λ copy. copy ≡ self.now) }
     {

@@ -1,4 +1,4 @@
-//! [`OpRef`]: a change whose texts are borrowed.
+//! [`OpRef`]: a change with borrowed byte strings.
 ghost use Rattle.std.specs.Prelude.{◌≡◌, [], IfOk};
 ghost use Rattle.uc_bytes.specs.declared.op.Op.TheVariants as changes;
 ghost use Rattle.uc_bytes.specs.Borrowed.{op_of};
@@ -13,20 +13,20 @@ use std::marker::Model;
 pub enum OpKind {
     /// Sets a key to a value.
     Put,
-    /// Removes a key.
+    /// Deletes a key.
     Delete,
-    /// Combines a key with an operand.
+    /// Merges an operand into a key.
     Merge,
-    /// Removes each key from a begin to below an end.
+    /// Deletes all keys from a begin, inclusive, to an end, exclusive.
     DeleteRange,
 }
 
-/// An [`Op`] with borrowed texts, so it takes no memory. A contract sees it as the `Op`.
+/// An [`Op`] with borrowed byte strings, made without allocating. A contract sees it as the `Op`.
 #[derive(Drop)]
 pub struct OpRef<'a> {
     kind: OpKind,
     first: &'a [u8],
-    // Empty if the kind has only one text.
+    // Empty for `OpKind::Delete`.
     second: &'a [u8],
 }
 
@@ -40,7 +40,7 @@ impl<'a> Model for OpRef<'a> {
 }
 
 impl<'a> OpRef<'a> {
-    /// Borrows the texts of `op`.
+    /// Returns the same change as `op`, which it borrows from.
     pub fn of(op: &'a Op) -> OpRef<'a>
         ensures { result ≡ op.now }
     {
@@ -52,7 +52,7 @@ impl<'a> OpRef<'a> {
         }
     }
 
-    /// Sets a key to a value.
+    /// Returns the change that sets `key` to `value`.
     pub fn put(key: &'a [u8], value: &'a [u8]) -> OpRef<'a>
         ensures { result ≡ changes.Put key.now value.now }
     {
@@ -63,7 +63,7 @@ impl<'a> OpRef<'a> {
         }
     }
 
-    /// Removes a key.
+    /// Returns the change that deletes `key`.
     pub fn delete(key: &'a [u8]) -> OpRef<'a>
         ensures { result ≡ changes.Delete key.now }
     {
@@ -74,7 +74,7 @@ impl<'a> OpRef<'a> {
         }
     }
 
-    /// Combines a key with an operand.
+    /// Returns the change that merges `operand` into `key`.
     pub fn merge(key: &'a [u8], operand: &'a [u8]) -> OpRef<'a>
         ensures { result ≡ changes.Merge key.now operand.now }
     {
@@ -85,7 +85,7 @@ impl<'a> OpRef<'a> {
         }
     }
 
-    /// Removes each key from `begin` to below `end`.
+    /// Returns the change that deletes all keys from `begin`, inclusive, to `end`, exclusive.
     pub fn delete_range(begin: &'a [u8], end: &'a [u8]) -> OpRef<'a>
         ensures { result ≡ changes.DeleteRange begin.now end.now }
     {
@@ -96,14 +96,14 @@ impl<'a> OpRef<'a> {
         }
     }
 
-    /// Its kind, and its byte strings in the order of [`Op`]'s. The second is ignored if `Op` has only one.
+    /// Returns the kind and the byte strings, in the order of [`Op`]'s fields. The second has no meaning for a deletion of one key.
     pub fn parts(&self) -> (OpKind, &'a [u8], &'a [u8])
         ensures { op_of result.0 result.1.now result.2.now ≡ self.now }
     {
         (self.kind, self.first, self.second)
     }
 
-    /// A copy that owns its texts.
+    /// Returns a copy that owns its byte strings. Fails if allocation fails.
     pub fn to_op(&self, alloc: Global) -> Result<Op, AllocError>
         ensures { IfOk result (λ op. op ≡ self.now) }
     {

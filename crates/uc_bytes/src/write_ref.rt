@@ -1,4 +1,4 @@
-//! [`WriteRef`]: a write whose texts are borrowed.
+//! [`WriteRef`]: a write with borrowed byte strings.
 ghost use Rattle.std.specs.Prelude.{◌≡◌, IfOk};
 
 use crate::op_ref::OpRef;
@@ -6,7 +6,7 @@ use crate::write::Write;
 use std::alloc::{AllocError, Global};
 use std::marker::Model;
 
-/// A [`Write`] with borrowed texts, so it takes no memory. A contract sees it as the `Write`.
+/// A [`Write`] with borrowed byte strings, made without allocating. A contract sees it as the `Write`.
 #[derive(Drop)]
 pub struct WriteRef<'a> {
     seq: u64,
@@ -22,35 +22,35 @@ impl<'a> Model for WriteRef<'a> {
 }
 
 impl<'a> WriteRef<'a> {
-    /// A change with its sequence number.
+    /// Returns the write of a change and its sequence number.
     pub fn new(seq: u64, op: OpRef<'a>) -> WriteRef<'a>
         ensures { result ≡ record { seq = seq; op = op.entry } }
     {
         WriteRef { seq, op }
     }
 
-    /// Borrows the texts of `write`.
+    /// Returns the same write as `write`, which it borrows from.
     pub fn of(write: &'a Write) -> WriteRef<'a>
         ensures { result ≡ write.now }
     {
         WriteRef::new(write.seq, OpRef::of(&write.op))
     }
 
-    /// Its place in the order of all writes, from 1 to [`MAX_SEQUENCE`](crate::MAX_SEQUENCE).
+    /// Returns the sequence number, from 1 to [`MAX_SEQUENCE`](crate::MAX_SEQUENCE).
     pub fn seq(&self) -> u64
         ensures { result ≡ self.now.seq }
     {
         self.seq
     }
 
-    /// The change.
+    /// Returns the change.
     pub fn op(&self) -> &OpRef<'a>
         ensures { result.now ≡ self.now.op }
     {
         &self.op
     }
 
-    /// A copy that owns its texts.
+    /// Returns a copy that owns its byte strings. Fails if allocation fails.
     pub fn to_write(&self, alloc: Global) -> Result<Write, AllocError>
         ensures { IfOk result (λ write. write ≡ self.now) }
     {

@@ -1,37 +1,38 @@
 //! [`Action`]: a file operation.
 
-/// A file operation that a machine asks for.
+/// A file operation that a machine requests.
 #[derive(Debug, Clone, Copy, PartialEq, Eq)]
 pub enum Action {
-    /// There is nothing to do.
+    /// No operation.
     Nothing,
-    /// Makes the empty log of a number.
+    /// Creates the empty log with this number.
     CreateLog(u64),
-    /// Appends the batch that was submitted to the log of a number, with a mark: how many records of it are on the device.
+    /// Appends the submitted batch to the log with this number. The record's mark is the second number: the log's number of durable
+    /// records.
     Append(u64, u64),
-    /// Syncs the log of a number. As many of its records as given were there when this was asked for.
+    /// Syncs the log with this number. Makes at least the given number of records durable: those appended when the sync was requested.
     SyncLog(u64, u64),
-    /// Cuts off what the log of a number has after as many records as given, and syncs it.
+    /// Cuts the log with this number off after the given number of records, and syncs it.
     CutLog(u64, u64),
-    /// Syncs the folder's names.
+    /// Syncs the directory's names.
     SyncNames,
-    /// Keeps the bytes after the batches of a log that are read, in a file that nothing reads.
+    /// Copies the bytes after the log's last batch to a file that no opening reads.
     SetAside(u64),
-    /// Writes the first batches of a log, as many as given, to a new file with a temporary name.
+    /// Writes the first batches of a log to a new file with a temporary name. The second number counts the batches.
     CopyLog(u64, u64),
-    /// Syncs that file.
+    /// Syncs the file that `CopyLog` wrote.
     SyncCopy,
-    /// Gives it the name of the log of a number.
+    /// Renames that file to the log with this number.
     NameCopy(u64),
-    /// Writes the rows of a base to a new file with a temporary name: of the logs before a number, and of as many batches of the log of
-    /// that number as given.
+    /// Writes the rows of a base to a new file with a temporary name. The base contains all logs below the first number, and from the log
+    /// with that number the first batches, which the second number counts.
     WriteBase(u64, u64),
-    /// Syncs that file.
+    /// Syncs the file that `WriteBase` wrote.
     SyncBase,
-    /// Gives it the name of such a base.
+    /// Renames that file to the base with these numbers.
     NameBase(u64, u64),
-    /// Removes the log of a number, if it is there.
+    /// Removes the log with this number, if it exists.
     RemoveLog(u64),
-    /// Removes the bases of a number, if there are any.
+    /// Removes the bases with this number, if any exist.
     RemoveBase(u64),
 }

@@ -1,7 +1,7 @@
-//! Laws of a folder for every list of events, from a folder without a file on: whatever is asked for, however each operation goes,
-//! and however often the machine crashed and the process ended before.
+//! Laws of a directory, for every list of events that begins with an empty directory: for all requests, all results of operations, and
+//! any number of earlier crashes and ends of the process.
 //!
-//! Proof steps: none does anything when it runs. Their contracts speak of definitions alone.
+//! Proof steps: they do nothing when they run. Their contracts contain only definitions.
 ghost use Rattle.std.specs.Prelude.{◌≡◌, ◌==◌, ◌≤◌, ℕ, Bool, true, false, List, [], ◌∷◌, ◌++◌, Option, Some, None, Result, Ok, take, length};
 ghost use Rattle.uc_folder.specs.declared.listing.Base.{Base};
 ghost use Rattle.uc_folder.specs.declared.listing.Listed.{Listed};
@@ -39,9 +39,9 @@ ghost use Rattle.uc_folder.specs.Worlds.{
   Outcome,
 };
 
-/// A crash at any moment leaves a folder that can be opened, whatever it keeps of what wasn't synced. What is read are the first of the
-/// batches that were submitted, none in part and none left out, and with them all that were acknowledged as synced. These stay
-/// acknowledged unless an opening gives batches up, and from then on what was read is what was submitted.
+/// After a crash at any moment the directory can be opened, whichever unsynced data the crash keeps. The opening reads the first of the
+/// submitted batches, whole and without a gap, and at least those acknowledged as synced. These stay acknowledged unless an opening gives
+/// batches up. After the opening, the batches that it read are the submitted ones.
 pub fn a_crash_loses_nothing_acknowledged()
     ensures readable { (events : List Event) (logs bases : ℕ → Keep) → IsReadable (crashed logs bases (run events start).device) }
     ensures prefix { (events : List Event) (logs bases : ℕ → Keep) →
@@ -55,15 +55,15 @@ pub fn a_crash_loses_nothing_acknowledged()
         IsPrefixOf (run events start).acked (run (events ++ later) start).acked }
 {}
 
-/// Each record has a sequence, which says its place in its log. So also one who passes over what is torn, and goes on looking, reads no
-/// batch after it as the next one.
+/// A record has its position in the log as its sequence number. So even a reader that skips torn records doesn't
+/// take a batch after a torn one for the next batch.
 pub fn no_later_batch_is_read_as_the_next()
     ensures { (place : ℕ) (records : List Record) → read_by_sequence place place records ≡ first_whole records }
 {}
 
-/// If only the process ends, an opening reads all that was answered, synced or not, also after a sync that failed. What it reads is what
-/// the machine goes on with; and what counts as submitted, unless a batch that failed couldn't be cut off for certain: that one may
-/// come back if the machine crashes before the opening has renewed the log, and not after that
+/// If only the process ends, an opening reads all batches whose appends were acknowledged, synced or not, even after a failed sync. The
+/// machine continues with the batches that were read, and these are then the submitted ones. The exception is a failed batch that couldn't
+/// be cut off with certainty. It can come back if the machine crashes before the opening has renewed the log, but not afterwards
 /// ([`batches_that_are_given_up_are_gone`]).
 pub fn a_process_that_ends_loses_nothing_answered()
     ensures readable { (events : List Event) → IsReadable (run events start).device }
@@ -77,8 +77,8 @@ pub fn a_process_that_ends_loses_nothing_answered()
         submitted (happens (run events start) (Restart least top sealed keep)) ≡ recovered (run events start).device }
 {}
 
-/// And if of the log that was written only what is on the device can be read, as a system may do after a sync that failed, all that was
-/// acknowledged as synced is read.
+/// The opening reads all batches acknowledged as synced even if only the durable part of the current log can be read. A system may drop the
+/// other part after a failed sync.
 pub fn a_log_read_from_the_device_loses_nothing_acknowledged()
     ensures readable { (events : List Event) (keep : Keep) → IsReadable (reread keep (run events start)) }
     ensures prefix { (events : List Event) (keep : Keep) →
@@ -89,8 +89,8 @@ pub fn a_log_read_from_the_device_loses_nothing_acknowledged()
         submitted (happens (run events start) (Reread left least top sealed keep)) ≡ recovered (reread left (run events start)) }
 {}
 
-/// An opening that goes by the names which the folder lists isn't refused, and finds the files that the other laws speak of, after a crash
-/// and after the end of a process.
+/// An opening by the listed names doesn't fail, and finds the files that the other laws mention, after a crash and after the end of a
+/// process.
 pub fn an_opening_finds_its_files()
     ensures crashed { (events : List Event) (logs bases : ℕ → Keep) (base_list : List Base) (log_list : List Listed) →
         IsListing (crashed logs bases (run events start).device) base_list log_list →
@@ -106,8 +106,8 @@ pub fn an_opening_finds_its_files()
         (f : Found) × (result ≡ Ok f) × (f ≡ found (reread keep (run events start)) f.least f.top) }
 {}
 
-/// Of the logs and bases that are listed, an opening removes those from the least number on that the newest base has, and the logs after
-/// the one that goes on, up to the greatest number. No listed file is below or above these.
+/// An opening removes the logs and bases from the least listed number to below the newest base's, and the logs after the current one, up
+/// to the greatest listed number. No listed file is outside these bounds.
 pub fn removals_reach_all_listed_files()
     ensures least_log { (bases : List Base) (logs : List Listed) (k : ℕ) →
         is_listed k logs ≡ true → (found_of bases logs).least ≤ k }
@@ -116,7 +116,7 @@ pub fn removals_reach_all_listed_files()
     ensures top { (bases : List Base) (logs : List Listed) (k : ℕ) → is_listed k logs ≡ true → k ≤ (found_of bases logs).top }
 {}
 
-/// Under `Always` a write is answered once the machine counts it as synced. A crash at any later moment loses none of these.
+/// Under `Always` a write is acknowledged when the machine counts it as synced. No later crash loses such a write.
 pub fn always_loses_nothing()
     ensures said { (events : List Event) → IsPrefixOf (first_of (run events start).parts (run events start).machine.log
         (run events start).machine.synced) (run events start).acked }
@@ -125,8 +125,8 @@ pub fn always_loses_nothing()
         (recovered (crashed logs bases (run (events ++ later) start).device)) }
 {}
 
-/// Under `EveryMs` a write is answered once it is appended, and a sync is asked for every so often. Once that is told as done, a crash at
-/// any later moment loses nothing that was answered before it was asked for.
+/// Under `EveryMs` a write is acknowledged when it is appended, and a sync is requested at intervals. After a sync has succeeded, no later
+/// crash loses a write that was acknowledged before the sync was requested.
 pub fn every_ms_loses_only_what_came_after_a_sync()
     ensures ready { (events beside later : List Event) (logs bases : ℕ → Keep) →
         (run events start).machine.writer ≡ Ready → are_beside beside ≡ true → all_keep later ≡ true →
@@ -140,8 +140,8 @@ pub fn every_ms_loses_only_what_came_after_a_sync()
         (recovered (crashed logs bases (run ((events ++ AskSync ∷ beside) ++ Syncs Done ∷ later) start).device)) }
 {}
 
-/// Under `Never`, where no sync is asked for, a crash loses at most the end of the log that is written: all that older logs had is
-/// there, and of that log the first batches. A switch of the log syncs it.
+/// Under `Never`, where no sync is requested, a crash loses at most the end of the current log: all batches of older logs are read, and
+/// then the first ones of the current log. A switch to the next log syncs the log.
 pub fn never_loses_only_the_end_of_a_log()
     ensures older { (events : List Event) (logs bases : ℕ → Keep) →
         IsPrefixOf (upto (run events start).parts (run events start).machine.log)
@@ -151,12 +151,11 @@ pub fn never_loses_only_the_end_of_a_log()
     ensures readable { (events : List Event) (logs bases : ℕ → Keep) → IsReadable (crashed logs bases (run events start).device) }
 {}
 
-/// An opening may give up the last batches of the log that goes on: it keeps the first ones, and at least those that a base has. What
-/// is kept of what was acknowledged stays so, and is there after each crash; whatever is kept is there after the end of the process
-/// alone, as the other laws say. Once batches may be appended, those that were kept are the ones that were submitted and acknowledged,
-/// and a crash leaves exactly these.
+/// An opening may give up the last batches of the current log. It keeps the first ones, and at least those that a base contains. Kept
+/// batches that were acknowledged stay acknowledged and survive each crash. All kept batches survive the end of the process, by the other
+/// laws. Once batches can be appended, exactly the kept batches are submitted and acknowledged, and a crash leaves exactly these.
 ///
-/// Batches of several logs are given up by an opening for each, the last log first, which keeps none of the later ones.
+/// To give up the batches of several logs, open the directory once for each log, the last log first, and keep no batch of the later ones.
 pub fn batches_that_are_given_up_are_gone()
     ensures kept { (events : List Event) (least top keep : ℕ) (sealed : Bool) →
         IsPrefixOf (answered (happens (run events start) (Restart least top sealed (Some keep)))) (recovered (run events start).device) }
@@ -182,15 +181,14 @@ pub fn batches_that_are_given_up_are_gone()
         recovered (crashed logs bases (run events start).device) ≡ kept }
 {}
 
-/// And it does so: all of a log is given up, and the log is removed by the next opening.
+/// Example: an opening gives up all batches of a log, and the next opening removes the log.
 pub fn a_log_may_be_given_up()
     ensures acknowledged { (a b : Batch) → (run (batch_given_up a b) start).acked ≡ a ∷ [] }
     ensures gone { (a b : Batch) → ((run (batch_given_up a b) start).device.logs 2).now ≡ None }
     ensures read { (a b : Batch) → recovered (run (batch_given_up a b) start).device ≡ a ∷ [] }
 {}
 
-/// The machine does what it is for: a base has one log and the first batch of the next one, the first log is gone, and all batches are
-/// read.
+/// Example: a base contains one log and the first batch of the next, the first log is removed, and an opening reads all batches.
 pub fn a_base_may_end_within_a_log()
     ensures acknowledged { (a b c : Batch) → (run (base_within_a_log a b c) start).acked ≡ a ∷ b ∷ c ∷ [] }
     ensures based { (a b c : Batch) → content ((run (base_within_a_log a b c) start).device.bases 2).now ≡ a ∷ b ∷ [] }

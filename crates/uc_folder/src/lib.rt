@@ -1,13 +1,13 @@
-//! The folder of a database, and the machine that says which file operation comes next, so that a crash at any moment loses nothing that
-//! was acknowledged. There is no input or output here.
+//! The machine that orders the file operations of a database's directory. A crash at any moment loses nothing that was acknowledged. The
+//! crate itself does no input or output.
 //!
-//! A folder has *logs*, to which batches are appended, and *bases*, which have what older logs had, so that these may go. An opening
-//! reads the newest base and the logs from its number on ([`found_in`] says which). A [`Machine`] goes on from there: it tells the next
-//! operation of its writer, of a sync, of the next log, and of its checkpointer, is told how it went, and knows how many batches may be
-//! acknowledged as synced.
+//! A directory has *logs*, to which batches are appended, and *bases*, which contain the batches of older logs, so that these can be
+//! removed. An opening reads the newest base and the logs from its number on, which [`found_in`] determines. Then a [`Machine`] takes over.
+//! It returns the next operation of the writer, of a sync, of the next log and of the checkpointer, and learns the result of each. It
+//! counts the batches that may be acknowledged as synced.
 //!
-//! `specs/Device.antt` says what files and names are and what a crash keeps of them; `specs/Steps.antt` is the machine, and
-//! `specs/Worlds.antt` both together. Read these first, then [`laws`], which hold for every list of events.
+//! `specs/Device.antt` defines files, names and crashes, `specs/Steps.antt` the machine, and `specs/Worlds.antt` the two together. Read
+//! these first, then the [`laws`], which hold for every list of events.
 //!
 //! Tests: `tests/worlds.py`, its own.
 #![tactic(auto)]

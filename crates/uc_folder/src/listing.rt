@@ -1,57 +1,57 @@
-//! [`found_in`]: which files of a folder an opening reads.
+//! [`found_in`]: the files of a directory that an opening reads.
 
 ghost use Rattle.std.specs.Prelude.{◌≡◌};
 ghost use Rattle.uc_folder.specs.Listing as listing;
 
-/// The number of the first log.
+/// Number of the first log.
 const FIRST: u64 = 1;
 
-/// A base as a folder lists it.
+/// A base in a directory's listing.
 #[repr(C)]
 #[derive(Debug, Clone, Copy, PartialEq, Eq)]
 pub struct Base {
-    /// Its number.
+    /// Number of the base.
     pub number: u64,
-    /// The number of batches that it has of the log of that number.
+    /// Number of batches of the log with the same number that the base contains.
     pub past: u64,
 }
 
-/// A log as a folder lists it.
+/// A log in a directory's listing.
 #[repr(C)]
 #[derive(Debug, Clone, Copy, PartialEq, Eq)]
 pub struct Listed {
-    /// Its number.
+    /// Number of the log.
     pub number: u64,
-    /// Whether it has a whole batch at its beginning.
+    /// True if the log begins with a whole batch.
     pub is_used: bool,
 }
 
-/// The files that an opening reads: the base of a number, and the logs from its number to that of the last one, one by one.
+/// The files that an opening reads: the newest base, and each log from its number to that of the current log.
 #[repr(C)]
 #[derive(Debug, Clone, Copy, PartialEq, Eq)]
 pub struct Found {
-    /// The number of the newest base; that of the first log if there is none.
+    /// Number of the newest base, or of the first log if there is none.
     pub base: u64,
-    /// The number of batches that it has of the log of that number.
+    /// Number of batches of the log `base` that the base contains.
     pub past: u64,
-    /// The least number of a log or a base. All below the base's are removed.
+    /// The least number of a log or base. Logs and bases from this number to below `base` are removed.
     pub least: u64,
-    /// The number of the log that goes on: the last one that has a batch, and none before the base's.
+    /// Number of the current log: the last one that has a batch, and at least `base`.
     pub log: u64,
-    /// The greatest number of a log. Those after the one that goes on are removed.
+    /// The greatest number of a log. Logs after the current one are removed.
     pub top: u64,
-    /// Whether the log that goes on is there. It may be missing in a folder that has neither a base nor a batch.
+    /// True if the current log exists. It can be missing only if the directory has neither a base nor a batch.
     pub is_there: bool,
 }
 
-/// The number of a log that isn't listed, between the newest base and the last log: the opening is refused.
+/// Number of a log between the newest base and the last log that isn't listed. The opening fails.
 #[derive(Debug, Clone, Copy, PartialEq, Eq)]
 pub struct Missing(pub u64);
 
-/// The files that an opening reads of a folder that lists some bases and logs, in any order. Logs in the order of their numbers are
-/// each looked at once.
+/// Returns the files that an opening reads of a directory with these bases and logs, in any order. Fast if the logs are ordered by number:
+/// then each is examined once.
 ///
-/// An `Err` names a log that is missing: the first one.
+/// Fails with the number of the first missing log.
 pub fn found_in(bases: &[Base], logs: &[Listed]) -> Result<Found, Missing>
     ensures { listing.IsFoundIn bases.now logs.now result }
 {
@@ -74,7 +74,7 @@ pub fn found_in(bases: &[Base], logs: &[Listed]) -> Result<Found, Missing>
     })
 }
 
-/// The first number from one up to below another one that no log has.
+/// Returns the first number from `from` to below `to` that no log has.
 fn missing_in(from: u64, to: u64, logs: &[Listed]) -> Option<u64>
     ensures { listing.IsMissingIn from to logs.now result }
 {
@@ -88,12 +88,12 @@ fn missing_in(from: u64, to: u64, logs: &[Listed]) -> Option<u64>
     None
 }
 
-/// The number of logs with numbers below one: its place, if the logs are listed in order.
+/// Returns the number of logs below `number`, which is the log's index if the logs are ordered.
 fn count_below(number: u64, logs: &[Listed]) -> usize {
     logs.iter().filter(|log| log.number < number).count()
 }
 
-/// Whether the log of a number is listed, which is looked for at a place first.
+/// Returns true if the log with this number is listed. Tries index `place` first.
 fn is_found(number: u64, place: usize, logs: &[Listed]) -> bool
     ensures { result ≡ listing.is_listed number logs.now }
 {
@@ -103,14 +103,14 @@ fn is_found(number: u64, place: usize, logs: &[Listed]) -> bool
     }
 }
 
-/// The number of the newest base, or that of the first log.
+/// Returns the number of the newest base, or of the first log if there is none.
 fn base_in(bases: &[Base]) -> u64
     ensures { result ≡ listing.base_in bases.now }
 {
     bases.iter().fold(FIRST, |most, base| most.max(base.number))
 }
 
-/// The number of batches that a base has of the log of its number. Of several bases the one counts that has most.
+/// Returns the number of batches of the log `number` that a base of that number contains: the greatest, if there are several such bases.
 fn past_in(number: u64, bases: &[Base]) -> u64
     ensures { result ≡ listing.past_in number bases.now }
 {
@@ -123,7 +123,7 @@ fn past_in(number: u64, bases: &[Base]) -> u64
     })
 }
 
-/// The number of the last log that has a batch, and none before a base's.
+/// Returns the number of the last log that has a batch, at least `base`.
 fn log_in(base: u64, logs: &[Listed]) -> u64
     ensures { result ≡ listing.log_in base logs.now }
 {
@@ -136,21 +136,21 @@ fn log_in(base: u64, logs: &[Listed]) -> u64
     })
 }
 
-/// Whether the log of a number is listed.
+/// Returns true if the log with this number is listed.
 fn is_listed(number: u64, logs: &[Listed]) -> bool
     ensures { result ≡ listing.is_listed number logs.now }
 {
     logs.iter().any(|log| log.number == number)
 }
 
-/// The greatest number of a log, and none below one.
+/// Returns the greatest number of a log, at least `log`.
 fn top_in(log: u64, logs: &[Listed]) -> u64
     ensures { result ≡ listing.top_in log logs.now }
 {
     logs.iter().fold(log, |most, log| most.max(log.number))
 }
 
-/// The least number of a base or a log, and none above one.
+/// Returns the least number of a base or log, at most `base`.
 fn least_in(base: u64, bases: &[Base], logs: &[Listed]) -> u64
     ensures { result ≡ listing.least_in base bases.now logs.now }
 {

@@ -1,4 +1,4 @@
-//! [`Machine`]: which file operation comes next, and what follows from how it went.
+//! [`Machine`]: the order of file operations, and the state after each.
 ghost use Rattle.std.specs.Prelude.{◌≡◌, ◌<◌, ◌^◌};
 ghost use Rattle.uc_folder.specs.Steps.{
   next_write,
@@ -25,35 +25,35 @@ use crate::action::Action;
 use crate::listing::Found;
 use crate::phases::{Checkpointer, NextLog, Writer};
 
-/// The state of a folder that is open.
+/// The state of an open directory.
 #[derive(Debug, Clone, Copy, PartialEq, Eq)]
 pub struct Machine {
-    /// The number of the log that is written.
+    /// Number of the current log.
     pub log: u64,
-    /// The number of batches that it has; in an opening, of those that are kept.
+    /// Number of batches in the current log. During an opening, number of those that are kept.
     pub count: u64,
-    /// The number of these that may be acknowledged as synced. All batches of older logs may.
+    /// Number of batches of the current log that may be acknowledged as synced. All batches of older logs may be.
     pub synced: u64,
-    /// The number of the newest base whose name is on the device for certain; that of the first log if there is none.
+    /// Number of the newest base whose name is durable, or of the first log if there is none.
     pub base: u64,
     /// No log or base has a number below this one.
     pub least: u64,
-    /// The number of the newest base that may have its name.
+    /// Number of the newest base that may have its name.
     pub tried: u64,
-    /// The number of batches of the log of that number that it has.
+    /// Number of batches of the log `tried` that this base contains.
     pub past: u64,
-    /// The phase of the writer.
+    /// Phase of the writer.
     pub writer: Writer,
-    /// The log after the one that is written.
+    /// State of the log after the current one.
     pub next: NextLog,
-    /// The phase of the checkpointer.
+    /// Phase of the checkpointer.
     pub checkpointer: Checkpointer,
 }
 
 impl Machine {
-    /// The machine of a folder in which an opening found some files, and the number of batches that are kept of the log that goes on. Those
-    /// after them are given up: the newest base has none of these. The log is sealed if all of it is kept, and is on the device, as a
-    /// closed log says: then it isn't copied.
+    /// Returns the machine of a directory. `found` has the files that the opening found. `count` is the number of batches of the
+    /// current log that are kept. The batches after them are given up, and the newest base must contain none of these. `is_sealed` is
+    /// true only if all of the log is kept and is durable, as the end of a closed log shows. A sealed log isn't copied.
     pub fn open(found: Found, count: u64, is_sealed: bool) -> Machine
         ensures { result ≡ opened found count is_sealed }
     {
@@ -75,7 +75,7 @@ impl Machine {
         }
     }
 
-    /// The writer's next operation.
+    /// Returns the writer's next operation.
     pub fn next_write(&self) -> Action
         ensures { result ≡ next_write self.now.writer self.now.log self.now.count self.now.synced }
     {
@@ -95,7 +95,7 @@ impl Machine {
         }
     }
 
-    /// Learns how the writer's operation went: done, or refused in any way.
+    /// Takes the result of the writer's operation: `is_done` is false if it failed in any way.
     pub fn told_write(&mut self, is_done: bool)
         requires log_small { self.old.log < 2 ^ 63 }
         requires count_small { self.old.count < 2 ^ 63 }
@@ -142,7 +142,7 @@ impl Machine {
         }
     }
 
-    /// The operation by which the next log is made, while batches are appended to this one.
+    /// Returns the next operation that creates the next log. Batches can be appended to the current log meanwhile.
     pub fn next_make(&self) -> Action
         requires { self.now.log < 2 ^ 63 }
         ensures { result ≡ next_make self.now.next self.now.log }
@@ -154,7 +154,7 @@ impl Machine {
         }
     }
 
-    /// Learns how that went. If it wasn't done, the next log may be asked for again.
+    /// Takes the result of that operation. After a failure the next log can be requested again.
     pub fn told_make(&mut self, is_done: bool)
         ensures { self.new ≡ told_make self.old is_done }
     {
@@ -165,7 +165,7 @@ impl Machine {
         };
     }
 
-    /// The sync of the log that is under way. A batch may be appended beside it.
+    /// Returns the requested sync of the log. A batch can be appended during it.
     pub fn next_sync(&self) -> Action
         ensures { result ≡ next_sync self.now.writer self.now.log }
     {
@@ -176,7 +176,7 @@ impl Machine {
         }
     }
 
-    /// Learns how that sync went.
+    /// Takes the result of that sync.
     pub fn told_sync(&mut self, is_done: bool)
         ensures { self.new ≡ told_sync self.old is_done }
     {
@@ -200,7 +200,7 @@ impl Machine {
         }
     }
 
-    /// The checkpointer's next operation.
+    /// Returns the checkpointer's next operation.
     pub fn next_checkpoint(&self) -> Action
         ensures { result ≡ next_checkpoint self.now.checkpointer }
     {
@@ -215,7 +215,7 @@ impl Machine {
         }
     }
 
-    /// Learns how the checkpointer's operation went.
+    /// Takes the result of the checkpointer's operation.
     pub fn told_checkpoint(&mut self, is_done: bool)
         ensures { self.new ≡ told_checkpoint self.old is_done }
     {
@@ -251,7 +251,7 @@ impl Machine {
         }
     }
 
-    /// A batch is submitted: it is what the writer appends next. Nothing changes unless the writer may take it.
+    /// Submits a batch, which the writer appends next. Changes nothing unless the writer can take it.
     pub fn submit(&mut self)
         ensures { self.new ≡ record self.old { writer = submitting self.old.writer } }
     {
@@ -262,7 +262,7 @@ impl Machine {
         }
     }
 
-    /// All that was appended is to be on the device. Nothing changes while a sync is under way.
+    /// Requests a sync of all that was appended. Changes nothing during a sync.
     pub fn ask_sync(&mut self)
         ensures { self.new ≡ record self.old { writer = syncing self.old.writer self.old.count } }
     {
@@ -273,7 +273,7 @@ impl Machine {
         }
     }
 
-    /// The next log is to be made. Nothing changes unless the folder is open, and none is made.
+    /// Requests the next log. Changes nothing unless the directory is open and there is no next log.
     pub fn ask_next(&mut self)
         ensures { self.new ≡ record self.old { next = asking_next self.old.writer self.old.next } }
     {
@@ -283,7 +283,7 @@ impl Machine {
         }
     }
 
-    /// The next log is to go on. Nothing changes unless it is there and the writer is ready.
+    /// Requests the switch to the next log. Changes nothing unless the next log exists and the writer is ready.
     pub fn ask_switch(&mut self)
         ensures { self.new ≡ record self.old { writer = switching self.old.writer self.old.next } }
     {
@@ -292,8 +292,9 @@ impl Machine {
         }
     }
 
-    /// A base is to be made of the logs before a number, and of some batches of the log of that number: no more than it has. Nothing
-    /// changes unless the folder is open, no base is under way, none has as much, and all of it is in older logs.
+    /// Requests a base of all logs below `number`, and of the first `past` batches of the log `number`, which must have as many.
+    /// Changes nothing unless the directory is open, the checkpointer is idle, no base contains as much, and all these batches are in
+    /// logs before the current one.
     pub fn ask_checkpoint(&mut self, number: u64, past: u64)
         ensures { self.new ≡ record self.old {
           checkpointer = checkpointing self.old.checkpointer (may_begin self.old number past) number past;
@@ -308,7 +309,7 @@ impl Machine {
         }
     }
 
-    /// Whether batches may be submitted now or soon.
+    /// Returns true if batches can be submitted, now or after an operation in progress.
     pub fn is_open(&self) -> bool
         ensures { result ≡ is_open self.now.writer }
     {
@@ -319,7 +320,7 @@ impl Machine {
     }
 }
 
-/// The writer's phase after the name of a number was removed, or none was, where others may follow up to another number.
+/// Returns the writer's phase after the log `number` was removed, or no log yet. Logs up to `top` are still to be removed.
 fn clearing_after(number: u64, top: u64, is_sealed: bool) -> Writer
     ensures { result ≡ clearing_after number top is_sealed }
 {
@@ -332,7 +333,7 @@ fn clearing_after(number: u64, top: u64, is_sealed: bool) -> Writer
     }
 }
 
-/// The checkpointer's phase where logs and bases are removed, from a number up to that of a base.
+/// Returns the checkpointer's phase if logs and bases from `number` on, and below `base`, are still to be removed.
 fn removing_from(number: u64, base: u64) -> Checkpointer
     ensures { result ≡ removing_from number base }
 {

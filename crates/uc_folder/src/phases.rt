@@ -1,73 +1,73 @@
-//! [`Writer`], [`NextLog`] and [`Checkpointer`]: the three that work on a folder.
+//! [`Writer`], [`NextLog`] and [`Checkpointer`]: the phases of a machine.
 
-/// The phase of the writer. Up to [`Writer::Settling`] it is of an opening.
+/// Phase of the writer. Those up to [`Writer::Settling`] belong to an opening.
 #[derive(Debug, Clone, Copy, PartialEq, Eq)]
 pub enum Writer {
-    /// The first log is made.
+    /// Creates the first log.
     Making,
-    /// Its name is synced.
+    /// Syncs the name of the first log.
     Founding,
-    /// The names that were read are synced. The number is the greatest of a log, and the log that goes on may be sealed: then it needs
-    /// no copy.
+    /// Syncs the names that the opening read. Holds the greatest number of a log, and true if the current log is sealed. A sealed log isn't
+    /// copied.
     Naming(u64, bool),
-    /// The log of a number is removed, which has no batch. Those after it follow, up to another number.
+    /// Removes a log without batches. Holds its number, the number of the last log to remove, and true if the current log is sealed.
     Clearing(u64, u64, bool),
-    /// The bytes that the log has after its batches are set aside.
+    /// Copies the bytes after the current log's last batch to another file.
     SettingAside,
-    /// Its batches are written to a new file.
+    /// Copies the current log's batches to a new file.
     Copying,
-    /// That is synced.
+    /// Syncs the new file.
     SealingCopy,
-    /// It takes the log's place.
+    /// Renames the new file to the current log.
     Replacing,
-    /// Its name is synced.
+    /// Syncs the name of the current log.
     Settling,
-    /// Nothing is under way: something may be asked for.
+    /// Waits for a request.
     Ready,
-    /// A batch is appended.
+    /// Appends a batch.
     Appending,
-    /// The rest that a failed append left is cut off: the batch isn't there then.
+    /// Cuts off the remains of a failed append. The batch isn't in the log then.
     Mending,
-    /// The log is synced, up to a number of records.
+    /// Syncs the log, up to a number of records.
     Syncing(u64),
-    /// Both: a batch is appended beside a sync up to a number of records.
+    /// Appends a batch during a sync, which covers a number of records.
     Both(u64),
-    /// An append has failed beside such a sync. What it left is cut off once the sync is done.
+    /// Waits for such a sync after the append failed. Its remains are cut off when the sync ends.
     Spoiled(u64),
-    /// The log is synced, and no record follows. Then the next one goes on.
+    /// Syncs the log, which takes no more records. The next log becomes the current one.
     Closing,
-    /// Nothing any more: what the log holds isn't known. The folder has to be opened again.
+    /// Does nothing any more, because the log's contents are unknown. The directory must be opened again.
     Failed,
 }
 
-/// The state of the log after the present one. Batches are appended meanwhile.
+/// State of the log after the current one. Batches are appended to the current log meanwhile.
 #[derive(Debug, Clone, Copy, PartialEq, Eq)]
 pub enum NextLog {
-    /// There is none.
+    /// It doesn't exist.
     Absent,
-    /// It is made.
+    /// It is being created.
     Creating,
-    /// Its name is synced.
+    /// Its name is being synced.
     Recording,
-    /// It is there, and may go on.
+    /// It exists and can become the current log.
     Waiting,
 }
 
-/// The phase of the checkpointer.
+/// Phase of the checkpointer.
 #[derive(Debug, Clone, Copy, PartialEq, Eq)]
 pub enum Checkpointer {
-    /// Nothing is under way.
+    /// Waits for a request.
     Idle,
-    /// The rows of a base are written under a temporary name: of the logs before a number, and of some batches of the log of that number.
+    /// Writes the rows of a base under a temporary name. Holds the base's number, and the number of batches of that log that it contains.
     Writing(u64, u64),
-    /// They are synced.
+    /// Syncs the base's file.
     Sealing(u64, u64),
-    /// They get their name.
+    /// Renames the base.
     Renaming(u64, u64),
-    /// It is synced.
+    /// Syncs the base's name.
     Fixing(u64, u64),
-    /// The log of a number is removed, which the newest base has.
+    /// Removes the log with a number, which the newest base contains.
     RemovingLog(u64),
-    /// The base of a number is removed, which is an older one.
+    /// Removes the bases with a number, which are older than the newest.
     RemovingBase(u64),
 }

@@ -1,4 +1,4 @@
-//! [`State`]: a machine in numbers, as a caller holds it who has no types of this library; and [`Step`], an operation in numbers.
+//! [`State`] and [`Step`]: a machine and an operation, encoded in numbers for C and Rust.
 ghost use Rattle.std.specs.Prelude.{◌≡◌, ◌<◌, ◌^◌, Some, IfSome};
 ghost use Rattle.uc_folder.specs.declared.machine.Machine.{Machine};
 ghost use Rattle.uc_folder.specs.States as states;
@@ -8,55 +8,55 @@ use crate::action::Action;
 use crate::machine::Machine;
 use crate::phases::{Checkpointer, NextLog, Writer};
 
-/// A machine in numbers. [`State::of`] makes it, and who holds it changes none of them.
+/// A machine, encoded in numbers. Made by [`State::of`]. A caller that keeps one must not change it.
 #[repr(C)]
 #[derive(Debug, Clone, Copy, PartialEq, Eq)]
 pub struct State {
-    /// The number of the log that is written.
+    /// Number of the current log.
     pub log: u64,
-    /// The number of batches that it has.
+    /// Number of batches in the current log.
     pub count: u64,
-    /// The number of these that may be acknowledged as synced. All batches of older logs may.
+    /// Number of batches of the current log that may be acknowledged as synced. All batches of older logs may be.
     pub synced: u64,
-    /// The number of the newest base whose name is on the device for certain.
+    /// Number of the newest base whose name is durable.
     pub base: u64,
     /// No log or base has a number below this one.
     pub least: u64,
-    /// The number of the newest base that may have its name.
+    /// Number of the newest base that may have its name.
     pub tried: u64,
-    /// The number of batches of the log of that number that it has.
+    /// Number of batches of the log `tried` that this base contains.
     pub past: u64,
-    /// The number that the writer's phase has.
+    /// Number in the writer's phase: of a log or of records. 0 if the phase has none.
     pub at: u64,
-    /// The greatest number of a log, in an opening.
+    /// During an opening, the greatest number of a log.
     pub top: u64,
-    /// The number that the checkpointer's phase has.
+    /// Number of the checkpointer's log or base. 0 while it is idle.
     pub number: u64,
-    /// The number of batches that it has beside that.
+    /// Number of batches of the log `number` that the checkpointer's base contains.
     pub part: u64,
-    /// The writer's phase.
+    /// Code of the writer's phase.
     pub writer: u32,
-    /// The state of the next log.
+    /// Code of the next log's state.
     pub next: u32,
-    /// The checkpointer's phase.
+    /// Code of the checkpointer's phase.
     pub checkpointer: u32,
-    /// Whether the log that goes on is sealed, in an opening.
+    /// During an opening, true if the current log is sealed.
     pub is_sealed: bool,
 }
 
-/// An operation in numbers.
+/// An operation, encoded in numbers.
 #[repr(C)]
 #[derive(Debug, Clone, Copy, PartialEq, Eq)]
 pub struct Step {
-    /// The number of its log or base; 0 if it has none.
+    /// Number of its log or base, or 0.
     pub number: u64,
-    /// The number of batches that it has beside that; 0 if it has none.
+    /// Number of batches or records, or 0.
     pub count: u64,
-    /// What it does: the place of [`Action`]'s variant.
+    /// Kind of the operation: the index of [`Action`]'s variant.
     pub kind: u32,
 }
 
-/// The writer's phase of some numbers.
+/// Returns the writer's phase that has these numbers, if there is one.
 fn writer_of(code: u32, at: u64, top: u64, is_sealed: bool) -> Option<Writer>
     ensures { result ≡ states.writer_of code at top is_sealed }
 {
@@ -82,7 +82,7 @@ fn writer_of(code: u32, at: u64, top: u64, is_sealed: bool) -> Option<Writer>
     }
 }
 
-/// The state of the next log of a number.
+/// Returns the state of the next log that has this code, if there is one.
 fn next_of(code: u32) -> Option<NextLog>
     ensures { result ≡ states.next_of code }
 {
@@ -95,7 +95,7 @@ fn next_of(code: u32) -> Option<NextLog>
     }
 }
 
-/// The checkpointer's phase of some numbers.
+/// Returns the checkpointer's phase that has these numbers, if there is one.
 fn checkpointer_of(code: u32, number: u64, part: u64) -> Option<Checkpointer>
     ensures { result ≡ states.checkpointer_of code number part }
 {
@@ -111,7 +111,7 @@ fn checkpointer_of(code: u32, number: u64, part: u64) -> Option<Checkpointer>
     }
 }
 
-/// The number of a writer's phase.
+/// Returns the code of a writer's phase.
 fn writer_code(writer: Writer) -> u32
     ensures { result ≡ states.writer_code writer }
 {
@@ -136,7 +136,7 @@ fn writer_code(writer: Writer) -> u32
     }
 }
 
-/// The number that a writer's phase has.
+/// Returns the number in a writer's phase, or 0.
 fn writer_at(writer: Writer) -> u64
     ensures { result ≡ states.writer_at writer }
 {
@@ -147,7 +147,7 @@ fn writer_at(writer: Writer) -> u64
     }
 }
 
-/// The greatest number of a log, in an opening.
+/// Returns the greatest number of a log during an opening, or 0.
 fn writer_top(writer: Writer) -> u64
     ensures { result ≡ states.writer_top writer }
 {
@@ -157,7 +157,7 @@ fn writer_top(writer: Writer) -> u64
     }
 }
 
-/// Whether the log that goes on is sealed, in an opening.
+/// Returns true during an opening whose current log is sealed.
 fn writer_sealed(writer: Writer) -> bool
     ensures { result ≡ states.writer_sealed writer }
 {
@@ -167,7 +167,7 @@ fn writer_sealed(writer: Writer) -> bool
     }
 }
 
-/// The number of the state of a next log.
+/// Returns the code of a next log's state.
 fn next_code(next: NextLog) -> u32
     ensures { result ≡ states.next_code next }
 {
@@ -179,7 +179,7 @@ fn next_code(next: NextLog) -> u32
     }
 }
 
-/// The number of a checkpointer's phase.
+/// Returns the code of a checkpointer's phase.
 fn checkpointer_code(checkpointer: Checkpointer) -> u32
     ensures { result ≡ states.checkpointer_code checkpointer }
 {
@@ -194,7 +194,7 @@ fn checkpointer_code(checkpointer: Checkpointer) -> u32
     }
 }
 
-/// The number that a checkpointer's phase has.
+/// Returns the number of the log or base in a checkpointer's phase, or 0.
 fn checkpointer_number(checkpointer: Checkpointer) -> u64
     ensures { result ≡ states.checkpointer_number checkpointer }
 {
@@ -209,7 +209,7 @@ fn checkpointer_number(checkpointer: Checkpointer) -> u64
     }
 }
 
-/// The number of batches that it has beside that.
+/// Returns the number of batches in a checkpointer's phase, or 0.
 fn checkpointer_part(checkpointer: Checkpointer) -> u64
     ensures { result ≡ states.checkpointer_part checkpointer }
 {
@@ -223,7 +223,7 @@ fn checkpointer_part(checkpointer: Checkpointer) -> u64
 }
 
 impl State {
-    /// The numbers of a machine.
+    /// Returns the numbers of a machine.
     pub fn of(machine: Machine) -> State
         ensures { result ≡ state_of machine }
     {
@@ -246,7 +246,7 @@ impl State {
         }
     }
 
-    /// The machine of the numbers; none if they are no machine's, or the log's number or its batches' isn't below 2^63.
+    /// Returns the machine with these numbers. Returns `None` if there is none, or if `log` or `count` isn't below 2^63.
     pub fn machine(&self) -> Option<Machine>
         ensures value { result ≡ machine_of self.now }
         ensures small { IfSome result (λ m. (m.log < 2 ^ 63) × (m.count < 2 ^ 63)) }
@@ -277,7 +277,7 @@ impl State {
 }
 
 impl Step {
-    /// The numbers of an operation.
+    /// Returns the numbers of an operation.
     pub fn of(action: Action) -> Step
         ensures { result ≡ step_of action }
     {
@@ -306,9 +306,9 @@ impl Step {
     }
 }
 
-/// The numbers of a machine are those of no other one, while its log's number and its batches' are below 2^63.
+/// Different machines have different numbers, if the numbers of their logs and of these logs' batches are below 2^63.
 ///
-/// Proof step: it does nothing when it runs.
+/// Proof step: does nothing when it runs.
 pub fn machines_have_numbers()
     ensures { (m : Machine) → m.log < 2 ^ 63 → m.count < 2 ^ 63 → machine_of (state_of m) ≡ Some m }
 {}

@@ -1,7 +1,7 @@
-//! One course of a folder, and listings.
+//! One history of a directory, and listings.
 use crate::{Action, Base, Found, Listed, Machine, Missing, found_in};
 
-/// The writer's next operation, which is done.
+/// Returns the writer's next operation, and reports success.
 fn written(machine: &mut Machine) -> Action {
     if machine.log > 9 || machine.count > 9 {
         return Action::Nothing;
@@ -11,21 +11,21 @@ fn written(machine: &mut Machine) -> Action {
     action
 }
 
-/// The sync that is under way, which is done.
+/// Returns the requested sync, and reports success.
 fn synced(machine: &mut Machine) -> Action {
     let action = machine.next_sync();
     machine.told_sync(true);
     action
 }
 
-/// The checkpointer's next operation, which is done.
+/// Returns the checkpointer's next operation, and reports success.
 fn checkpointed(machine: &mut Machine) -> Action {
     let action = machine.next_checkpoint();
     machine.told_checkpoint(true);
     action
 }
 
-/// The operation by which the next log is made, which is done.
+/// Returns the operation that creates the next log, and reports success.
 fn next_made(machine: &mut Machine) -> Action {
     if machine.log > 9 {
         return Action::Nothing;
@@ -35,8 +35,8 @@ fn next_made(machine: &mut Machine) -> Action {
     action
 }
 
-/// A batch is appended beside a sync of the one before it, in a new folder, and another one while the next log is made. Then that goes
-/// on.
+/// In a new directory, appends a batch during a sync of the previous one, and another while the next log is created. Then switches to the
+/// next log.
 fn grow(machine: &mut Machine) -> [Action; 8] {
     let made = written(machine);
     let named = written(machine);
@@ -62,7 +62,7 @@ fn grow(machine: &mut Machine) -> [Action; 8] {
     ]
 }
 
-/// A base is made of the log before the present one.
+/// Makes a base of the log before the current one.
 fn shrink(machine: &mut Machine) -> [Action; 7] {
     machine.ask_checkpoint(2, 0);
     [
@@ -76,7 +76,7 @@ fn shrink(machine: &mut Machine) -> [Action; 7] {
     ]
 }
 
-/// The result of an opening of a folder with nothing in it.
+/// Returns the result of opening an empty directory.
 fn empty() -> Found {
     Found {
         base: 1,
@@ -121,7 +121,7 @@ fn a_log_grows_and_a_base_lets_it_go(rt: HostRuntime) {
     assert!(rt; machine.is_open());
 }
 
-/// An append fails beside a sync, and what it left is cut off once that is done.
+/// Fails an append during a sync. Its remains are cut off when the sync ends.
 fn spoil(machine: &mut Machine) -> [Action; 4] {
     machine.submit();
     machine.ask_sync();
@@ -131,7 +131,7 @@ fn spoil(machine: &mut Machine) -> [Action; 4] {
     [append, wait, sync, written(machine)]
 }
 
-/// The writer's next operation, which isn't done.
+/// Returns the writer's next operation, and reports failure.
 fn refused(machine: &mut Machine) -> Action {
     if machine.log > 9 || machine.count > 9 {
         return Action::Nothing;
@@ -171,7 +171,7 @@ fn a_sealed_log_is_not_copied_and_a_spoiled_one_is_mended(rt: HostRuntime) {
     assert!(rt; machine.is_open());
 }
 
-/// Of a log three batches are kept, and the log after it is removed.
+/// Keeps three batches of a log, and removes the log after it.
 fn renew(machine: &mut Machine) -> [Action; 7] {
     [
         written(machine),
@@ -211,7 +211,7 @@ fn batches_that_are_kept_are_copied(rt: HostRuntime) {
     assert!(rt; is_open && synced == 3);
 }
 
-/// The result of an opening of a base and three logs, the last of which has no batch.
+/// Returns the result of opening a directory with two bases of one number and three logs, the last of which has no batch.
 fn listed(numbers: [u64; 3]) -> Result<Found, Missing> {
     let bases = [Base { number: 4, past: 7 }, Base { number: 4, past: 9 }];
     let [first, second, third] = numbers;

@@ -1,4 +1,4 @@
--- Entries that were spelled are read again.
+-- Decoding an encoded entry returns it.
 use Rattle.std.proofs.Common.{◌≡◌, ℕ, zero, suc, ◌+◌, ◌*◌, ◌/◌, ◌%◌, ◌^◌, ◌<◌, List, [], ◌∷◌, ◌++◌, length, take, drop, refl, sym, ap, ◌∙◌, subst, append_assoc, arith}
 use Rattle.std.specs.List.{AllByRecursion}
 use Rattle.std.proofs.lemmas.List.{take_at, drop_at, append-nil}
@@ -30,7 +30,7 @@ unpacked_again e =
 pub trailer_fits : (e : Entry) → e.seq < 2 ^ 62 → trailer_of e < 2 ^ 64
 trailer_fits e l = let small : tag_of e.what < 4 = tag_small e.what in omega (arith, small, l)
 
--- an entry by what its three numbers read
+-- the entry at the front, computed from its three numbers
 by_numbers : (bytes b c d : List ℕ) (k t s : ℕ) → number_from bytes ≡ (k, b) → number_from b ≡ (t, c) → number_from c ≡ (s, d) →
     entry_from bytes ≡ (entry_of s (take k d) (take t (drop k d)), drop t (drop k d))
 unfolding entry_from
@@ -75,7 +75,7 @@ unfolding entries_from
 length-entries_from zero bytes = refl
 length-entries_from (suc count) bytes = ap suc (length-entries_from count (entry_from bytes).1)
 
--- what the bytes of entries spell
+-- decoding the encoding of entries returns the entries
 pub spelled_by : (es : List Entry) → AllByRecursion Fits es → (count : ℕ) → count ≡ length es → (bytes : List ℕ) → bytes ≡ entries_text es → entries_from count bytes ≡ es
 spelled_by es fits count many bytes e =
     ap (λ n. entries_from n bytes) many ∙ ap (entries_from (length es)) (e ∙ sym (append-nil (entries_text es))) ∙ entries_again es [] fits

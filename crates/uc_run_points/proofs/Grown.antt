@@ -1,4 +1,4 @@
--- Points with one more, and with fewer.
+-- Points after one was appended, and after some were removed.
 use Rattle.std.proofs.Common.{◌≡◌, ℕ, ◌+◌, ◌-◌, ◌*◌, ◌/◌, ◌%◌, ◌<◌, ◌≤◌, Bool, true, false, cond, eqb, ltb, List, [], ◌∷◌, ◌++◌, length, get_or, take, drop, refl, sym, ap, ◌∙◌, append_assoc, length-append, arith, subst}
 use mathlib.Core.List.{IsPrefix}
 use Rattle.std.specs.List.{AllByRecursion}
@@ -21,7 +21,7 @@ entries_text-append (e ∷ es) fs = ap (λ (xs : List ℕ). entry_text e ++ xs) 
 pub text_pushed : (es : List Entry) (e : Entry) → entries_text (es ++ e ∷ []) ≡ entries_text es ++ entry_text e
 text_pushed es e = entries_text-append es (e ∷ []) ∙ ap (λ (xs : List ℕ). entries_text es ++ xs) (append-nil (entry_text e))
 
--- the bytes, cut at an entry
+-- the encoding of entries, cut between two entries
 pub text_cut : (n : ℕ) (es : List Entry) → entries_text es ≡ entries_text (take n es) ++ entries_text (drop n es)
 text_cut n es = ap entries_text (sym (take-append-drop n es)) ∙ entries_text-append (take n es) (drop n es)
 
@@ -29,7 +29,7 @@ take_text : (n : ℕ) (es : List Entry) → take (length (entries_text (take n e
 take_text n es =
     ap (take (length (entries_text (take n es)))) (text_cut n es) ∙ take_at (entries_text (take n es)) (entries_text (drop n es)) (length (entries_text (take n es))) refl
 
--- ---- one more
+-- ---- one more entry
 
 module _ (count : ℕ) (bytes : List ℕ) (spelled : AreSpelled count bytes) (e : Entry) (fits : Fits e) where
   abbrev es : List Entry
@@ -50,7 +50,7 @@ module _ (count : ℕ) (bytes : List ℕ) (spelled : AreSpelled count bytes) (e 
   pub spelled_pushed : AreSpelled (count + 1) (bytes ++ entry_text e)
   spelled_pushed = are_spelled (es ++ e ∷ []) all_fit (count + 1) many (bytes ++ entry_text e) text
 
--- each entry has bytes
+-- each entry takes at least one byte
 pub number_some : (n : ℕ) → 0 < length (number_text n)
 unfolding number_text
 number_some n = by (ltb n 248)
@@ -161,7 +161,7 @@ module _ (count : ℕ) (bytes starts : List ℕ) (spelled : AreSpelled count byt
         let few : count - 4 * quarter ≡ length (drop (4 * quarter) entries) = let l = length-drop (4 * quarter) entries in omega (arith, l, long) in
         spelled_by (drop (4 * quarter) entries) (All-drop Fits (4 * quarter) entries spelled.fits) (count - 4 * quarter) few (drop (get_or starts quarter 0) bytes) behind
 
--- ---- fewer
+-- ---- fewer entries
 
 module _ (count : ℕ) (bytes : List ℕ) (spelled : AreSpelled count bytes) (n : ℕ) (le : n ≤ count) where
   abbrev whole : List Entry
@@ -200,9 +200,9 @@ count_grows count bytes spelled e grown is =
     let l : length grown ≡ length bytes + length (entry_text e) = ap (λ (xs : List ℕ). length xs) is ∙ length-append bytes (entry_text e) in
     omega (arith, l, count_small count bytes spelled, entry_some e)
 
--- ---- the starts of many
+-- ---- the starts of many entries
 
--- the offset of an entry of some, behind others
+-- the offset of an entry, if other entries come first
 module _ (count : ℕ) (bytes : List ℕ) (spelled : AreSpelled count bytes) (k : ℕ) (lt : k < count) (rest : List ℕ) (is : rest ≡ entries_text (drop k (entries_from count bytes))) where
   abbrev fs : List Entry
   fs = entries_from count bytes
@@ -246,12 +246,12 @@ module _ (count : ℕ) (bytes : List ℕ) (spelled : AreSpelled count bytes) (k 
       ∙ ap (λ n. cond (eqb ((place + k) % 4) 0) (starts ++ n ∷ []) starts) to_here ∙ sym is_more in
       subst (λ (xs : List Entry). AreStarts xs more) one (subst (AreStarts (so_far ++ next ∷ [])) grown (starts_pushed so_far next starts are (eqb (length so_far % 4) 0) refl))
 
--- what is put at the end leaves the front
+-- appending keeps a prefix
 pub begins_with : (b : Bool) (xs ys ws zs : List ℕ) → IsPrefix xs ys → zs ≡ cond b (ys ++ ws) ys → IsPrefix xs zs
 begins_with true xs ys ws zs h e = (h.0 ++ ws, sym (append_assoc xs h.0 ws) ∙ ap (λ (us : List ℕ). us ++ ws) h.1 ∙ sym e)
 begins_with false xs ys ws zs h e = (h.0, h.1 ∙ sym e)
 
--- ---- two behind each other
+-- ---- one list of entries after another
 
 module _ (n m : ℕ) (bytes others : List ℕ) (spelled : AreSpelled n bytes) (more : AreSpelled m others) where
   both_fit : AllByRecursion Fits (entries_from n bytes ++ entries_from m others)

@@ -1,4 +1,4 @@
--- Numbers and entries that bytes spell, and bytes that spell none.
+-- Numbers and entries that bytes encode, and bytes that encode none.
 use Rattle.std.proofs.Common.{◌≡◌, ℕ, zero, suc, ◌+◌, ◌-◌, ◌*◌, ◌%◌, ◌^◌, ◌<◌, ◌≤◌, Bool, true, false, cond, eqb, ltb, List, [], ◌∷◌, ◌++◌, length, get_or, take, drop, refl, sym, ap, subst, ◌∙◌, append_assoc, length-append, le-ltb, replicate, arith}
 use Rattle.std.specs.List.{AllByRecursion}
 use Rattle.std.specs.Int.{w64, to_le_bytes, from_le_bytes, sum_through, byte_worth}
@@ -51,7 +51,7 @@ zeros_after (x ∷ xs) k (suc i) = zeros_after xs k i
 zeros_many : (k : ℕ) → length (zeros k) ≡ k
 zeros_many k = let z : ℕ = 0 in length-replicate k z
 
--- few bytes as a number, and the number's lowest bytes
+-- the lowest bytes of the number that these bytes make are these bytes
 low_bytes : (xs : List ℕ) → length xs ≤ 8 → IsBytes xs → take (length xs) (to_le_bytes w64 (from_le_bytes w64 xs)) ≡ xs
 low_bytes xs le small =
     let k : ℕ = 8 - length xs in
@@ -62,7 +62,7 @@ low_bytes xs le small =
     let e : to_le_bytes w64 (from_le_bytes w64 xs) ≡ ys = le_bytes_8 ys (from_le_bytes w64 xs) long all same in
     ap (take (length xs)) e ∙ take_at xs (zeros k) (length xs) refl
 
--- the first byte, and those after it
+-- bytes are the first byte, and then those after it
 pub first_and_rest : (bytes : List ℕ) → 1 ≤ length bytes → bytes ≡ get_or bytes 0 0 ∷ take (length bytes - 1) (drop 1 bytes)
 first_and_rest bytes some = drop_more bytes 0 0 (omega (arith, some)) ∙ ap (λ (xs : List ℕ). get_or bytes 0 0 ∷ xs) (sym (take_rest bytes 1))
 
@@ -71,7 +71,7 @@ short_there bytes n some is le =
     first_and_rest bytes some ∙ ap (λ (b : ℕ). b ∷ take (length bytes - 1) (drop 1 bytes)) (sym is)
     ∙ ap (λ (xs : List ℕ). xs ++ take (length bytes - 1) (drop 1 bytes)) (sym (number_short n (omega (arith, le))))
 
--- what a long number at the front says of the bytes
+-- the properties of the bytes after the first byte of a longer number
 pub record IsLong (b : ℕ) (after : List ℕ) (n : ℕ) : Type 0 where
   pub large : 248 ≤ n
   pub width : width_of n ≡ b - 247
@@ -105,7 +105,7 @@ known b after n rest fits long eq = by (ltb n 248) refl
               ∙ ap (from_le_bytes w64) (take_at low rest w many) ∙ low_again n fits;
         }
 
--- the same of the bytes of a slice
+-- the same properties, if the bytes are those of a slice
 pub long_there : (bytes : List ℕ) (n : ℕ) (rest : List ℕ) → 1 ≤ length bytes → 247 < get_or bytes 0 0 → n < 2 ^ 64 → bytes ≡ number_text n ++ rest → IsLong (get_or bytes 0 0) (take (length bytes - 1) (drop 1 bytes)) n
 long_there bytes n rest some long fits eq =
     known (get_or bytes 0 0) (take (length bytes - 1) (drop 1 bytes)) n rest fits (omega (arith, long)) (sym (first_and_rest bytes some) ∙ eq)
@@ -113,7 +113,7 @@ long_there bytes n rest some long fits eq =
 pub no_number : (n : ℕ) (bytes rest : List ℕ) → length bytes < 1 → bytes ≡ number_text n ++ rest → ⊥
 no_number n bytes rest none eq = absurd (omega (arith, none, ap (λ (xs : List ℕ). length xs) eq, length-append (number_text n) rest, number_some n))
 
--- the bytes after a front
+-- the bytes after the first `k` are bytes
 drop_bytes : (k : ℕ) (bytes : List ℕ) → IsBytes bytes → IsBytes (drop k bytes)
 drop_bytes zero bytes all = all
 drop_bytes (suc k) [] all = all
@@ -125,7 +125,7 @@ take_bytes (suc k) [] all i = omega arith
 take_bytes (suc k) (b ∷ bytes) all zero = all 0
 take_bytes (suc k) (b ∷ bytes) all (suc i) = take_bytes k bytes (λ j. all (suc j)) i
 
--- a long number that is spelled at the front
+-- bytes with these properties begin with the encoding of the number
 spelled_long : (b : ℕ) (after low rest : List ℕ) (n w : ℕ) → w ≡ b - 247 → 247 < b → b < 256 → IsBytes low → length low ≡ w → after ≡ low ++ rest → n ≡ from_le_bytes w64 low → 248 ≤ n → width_of n ≡ w → b ∷ after ≡ number_text n ++ rest
 spelled_long b after low rest n w width long byte small many split number large is =
     let head : b ≡ 247 + width_of n = omega (arith, width, long, is) in
@@ -149,12 +149,12 @@ long_spelled bytes low rest n w all some long width there front back number larg
 pub two_numbers : (bytes rest more : List ℕ) (n m : ℕ) → n < 2 ^ 64 → m < 2 ^ 64 → bytes ≡ number_text n ++ rest → bytes ≡ number_text m ++ more → (n ≡ m) × (rest ≡ more)
 two_numbers bytes rest more n m fits also e f = numbers_apart n m rest more fits also (sym e ∙ f)
 
--- an entry's numbers, and the bytes after them
+-- the encoding of an entry in parts: its numbers, and the bytes after them
 pub in_parts : (e : Entry) (bytes rest : List ℕ) → bytes ≡ entry_text e ++ rest → bytes ≡ number_text (length e.key) ++ (number_text (length (text_of e.what)) ++ (number_text (trailer_of e) ++ (e.key ++ (text_of e.what ++ rest))))
 unfolding entry_text
 in_parts e bytes rest eq = eq ∙ regrouped (number_text (length e.key)) (number_text (length (text_of e.what))) (number_text (trailer_of e)) e.key (text_of e.what) rest
 
--- a head that is read is that of each entry that is spelled there
+-- the decoded numbers are those of any entry that is encoded here
 pub record IsHeadOf (k t s : ℕ) (rest : List ℕ) (e : Entry) (after : List ℕ) : Type 0 where
   pub key : k ≡ length e.key
   pub text : t ≡ length (text_of e.what)
@@ -180,7 +180,7 @@ no_text (Put value) e = absurd (omega (arith, e))
 no_text Delete e = refl
 no_text (Merge operand) e = absurd (omega (arith, e))
 
--- so the head is whole
+-- such a head is whole
 pub whole_head : (k t s : ℕ) (rest : List ℕ) (e : Entry) (after : List ℕ) → IsHeadOf k t s rest e after → IsWhole k t s (length rest)
 whole_head k t s rest e after is =
     let small : tag_of e.what < 3 = tag_small e.what in
@@ -203,7 +203,7 @@ text_again zero text none = sym (nil_from_length text (none refl))
 text_again (suc zero) text none = refl
 text_again (suc (suc n)) text none = refl
 
--- what a whole head begins
+-- bytes with a whole head begin with the encoding of an entry
 pub head_begins : (bytes rest : List ℕ) (k t s : ℕ) → k < 2 ^ 64 → t < 2 ^ 64 → s < 2 ^ 64 → bytes ≡ number_text k ++ (number_text t ++ (number_text s ++ rest)) → IsWhole k t s (length rest) → Begins bytes (drop (k + t) rest)
 unfolding entry_text
 head_begins bytes rest k t s fk ft fs eq whole =
@@ -232,7 +232,7 @@ head_begins bytes rest k t s fk ft fs eq whole =
 
 -- ---- the loop
 
--- entries of which the first bytes are read
+-- the invariant of the loop: the bytes before the rest encode `count` entries
 pub record IsRead (bytes rest : List ℕ) (count : ℕ) (starts : List ℕ) : Type 0 where
   pub entries : List Entry
   pub fits : AllByRecursion Fits entries

@@ -1,4 +1,4 @@
--- A number that was spelled is read again.
+-- Decoding an encoded number returns it.
 use Rattle.std.proofs.Common.{◌≡◌, ℕ, ◌+◌, ◌-◌, ◌^◌, ◌<◌, ◌≤◌, Bool, true, false, cond, ltb, List, [], ◌∷◌, ◌++◌, length, take, drop, refl, ap, ◌∙◌, arith}
 use Rattle.std.specs.Int.{w64, to_le_bytes, from_le_bytes}
 use Rattle.std.proofs.lemmas.Bool.Decides.{nat_tests}
@@ -10,7 +10,7 @@ pick : (P : ℕ → Type 0) (n bound k m : ℕ) (b : Bool) → ltb n bound ≡ b
 pick P n bound k m true e small large = small (grind (arith, nat_tests))
 pick P n bound k m false e small large = large
 
--- what holds of each width holds of a number's
+-- a property that holds for each width holds for the width of a number
 pub at_width : (P : ℕ → Type 0) (n : ℕ) → (n < 2 ^ 8 → P 1) → (n < 2 ^ 16 → P 2) → (n < 2 ^ 24 → P 3) → (n < 2 ^ 32 → P 4) → (n < 2 ^ 40 → P 5) → (n < 2 ^ 48 → P 6) → (n < 2 ^ 56 → P 7) → P 8 → P (width_of n)
 unfolding width_of
 at_width P n p1 p2 p3 p4 p5 p6 p7 p8 =
@@ -27,7 +27,7 @@ width_bound n =
     at_width (λ w. (0 < w) × (w ≤ 8)) n (λ _. (omega arith, omega arith)) (λ _. (omega arith, omega arith)) (λ _. (omega arith, omega arith)) (λ _. (omega arith, omega arith))
     (λ _. (omega arith, omega arith)) (λ _. (omega arith, omega arith)) (λ _. (omega arith, omega arith)) (omega arith, omega arith)
 
--- the first bytes of a number make it if the others are 0
+-- the first `w` bytes of a number determine it, since the others are 0
 abbrev pub IsLow : ℕ → ℕ → Type 0
 IsLow n w = from_le_bytes w64 (take w (to_le_bytes w64 n)) ≡ n
 

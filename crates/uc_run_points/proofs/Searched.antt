@@ -1,4 +1,4 @@
--- What a search has seen.
+-- Facts that a search has found.
 use Rattle.std.proofs.Common.{◌≡◌, ℕ, zero, suc, ◌+◌, ◌<◌, ◌≤◌, Bool, true, false, ltb, List, [], ◌∷◌, length, get_or, drop, Some, refl, sym, ap, ◌∙◌, subst, arith}
 use Rattle.std.specs.List.{AllWithin, HoldsAt, slice_get}
 use Rattle.std.specs.List.Sorted.{IsPartitionedBy}
@@ -39,7 +39,7 @@ module _ {X : Type 0} where
         by true f = absurd (false≢true (sym e ∙ sym (ap test (get_or_from_slice_get xs middle x d at)) ∙ parted middle j d low l f))
         by false f = refl
 
--- where all that pass come first, the first place behind which none is known to pass is their end
+-- If all points that pass come first, and the point at `k` is known to fail, then all from `k` on fail.
 pub passed_point : {X : Type 0} (test : X → Bool) (xs : List X) (k : ℕ) → IsPartitionedBy test xs → k ≤ length xs → (k < length xs → HoldsAt (λ y. test y ≡ false) xs k) → AllWithin (λ y. test y ≡ false) xs k (length xs)
 passed_point test xs k parted le there j d low l = by (test (get_or xs j d)) refl
   where

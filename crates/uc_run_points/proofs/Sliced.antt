@@ -1,9 +1,9 @@
--- Parts of a list that stand behind its first elements.
+-- Slices: parts of a list after its first elements.
 use Rattle.std.proofs.Common.{◌≡◌, ℕ, ◌+◌, ◌-◌, ◌≤◌, List, length, take, drop, sym, ap, ◌∙◌, arith}
 use Rattle.std.proofs.lemmas.List.{drop-drop, take-take, drop-take, length-take-le, length-drop}
 use Rattle.uc_run_entry.specs.declared.entry.Entry.{Entry}
 
--- some are those of all that stand behind the first few
+-- `es` is the part of `all` that begins after `begin` elements
 abbrev pub IsPart : List Entry → List Entry → ℕ → Type 0
 IsPart all es begin = es ≡ take (length es) (drop begin all)
 

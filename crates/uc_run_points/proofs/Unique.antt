@@ -1,4 +1,4 @@
--- Each spelling is of one list of entries.
+-- Different lists of entries have different encodings.
 use Rattle.std.proofs.Common.{◌≡◌, ℕ, zero, suc, ◌^◌, ◌<◌, List, [], ◌∷◌, ◌++◌, length, drop, refl, sym, ap, ◌∙◌, append_assoc, length-append, arith}
 use Rattle.std.specs.List.{AllByRecursion}
 use Rattle.uc_run_entry.specs.declared.entry.Entry.{Entry}
@@ -19,7 +19,7 @@ entries_apart e f xs ys fits also eq =
     let both : (e, xs) ≡ (f, ys) = sym (entry_again e xs fits) ∙ (ap entry_from eq ∙ entry_again f ys also) in
     (ap (λ (q : Entry × List ℕ). q.0) both, ap (λ (q : Entry × List ℕ). q.1) both)
 
--- an entry has bytes
+-- the encoding of an entry isn't empty
 pub some_bytes : (e : Entry) (xs : List ℕ) → [] ≡ entry_text e ++ xs → ⊥
 some_bytes e xs eq =
     let l : 0 ≡ length (entry_text e ++ xs) = ap (λ (bs : List ℕ). length bs) eq in
@@ -34,7 +34,7 @@ entries_alike (e ∷ es) (f ∷ fs) fits also eq =
     let rest : es ≡ fs = entries_alike es fs fits.1 also.1 two.1 in
     ap (λ (x : Entry). x ∷ es) two.0 ∙ ap (λ (xs : List Entry). f ∷ xs) rest
 
--- entries, then bytes that begin with none: no entries are spelled so
+-- the encoding of some entries, and then bytes that begin with no entry, isn't the encoding of any entries
 none_so : (before es : List Entry) (rest : List ℕ) → AllByRecursion Fits before → AllByRecursion Fits es → (rest ≡ [] → ⊥) → ((after : List ℕ) → Begins rest after → ⊥) → entries_text before ++ rest ≡ entries_text es → ⊥
 none_so [] [] rest fits also some none eq = some eq
 none_so [] (e ∷ es) rest fits also some none eq = none (entries_text es) (record { entry = e; fits = also.0; spelled = eq })

@@ -1,4 +1,4 @@
--- Entries that are read one by one.
+-- Entries that are decoded one by one.
 use Rattle.std.proofs.Common.{◌≡◌, ℕ, zero, suc, ◌-◌, ◌<◌, ◌≤◌, min, List, [], ◌∷◌, length, take, drop, refl, sym, ap, ◌∙◌, arith}
 use Rattle.uc_run_entry.specs.declared.entry.Entry.{Entry}
 use Rattle.uc_run_points.specs.Spelling.{entry_from, entries_from, entries_ahead}
@@ -8,7 +8,7 @@ pub none_ahead : (bytes : List ℕ) → entries_from 0 bytes ≡ []
 unfolding entries_from
 none_ahead bytes = refl
 
--- the first of some is read
+-- decoding the first of `n` entries
 pub first_read : (n : ℕ) (bytes : List ℕ) → entries_ahead n (entry_from bytes).0 (entry_from bytes).1 ≡ entries_from n bytes
 unfolding entries_from entries_ahead
 first_read zero bytes = refl
@@ -47,13 +47,13 @@ take-entries_ahead (suc k) (suc n) first behind =
     let e : suc (min n k) ≡ min (suc n) (suc k) = omega arith in
     ap (λ (xs : List Entry). first ∷ xs) (take-entries_from k n behind) ∙ ap (λ m. entries_ahead m first behind) e
 
--- behind the only one there is none
+-- no entry remains after the only one
 pub none_behind : (n : ℕ) (first : Entry) (behind : List ℕ) → n ≤ 1 → drop 1 (entries_ahead n first behind) ≡ []
 unfolding entries_from entries_ahead
 none_behind zero first behind l = refl
 none_behind (suc zero) first behind l = refl
 none_behind (suc (suc n)) first behind l = absurd (omega (arith, l))
 
--- one step on, what is ahead begins at the bytes behind the first
+-- after one step, the remaining entries are those that the bytes after the first encode
 pub one_on : (n : ℕ) (first : Entry) (behind : List ℕ) → 0 < n → entries_ahead (n - 1) (entry_from behind).0 (entry_from behind).1 ≡ drop 1 (entries_ahead n first behind)
 one_on n first behind l = first_read (n - 1) behind ∙ sym (ap (λ (es : List Entry). drop 1 es) (some_ahead first behind n l))

@@ -1,4 +1,4 @@
--- Bytes that spell no entries, and the first place where they don't.
+-- Bytes that encode no entries, and the offset of the first fault.
 use Rattle.std.specs.Prelude.{◌≡◌, ℕ, ◌+◌, ◌%◌, ◌<◌, ◌≤◌, List, ◌++◌, length, drop}
 use Rattle.std.specs.List.{AllByRecursion}
 use Rattle.uc_run_entry.specs.declared.entry.Entry.{Entry}
@@ -6,19 +6,19 @@ use Rattle.uc_run_points.specs.Spelling.{entry_text, entries_text, Fits}
 use Rattle.uc_run_points.specs.declared.points_error.PointsError.{PointsError}
 use Rattle.uc_run_points.specs.declared.points_error.PointsError.TheVariants.{Fault, Memory}
 
--- the tag of a point is one, a deletion has no byte string, and the byte strings are among the bytes that follow
+-- the tag of a point is valid, a deletion has no value, and the bytes that follow contain the key and the value or operand
 pub record IsWhole (key_len text_len trailer rest_len : ℕ) : Type 0 where
   pub tag : trailer % 4 < 3
   pub none : trailer % 4 ≡ 0 → text_len ≡ 0
   pub there : key_len + text_len ≤ rest_len
 
--- bytes begin with the spelling of an entry, which the rest follows
+-- the bytes are the encoding of an entry, and then the rest
 pub record Begins (bytes rest : List ℕ) : Type 0 where
   pub entry : Entry
   pub fits : Fits entry
   pub spelled : bytes ≡ entry_text entry ++ rest
 
--- entries end at an offset, and none follows them, although bytes do
+-- valid entries end at the offset, bytes follow, and these begin with no valid entry
 pub record IsFaultAt (bytes : List ℕ) (offset : ℕ) : Type 0 where
   pub before : List Entry
   pub fits : AllByRecursion Fits before
@@ -27,7 +27,7 @@ pub record IsFaultAt (bytes : List ℕ) (offset : ℕ) : Type 0 where
   pub there : offset < length bytes
   pub none : (rest : List ℕ) → Begins (drop offset bytes) rest → ⊥
 
--- the error that bytes give
+-- the error for these bytes
 abbrev pub IsErrorOf : List ℕ → PointsError → Type 0
 IsErrorOf bytes (Fault offset) = IsFaultAt bytes offset
 IsErrorOf bytes Memory = Unit {0}

@@ -1,8 +1,8 @@
--- A number in one to nine bytes. The first says how many follow, as SQLite4's varint does.
+-- A number in one to nine bytes. The first byte determines the number of the others, as in SQLite4's varint.
 use Rattle.std.specs.Prelude.{ℕ, ◌+◌, ◌-◌, ◌^◌, List, [], ◌∷◌, take, drop, nat_lt, if◌then◌else◌}
 use Rattle.std.specs.Int.{w64, to_le_bytes, from_le_bytes}
 
--- how many bytes hold a number below 2 ^ 64
+-- the number of bytes of a number below 2 ^ 64, without leading zeros
 unfoldable pub width_of : ℕ → ℕ
 width_of n =
     if nat_lt n (2 ^ 8) then 1 else
@@ -13,11 +13,11 @@ width_of n =
     if nat_lt n (2 ^ 48) then 6 else
     if nat_lt n (2 ^ 56) then 7 else 8
 
--- one below 248 is its byte; before the bytes of another, lowest first, stands 247 and how many they are
+-- A number below 248 is one byte. A larger one is 247 plus its width, and then its bytes, lowest first.
 unfoldable pub number_text : ℕ → List ℕ
 number_text n = if nat_lt n 248 then n ∷ [] else (247 + width_of n) ∷ take (width_of n) (to_le_bytes w64 n)
 
--- the number at the front, and the bytes behind it; bytes that aren't there count as 0
+-- the number at the front, and the bytes after it; missing bytes count as 0
 unfoldable pub number_from : List ℕ → ℕ × List ℕ
 number_from [] = (0, [])
 number_from (b ∷ rest) = if nat_lt b 248 then (b, rest) else (from_le_bytes w64 (take (b - 247) rest), drop (b - 247) rest)

@@ -1,4 +1,4 @@
-//! Whether bytes spell points: each number in as few bytes as it needs, and each point whole.
+//! Validation of bytes: each number in its shortest encoding, and each point whole.
 ghost use Rattle.std.specs.Prelude.{◌≡◌, ◌↔◌, ℕ, ◌<◌, ◌^◌, ◌++◌, List, [], length, IsTrue, IfSome, IfNone, IfOk, IfErr};
 ghost use Rattle.uc_run_points.specs.Faults.{Begins, IsWhole, IsErrorOf};
 ghost use Rattle.uc_run_points.specs.Numbers.{number_text};
@@ -9,19 +9,19 @@ use crate::number::spelled_number;
 use crate::points::push_start;
 use crate::points_error::PointsError;
 
-/// The numbers before a point's byte strings, and the bytes after them.
+/// The numbers before a point's byte strings, and the bytes that follow them.
 #[derive(Drop)]
 struct Head<'a> {
-    /// The length of the key in bytes.
+    /// Length of the key in bytes.
     key_len: u64,
-    /// The length of the value or operand in bytes.
+    /// Length of the value or operand in bytes.
     text_len: u64,
-    /// The sequence above two bits of the tag.
+    /// The sequence number times four, plus the tag.
     trailer: u64,
     rest: &'a [u8],
 }
 
-/// The numbers at the front, each in as few bytes as it needs.
+/// Returns the numbers at the front, or `None` unless each is in its shortest encoding.
 fn spelled_head(bytes: &[u8]) -> Option<Head<'_>>
     ensures some { IfSome result (λ head. bytes.now ≡
         number_text head.key_len ++ (number_text head.text_len ++ (number_text head.trailer ++ head.rest.now))) }
@@ -42,7 +42,7 @@ fn spelled_head(bytes: &[u8]) -> Option<Head<'_>>
 }
 
 impl<'a> Head<'a> {
-    /// Whether its tag is one, and its byte strings follow.
+    /// Returns true if the tag is valid and the bytes that follow contain the key and the value or operand.
     fn is_whole(&self) -> bool
         ensures { IsTrue result ↔ IsWhole self.now.key_len self.now.text_len self.now.trailer (length self.now.rest.now) }
     {
@@ -56,7 +56,7 @@ impl<'a> Head<'a> {
     }
 }
 
-/// The bytes after the point at the front, if one is spelled there.
+/// Returns the bytes after the first point, or `None` if no valid point is at the front.
 fn after_spelled(bytes: &[u8]) -> Option<&[u8]>
     ensures some { IfSome result (λ rest. Begins bytes.now rest.now) }
     ensures none { IfNone result ((rest : List ℕ) → Begins bytes.now rest → ⊥) }
@@ -68,7 +68,7 @@ fn after_spelled(bytes: &[u8]) -> Option<&[u8]>
     Some(&head.rest[(head.key_len + head.text_len) as usize..])
 }
 
-/// The number of points that bytes spell. It pushes the offset of each that is the first of a quarter.
+/// Returns the number of points that bytes encode. Pushes the offset of the first point of each quarter.
 pub(crate) fn count_spelled(bytes: &[u8], starts: &mut Vec<usize>) -> Result<usize, PointsError>
     requires { starts.old.items ≡ [] }
     ensures spelled { IfOk result (λ count. AreSpelled count bytes.now) }

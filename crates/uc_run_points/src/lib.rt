@@ -1,15 +1,15 @@
-//! Points of a run in little memory: their bytes in one arena.
+//! Points of a run, encoded in one arena to save memory.
 //!
-//! [`Points`] keeps entries one after the other, as bytes, and the place of each fourth. A contract sees it as the list of
-//! the entries. `specs/Spelling.antt` says how an entry is spelled; read it first, then `points.rt`.
+//! [`Points`] is the entries' encodings, one after the other, with the offset of every fourth entry. A contract sees it as the list of
+//! the entries. `specs/Spelling.antt` defines the encoding. Read it first, then `points.rt`.
 //!
-//! A [`PointRef`] is one of the points, and a [`PointSlice`] some that are neighbours. Both borrow: the texts stay where
-//! they are. [`PointsAhead`] walks over points, and looks at the bytes of each once.
+//! A [`PointRef`] is one point, and a [`PointSlice`] consecutive points. Both borrow from the arena and copy no key or value.
+//! [`PointsAhead`] walks over points, and decodes each once.
 //!
-//! [`Points::as_bytes`] lends the bytes, and [`Points::from_bytes`] takes over bytes that spell points, or returns the offset of the
-//! first fault (`specs/Faults.antt`). `laws.rt` has the laws: a spelling is of one list of entries, and bytes with a fault of none.
+//! [`Points::as_bytes`] returns the arena. [`Points::from_bytes`] makes an arena of bytes that encode points, or returns the offset of
+//! the first fault (`specs/Faults.antt`). By `laws.rt`, bytes encode at most one list of entries, and bytes with a fault none.
 //!
-//! An `Err(AllocError)` comes only if an allocation fails.
+//! A call without an error type of its own returns `Err(AllocError)` only if allocation fails.
 //!
 //! Tests: `tests/runs.py`, `tests/drawn.py`.
 #![tactic(auto)]

@@ -6,13 +6,13 @@ ghost use Rattle.uc_run_points.specs.Numbers as numbers;
 
 use std::alloc::AllocError;
 
-/// The least number that has more than its own byte.
+/// The least number that takes more than one byte.
 const LEAST_LONG: u64 = 248;
 
-/// The first byte of a long number, less the number of bytes after it.
+/// The first byte of a longer number, minus the number of bytes that follow it.
 const LONG: u8 = 247;
 
-/// The number of bytes that hold a number.
+/// Returns the width of a number: the bytes that it takes without leading zeros.
 #[tactic(auto, unfolding(crate::specs::Numbers::width_of))]
 fn width_of(number: u64) -> usize
     ensures width { result ≡ numbers.width_of number }
@@ -37,7 +37,7 @@ fn width_of(number: u64) -> usize
     }
 }
 
-/// Pushes a number. An `Err` may leave some of its bytes pushed.
+/// Pushes the encoding of a number. On `Err` some of its bytes may have been pushed.
 #[tactic(auto, unfolding(crate::specs::Numbers::number_text))]
 pub fn push_number(bytes: &mut Vec<u8>, number: u64) -> Result<(), AllocError>
     ensures pushed { OnOk result (bytes.new.items ≡ bytes.old.items ++ numbers.number_text number) }
@@ -53,7 +53,7 @@ pub fn push_number(bytes: &mut Vec<u8>, number: u64) -> Result<(), AllocError>
     Ok(())
 }
 
-/// The byte at a place, or 0 if there is none.
+/// Returns the byte at index `place`, or 0 if there is none.
 #[inline]
 fn byte_or_zero(bytes: &[u8], place: usize) -> u8
     ensures { result ≡ slice_index bytes.now place }
@@ -64,7 +64,7 @@ fn byte_or_zero(bytes: &[u8], place: usize) -> u8
     }
 }
 
-/// The first eight bytes as a number, the lowest first, with zeros for those that aren't there. Most numbers have few.
+/// Returns the first eight bytes as a little-endian number. Missing bytes count as 0. Fast for up to four bytes, the usual case.
 #[inline]
 fn low_number(bytes: &[u8]) -> u64
     ensures { result ≡ from_le_bytes w64 bytes.now }
@@ -78,7 +78,7 @@ fn low_number(bytes: &[u8]) -> u64
     }
 }
 
-/// As [`low_number`], for any count of bytes.
+/// The general case of [`low_number`]: any number of bytes.
 fn wide_number(bytes: &[u8]) -> u64
     ensures { result ≡ from_le_bytes w64 bytes.now }
 {
@@ -94,7 +94,7 @@ fn wide_number(bytes: &[u8]) -> u64
     ])
 }
 
-/// The number at the front, and the bytes after it.
+/// Returns the number at the front, and the bytes that follow it.
 #[inline]
 #[tactic(auto, unfolding(crate::specs::Numbers::number_from))]
 pub fn read_number(bytes: &[u8]) -> (u64, &[u8])
@@ -112,7 +112,7 @@ pub fn read_number(bytes: &[u8]) -> (u64, &[u8])
     (low_number(low), rest)
 }
 
-/// The bytes after the number at the front.
+/// Returns the bytes after the number at the front.
 #[inline]
 #[tactic(auto, unfolding(crate::specs::Numbers::number_from))]
 pub(crate) fn skip_number(bytes: &[u8]) -> &[u8]
@@ -129,14 +129,14 @@ pub(crate) fn skip_number(bytes: &[u8]) -> &[u8]
     rest
 }
 
-/// Whether a number needs more than its own byte, and this many bytes.
+/// Returns true if the number takes more than one byte and has this width.
 fn needs(number: u64, width: usize) -> bool
     ensures { IsTrue result ↔ ((248 ≤ number) × (numbers.width_of number ≡ width)) }
 {
     LEAST_LONG <= number && width_of(number) == width
 }
 
-/// The number at the front, and the bytes after it, if the number is spelled there in as few bytes as it needs.
+/// Returns the number at the front and the bytes that follow it, or `None` unless it is in its shortest encoding.
 pub fn spelled_number(bytes: &[u8]) -> Option<(u64, &[u8])>
     ensures some { IfSome result (λ read. bytes.now ≡ numbers.number_text read.0 ++ read.1.now) }
     ensures none { IfNone result ((number : ℕ) (rest : List ℕ) → number < 2 ^ 64 →

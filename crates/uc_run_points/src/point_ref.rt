@@ -1,4 +1,4 @@
-//! [`PointRef`]: a point with borrowed texts.
+//! [`PointRef`]: a point with borrowed byte strings.
 ghost use Rattle.std.specs.Prelude.{◌≡◌, ◌<◌, ◌^◌, ◌↔◌, IsTrue, IfOk};
 ghost use Rattle.uc_run_entry.specs.Overwriting as overwriting;
 ghost use Rattle.uc_run_entry.specs.Packed as packed;
@@ -11,17 +11,17 @@ use std::marker::Model;
 use uc_bytes::Bytes;
 use uc_run_entry::{Entry, WhatRef};
 
-/// The tag of a deletion (RocksDB, `dbformat.h`, `kTypeDeletion`).
+/// Tag of a deletion: `kTypeDeletion` in RocksDB's `dbformat.h`.
 const DELETION: u64 = 0x0;
 
-/// The tag of a put (`kTypeValue`).
+/// Tag of a put: `kTypeValue`.
 const VALUE: u64 = 0x1;
 
-/// A point of a run, one change of one key, with borrowed texts. A contract sees it as the [`Entry`].
+/// A point of a run: one change to one key, with borrowed byte strings. A contract sees it as the [`Entry`].
 #[derive(Drop)]
 pub struct PointRef<'a> {
     key: &'a [u8],
-    /// Bytes that begin with the trailer, the sequence above two bits of the tag. Most walks never read it.
+    /// Begins with the trailer: the sequence number times four, plus the tag. Decoded on demand, since most walks do not read it.
     trailer: &'a [u8],
     text: &'a [u8],
 }
@@ -36,7 +36,7 @@ impl<'a> Model for PointRef<'a> {
     ghost view = { λ p. entry_of (number_from p.trailer.now).0 p.key.now p.text.now };
 }
 
-/// The change that a tag and a byte string spell.
+/// Returns the change that a tag and a byte string encode.
 #[inline]
 fn said(tag: u64, text: &[u8]) -> WhatRef<'_>
     ensures { packed.what_of result ≡ packed.tagged tag text.now }
@@ -49,7 +49,7 @@ fn said(tag: u64, text: &[u8]) -> WhatRef<'_>
 }
 
 impl<'a> PointRef<'a> {
-    /// The point that two texts make with the trailer at the front of some bytes.
+    /// Returns the point with this key and this value or operand. `trailer` begins with the encoded trailer.
     #[inline]
     pub(crate) fn new(key: &'a [u8], trailer: &'a [u8], text: &'a [u8]) -> PointRef<'a>
         ensures { result ≡ spelling.entry_of (number_from trailer.now).0 key.now text.now }
@@ -57,7 +57,7 @@ impl<'a> PointRef<'a> {
         PointRef { key, trailer, text }
     }
 
-    /// The point again: its texts stay where they are.
+    /// Returns the same point.
     #[inline]
     pub(crate) fn again(&self) -> PointRef<'a>
         ensures { result ≡ self.now }
@@ -69,7 +69,7 @@ impl<'a> PointRef<'a> {
         }
     }
 
-    /// The key that it changes.
+    /// Returns the key.
     #[inline]
     pub fn key(&self) -> &'a [u8]
         ensures { result.now ≡ self.now.key }
@@ -77,7 +77,7 @@ impl<'a> PointRef<'a> {
         self.key
     }
 
-    /// Its place in the order of all writes.
+    /// Returns the sequence number.
     #[inline]
     pub fn seq(&self) -> u64
         ensures value { result ≡ self.now.seq }
@@ -86,7 +86,7 @@ impl<'a> PointRef<'a> {
         read_number(self.trailer).0 / 4
     }
 
-    /// The change to the key.
+    /// Returns the change to the key.
     #[inline]
     pub fn what(&self) -> WhatRef<'a>
         ensures { packed.what_of result ≡ self.now.what }
@@ -94,7 +94,7 @@ impl<'a> PointRef<'a> {
         said(read_number(self.trailer).0 % 4, self.text)
     }
 
-    /// Its sequence, and what it says of the key: both for a look at the trailer.
+    /// Returns the sequence number and the change. Decodes the trailer once for both.
     #[inline]
     pub fn seq_and_what(&self) -> (u64, WhatRef<'a>)
         ensures seq { result.0 ≡ self.now.seq }
@@ -105,7 +105,7 @@ impl<'a> PointRef<'a> {
         (trailer / 4, said(trailer % 4, self.text))
     }
 
-    /// Whether it overwrites what is older: a put and a delete do, and a merge doesn't.
+    /// Returns true for a put or a delete, which hide older writes of the key, and false for a merge.
     #[inline]
     pub fn overwrites(&self) -> bool
         ensures { result ≡ overwriting.overwrites self.now }
@@ -116,7 +116,7 @@ impl<'a> PointRef<'a> {
         }
     }
 
-    /// The entry, with texts of its own.
+    /// Returns a copy that owns its byte strings. Fails if allocation fails.
     pub fn to_entry(&self, alloc: Global) -> Result<Entry, AllocError>
         ensures { IfOk result (λ entry. entry ≡ self.now) }
     {
@@ -127,7 +127,7 @@ impl<'a> PointRef<'a> {
         })
     }
 
-    /// Whether both say the same.
+    /// Returns true if both points have the same key, sequence number and change.
     pub fn same(&self, other: &PointRef<'_>) -> bool
         ensures { IsTrue result ↔ (self.now ≡ other.now) }
     {

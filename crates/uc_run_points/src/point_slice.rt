@@ -1,4 +1,4 @@
-//! [`PointSlice`]: points that are neighbours.
+//! [`PointSlice`]: consecutive points.
 ghost use Rattle.std.specs.Prelude.{◌≡◌, ◌≤◌, ◌<◌, ◌^◌, ◌-◌, ◌↔◌, true, false, Bool, Some, [], length, take, drop, IsTrue};
 ghost use Rattle.std.specs.List.{slice_get, AllWithin, HoldsAt};
 ghost use Rattle.std.specs.List.Sorted.{IsPartitionPoint, IsPartitionedBy};
@@ -9,14 +9,14 @@ use crate::points::{Points, QUARTER_POINTS};
 use crate::points_ahead::PointsAhead;
 use std::marker::Model;
 
-/// Points that are neighbours, as a slice has elements. It takes no memory. A contract sees their list.
+/// Consecutive points of a run, which a slice borrows and doesn't copy. A contract sees the list of them.
 #[derive(Drop)]
 pub struct PointSlice<'a> {
-    /// All points, of which these are some.
+    /// The points from which the slice is cut.
     points: &'a Points,
-    /// The number of points before the first of these.
+    /// Number of points before the slice.
     begin: usize,
-    /// These points: the bytes of the first are at hand.
+    /// The points of the slice. The first is already decoded.
     ahead: PointsAhead<'a>,
 }
 
@@ -33,12 +33,12 @@ impl<'a> Model for PointSlice<'a> {
 }
 
 impl<'a> PointSlice<'a> {
-    /// All points.
+    /// Returns the slice of all points.
     #[inline]
     pub(crate) fn new(points: &'a Points) -> PointSlice<'a>
         ensures { result ≡ points.now }
     {
-        // Proof step: there are fewer than 2 ^ 63.
+        // Proof step: there are fewer than 2 ^ 63 points.
         let _ = points.len();
         PointSlice {
             points,
@@ -47,7 +47,7 @@ impl<'a> PointSlice<'a> {
         }
     }
 
-    /// All points from a place on.
+    /// Returns the points from index `place` on.
     #[inline]
     pub(crate) fn from_place(points: &'a Points, place: usize) -> PointSlice<'a>
         ensures { result ≡ drop place points.now }
@@ -60,7 +60,7 @@ impl<'a> PointSlice<'a> {
         }
     }
 
-    /// None of the points.
+    /// Returns an empty slice.
     #[inline]
     pub(crate) fn none(points: &'a Points) -> PointSlice<'a>
         ensures { result ≡ [] }
@@ -72,7 +72,7 @@ impl<'a> PointSlice<'a> {
         }
     }
 
-    /// The same points again.
+    /// Returns the same slice.
     #[inline]
     pub fn again(&self) -> PointSlice<'a>
         ensures { result ≡ self.now }
@@ -84,7 +84,7 @@ impl<'a> PointSlice<'a> {
         }
     }
 
-    /// The number of points.
+    /// Returns the number of points.
     #[inline]
     pub fn len(&self) -> usize
         ensures count { result ≡ length self.now }
@@ -93,7 +93,7 @@ impl<'a> PointSlice<'a> {
         self.ahead.len()
     }
 
-    /// Whether there are none.
+    /// Returns true if there are no points.
     #[inline]
     pub fn is_empty(&self) -> bool
         ensures { IsTrue result ↔ (self.now ≡ []) }
@@ -101,8 +101,8 @@ impl<'a> PointSlice<'a> {
         self.ahead.len() == 0
     }
 
-    /// The points from a place on. It costs a step for each point before it, from the nearest one whose bytes are at hand:
-    /// that is the first of the slice, or the first of a quarter.
+    /// Returns the points from index `place` on. Decodes the points before it, from the first of the slice or of its quarter, whichever
+    /// is nearer.
     #[inline]
     fn from(&self, place: usize) -> PointsAhead<'a>
         requires { place ≤ length self.now }
@@ -119,7 +119,7 @@ impl<'a> PointSlice<'a> {
         ahead
     }
 
-    /// The first point, if there is one. It is read already.
+    /// Returns the first point, if there is one. It is already decoded.
     #[inline]
     pub fn first(&self) -> Option<PointRef<'a>>
         ensures { result ≡ slice_get self.now 0 }
@@ -127,7 +127,7 @@ impl<'a> PointSlice<'a> {
         self.ahead.first()
     }
 
-    /// The points after the first. It reads the one that comes first among them.
+    /// Returns the points after the first. Decodes the first of these.
     #[inline]
     pub fn after_first(&self) -> PointSlice<'a>
         ensures { result ≡ drop 1 self.now }
@@ -144,7 +144,7 @@ impl<'a> PointSlice<'a> {
         }
     }
 
-    /// The point at a place. It costs a step for each point before it in the slice, or in its quarter if these are fewer.
+    /// Returns the point at index `place`, if there is one. Decodes the points before it, in the slice or in its quarter if that has fewer.
     #[inline]
     pub fn get(&self, place: usize) -> Option<PointRef<'a>>
         ensures { result ≡ slice_get self.now place }
@@ -158,7 +158,7 @@ impl<'a> PointSlice<'a> {
         }
     }
 
-    /// The point at a place, at the cost of [`get`](PointSlice::get).
+    /// Returns the point at index `place`, at the cost of [`get`](PointSlice::get).
     #[inline]
     pub fn at(&self, place: usize) -> PointRef<'a>
         requires { place < length self.now }
@@ -170,7 +170,7 @@ impl<'a> PointSlice<'a> {
         }
     }
 
-    /// The number of points that pass a test, if those that do come first. It is a binary search.
+    /// Returns the number of points that pass a test. The points that pass must come first. A binary search.
     pub fn partition_point<T: PointTest>(&self, test: &T) -> usize
         requires { IsPartitionedBy (T.passing test.now) self.now }
         ensures bound { result ≤ length self.now }
@@ -191,7 +191,7 @@ impl<'a> PointSlice<'a> {
         passed
     }
 
-    /// All of them, for a walk.
+    /// Returns a walk over the points.
     #[inline]
     pub fn ahead(&self) -> PointsAhead<'a>
         ensures { result ≡ self.now }
@@ -199,7 +199,7 @@ impl<'a> PointSlice<'a> {
         self.ahead.again()
     }
 
-    /// The points from a place to below another, at the cost of a look at the first of them.
+    /// Returns the points from index `begin`, inclusive, to `end`, exclusive, at the cost of [`get`](PointSlice::get) of the first.
     #[inline]
     pub fn slice(&self, begin: usize, end: usize) -> PointSlice<'a>
         requires order { begin ≤ end }
@@ -215,8 +215,8 @@ impl<'a> PointSlice<'a> {
         }
     }
 
-    /// Passes over the first points as long as they pass a test, over `most` at most, and says over how many. The first that
-    /// doesn't pass is then the first of the slice. Each is looked at once.
+    /// Removes points from the front while they pass a test, at most `most`, and returns the number of removed points. Tests each point
+    /// once. The first point that fails the test stays.
     #[inline]
     pub fn pass_while<T: PointTest>(&mut self, most: usize, test: &T) -> usize
         ensures most { result ≤ most }
@@ -231,7 +231,7 @@ impl<'a> PointSlice<'a> {
         count
     }
 
-    /// The points before a place, and those from it on.
+    /// Returns the points before index `place`, and the points from it on.
     pub fn split_at(&self, place: usize) -> (PointSlice<'a>, PointSlice<'a>)
         requires { place ≤ length self.now }
         ensures front { result.0 ≡ take place self.now }

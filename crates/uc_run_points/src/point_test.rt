@@ -1,15 +1,15 @@
-//! [`PointTest`]: a test that a search puts to points.
+//! [`PointTest`]: the test of a search among points.
 ghost use Rattle.std.specs.Prelude.{◌≡◌, Bool};
 ghost use Rattle.uc_run_entry.specs.declared.entry.Entry.{Entry as EntryOf};
 
 use crate::point_ref::PointRef;
 
-/// A test that a search puts to points. Those that pass come first.
+/// The test of a search among points. In a binary search the points that pass come first.
 pub trait PointTest {
-    /// The points that pass.
+    /// True for the points that pass.
     ghost passing: { Self → EntryOf → Bool };
 
-    /// Whether a point passes.
+    /// Returns true if a point passes.
     fn passes(&self, point: &PointRef<'_>) -> bool
         ensures { result ≡ passing self.now point.now };
 }

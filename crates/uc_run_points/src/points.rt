@@ -1,4 +1,4 @@
-//! [`Points`]: the points of a run, as bytes.
+//! [`Points`]: the points of a run, encoded.
 ghost use Rattle.std.specs.Prelude.{List, ◌+◌, ◌≡◌, ◌<◌, ◌≤◌, ◌^◌, ◌*◌, ◌%◌, ◌==◌, ◌++◌, [], ◌∷◌, length, take, drop, if◌then◌else◌, IfOk, IfErr, OnOk, OnErr};
 ghost use Rattle.std.specs.List.{AllByRecursion, slice_get};
 ghost use mathlib.Core.List.{IsPrefix};
@@ -19,14 +19,14 @@ use std::alloc::{AllocError, Global};
 use std::marker::Model;
 use uc_run_entry::{Entry, WhatRef, make_small};
 
-/// Of how many points the first has its place at hand: a quarter of a run's block. The last quarter may have fewer.
+/// Number of points in a quarter of a run's block. The last quarter may have fewer. The offset of each quarter's first point is kept.
 pub(crate) const QUARTER_POINTS: usize = 4;
 
-/// Points in one arena, with the places at which quarters of blocks begin. A contract sees the list of the entries.
+/// Points encoded in one arena, with the offsets of quarters of blocks. A contract sees it as the list of the entries.
 pub struct Points {
-    /// The arena: the entries' bytes, one after the other.
+    /// The arena: the encodings of the entries, one after the other.
     bytes: Vec<u8>,
-    /// The offset of the first entry of each quarter.
+    /// Offset of the first entry of each quarter, in bytes.
     starts: Vec<usize>,
     count: usize,
 }
@@ -55,7 +55,7 @@ impl Drop for Points {
     }
 }
 
-/// Pushes the bytes of an entry. An `Err` pushes nothing.
+/// Pushes the encoding of an entry. On `Err` nothing has been pushed.
 fn append_entry(
     bytes: &mut Vec<u8>,
     key: &[u8],
@@ -78,7 +78,7 @@ fn append_entry(
     Ok(())
 }
 
-/// Pushes the offset of an entry if it is the first of a quarter. An `Err` pushes nothing.
+/// Pushes an entry's offset if its index `place` begins a quarter. On `Err` nothing has been pushed.
 pub(crate) fn push_start(
     starts: &mut Vec<usize>,
     place: usize,
@@ -94,8 +94,8 @@ pub(crate) fn push_start(
     Ok(())
 }
 
-/// Pushes the offset of each entry of some bytes that is the first of a quarter, where this many entries and bytes come before
-/// them. It costs a step for each entry. An `Err` may leave some of them pushed.
+/// Pushes the offsets of the entries that begin a quarter, among the `count` entries that `bytes` encodes. `place` entries and `offset`
+/// bytes come before them. Decodes each entry. On `Err` some offsets may have been pushed.
 fn push_starts(
     starts: &mut Vec<usize>,
     place: usize,
@@ -120,7 +120,7 @@ fn push_starts(
     Ok(())
 }
 
-/// The points from the first of a quarter on.
+/// Returns the points from the first of a quarter on.
 #[inline]
 fn quarter_ahead<'a>(
     bytes: &'a [u8],
@@ -139,7 +139,7 @@ fn quarter_ahead<'a>(
 }
 
 impl Points {
-    /// No points. It doesn't allocate.
+    /// Returns an empty list of points. Doesn't allocate.
     pub fn new(alloc: Global) -> Points
         ensures { result ≡ [] }
     {
@@ -150,7 +150,7 @@ impl Points {
         }
     }
 
-    /// The number of points.
+    /// Returns the number of points.
     #[inline]
     pub fn len(&self) -> usize
         ensures count { result ≡ length self.now }
@@ -159,7 +159,7 @@ impl Points {
         self.count
     }
 
-    /// Their size in bytes, as `specs/Spelling.antt` spells them.
+    /// Returns the size of the encoded points in bytes.
     #[inline]
     pub fn size(&self) -> usize
         ensures { result ≡ length (spelling.entries_text self.now) }
@@ -167,7 +167,8 @@ impl Points {
         self.bytes.len()
     }
 
-    /// The points that bytes spell, which become their arena: no byte is copied. It costs a step for each point.
+    /// Returns the points that `bytes` encodes. `bytes` becomes their arena, without copying. Decodes each point once. Fails with the offset
+    /// of the first fault, or if allocation fails.
     pub fn from_bytes(alloc: Global, bytes: Vec<u8>) -> Result<Points, PointsError>
         ensures points { IfOk result (λ points. bytes.items ≡ spelling.entries_text points) }
         ensures fits { IfOk result (λ points. AllByRecursion Fits points) }
@@ -182,7 +183,7 @@ impl Points {
         })
     }
 
-    /// The bytes that spell the points.
+    /// Returns the arena: the encoded points.
     #[inline]
     pub fn as_bytes(&self) -> &[u8]
         ensures spelled { result.now ≡ spelling.entries_text self.now }
@@ -191,7 +192,7 @@ impl Points {
         &self.bytes
     }
 
-    /// Pushes a point that says this of a key. An `Err` pushes nothing.
+    /// Appends a point. On `Err` nothing has changed.
     pub fn push(&mut self, key: &[u8], seq: u64, what: WhatRef<'_>) -> Result<(), AllocError>
         requires { seq < 2 ^ 62 }
         ensures pushed { OnOk result
@@ -208,7 +209,7 @@ impl Points {
         Ok(())
     }
 
-    /// Pushes copies of points: a copy of their bytes, and a step for each. An `Err` pushes nothing.
+    /// Appends copies of points: copies their bytes, and decodes each once. On `Err` nothing has changed.
     pub fn extend(&mut self, points: &Points) -> Result<(), AllocError>
         ensures pushed { OnOk result (self.new ≡ self.old ++ points.now) }
         ensures as_it_was { OnErr result (self.new ≡ self.old) }
@@ -231,7 +232,7 @@ impl Points {
         Ok(())
     }
 
-    /// Keeps the first points, which have this many bytes, and forgets those after them.
+    /// Keeps the first `count` points, which take `size` bytes, and drops the others.
     pub fn truncate(&mut self, count: usize, size: usize)
         requires count { count ≤ length self.old }
         requires size { size ≡ length (spelling.entries_text (take count self.old)) }
@@ -242,7 +243,7 @@ impl Points {
         self.count = count;
     }
 
-    /// Gives back the memory that no point takes.
+    /// Frees unused capacity.
     pub fn shrink_to_fit(&mut self)
         ensures { self.new ≡ self.old }
     {
@@ -250,7 +251,7 @@ impl Points {
         self.starts.shrink_to_fit();
     }
 
-    /// The points from a place on. It costs a step for each point before it in its quarter.
+    /// Returns a walk over the points from index `place` on. Decodes the points before it in its quarter.
     #[inline]
     pub fn from(&self, place: usize) -> PointsAhead<'_>
         ensures { result ≡ drop place self.now }
@@ -265,7 +266,7 @@ impl Points {
         ahead
     }
 
-    /// All points.
+    /// Returns a walk over all points.
     #[inline]
     pub fn ahead(&self) -> PointsAhead<'_>
         ensures { result ≡ self.now }
@@ -273,7 +274,7 @@ impl Points {
         PointsAhead::new(&self.bytes, self.count)
     }
 
-    /// The point at a place, if there is one. It costs a step for each point before it in its quarter.
+    /// Returns the point at index `place`, if there is one. Decodes the points before it in its quarter.
     #[inline]
     pub fn get(&self, place: usize) -> Option<PointRef<'_>>
         ensures { result ≡ slice_get self.now place }
@@ -281,7 +282,7 @@ impl Points {
         self.from(place).first()
     }
 
-    /// The points from a place on, as a slice of them. It costs a step for each point before it in its quarter.
+    /// Returns the slice of the points from index `place` on. Decodes the points before it in its quarter.
     #[inline]
     pub fn slice_from(&self, place: usize) -> PointSlice<'_>
         ensures { result ≡ drop place self.now }
@@ -289,7 +290,7 @@ impl Points {
         PointSlice::from_place(self, place)
     }
 
-    /// None of the points, as a slice of them. It looks at no point.
+    /// Returns an empty slice. Decodes no point.
     #[inline]
     pub fn none(&self) -> PointSlice<'_>
         ensures { result ≡ [] }
@@ -297,7 +298,7 @@ impl Points {
         PointSlice::none(self)
     }
 
-    /// All points, as a slice of them.
+    /// Returns the slice of all points.
     #[inline]
     pub fn as_slice(&self) -> PointSlice<'_>
         ensures { result ≡ self.now }
@@ -306,7 +307,7 @@ impl Points {
     }
 }
 
-/// Entries, as points.
+/// Returns the points of `entries`. Fails if allocation fails.
 pub fn points_of(alloc: Global, entries: &[Entry]) -> Result<Points, AllocError>
     requires { AllByRecursion (λ e. e.seq < 2 ^ 56) entries.now }
     ensures { IfOk result (λ points. points ≡ entries.now) }

@@ -1,4 +1,4 @@
-//! [`PointsAhead`]: the points that are still ahead of a walk.
+//! [`PointsAhead`]: a walk over points.
 ghost use Rattle.std.specs.Prelude.{◌≡◌, ◌≤◌, ◌<◌, ◌↔◌, true, false, [], length, take, drop, IsTrue};
 ghost use Rattle.std.specs.List.{slice_get, AllWithin, HoldsAt};
 ghost use Rattle.uc_run_points.specs.Spelling.{entries_from};
@@ -8,16 +8,16 @@ use crate::point_test::PointTest;
 use crate::spelling::read_entry;
 use std::marker::Model;
 
-/// The points that are still ahead of a walk, in their order. A contract sees their list.
+/// A walk over points, in order. A contract sees it as the list of the remaining points.
 ///
-/// The next one is read already, so a second look at it costs nothing.
+/// The next point is already decoded, so looking at it again is free.
 #[derive(Drop)]
 pub struct PointsAhead<'a> {
-    /// The next point. If none is ahead, it is of no account.
+    /// The next point. Meaningless if no point remains.
     first: PointRef<'a>,
-    /// The bytes after it.
+    /// The bytes after the next point.
     behind: &'a [u8],
-    /// The number of points ahead.
+    /// Number of remaining points.
     count: usize,
 }
 
@@ -32,7 +32,7 @@ impl<'a> Model for PointsAhead<'a> {
 }
 
 impl<'a> PointsAhead<'a> {
-    /// This many points, whose bytes begin here. It reads the first.
+    /// Returns a walk over the first `count` points that `bytes` encodes. Decodes the first.
     #[inline]
     pub(crate) fn new(bytes: &'a [u8], count: usize) -> PointsAhead<'a>
         ensures { result ≡ entries_from count bytes.now }
@@ -45,7 +45,7 @@ impl<'a> PointsAhead<'a> {
         }
     }
 
-    /// No points. It reads nothing.
+    /// Returns a walk over no points. Decodes nothing.
     #[inline]
     pub(crate) fn none() -> PointsAhead<'a>
         ensures { result ≡ [] }
@@ -57,7 +57,7 @@ impl<'a> PointsAhead<'a> {
         }
     }
 
-    /// The number of points ahead.
+    /// Returns the number of remaining points.
     #[inline]
     pub fn len(&self) -> usize
         ensures { result ≡ length self.now }
@@ -65,7 +65,7 @@ impl<'a> PointsAhead<'a> {
         self.count
     }
 
-    /// A second walk from here on.
+    /// Returns another walk over the same points.
     #[inline]
     pub(crate) fn again(&self) -> PointsAhead<'a>
         ensures { result ≡ self.now }
@@ -77,7 +77,7 @@ impl<'a> PointsAhead<'a> {
         }
     }
 
-    /// The next point, if there is one, which stays ahead.
+    /// Returns the next point, if there is one, and doesn't pass it.
     #[inline]
     pub fn first(&self) -> Option<PointRef<'a>>
         ensures { result ≡ slice_get self.now 0 }
@@ -88,7 +88,7 @@ impl<'a> PointsAhead<'a> {
         Some(self.first.again())
     }
 
-    /// Passes over the next point, if there is one, and reads the one after it.
+    /// Passes the next point, if there is one, and decodes the point after it.
     #[inline]
     pub(crate) fn step(&mut self)
         ensures { self.new ≡ drop 1 self.old }
@@ -103,7 +103,7 @@ impl<'a> PointsAhead<'a> {
         self.count -= 1;
     }
 
-    /// The next point, if there is one.
+    /// Returns the next point, if there is one, and passes it.
     #[inline]
     pub fn next(&mut self) -> Option<PointRef<'a>>
         ensures next { result ≡ slice_get self.old 0 }
@@ -114,7 +114,7 @@ impl<'a> PointsAhead<'a> {
         point
     }
 
-    /// Passes over this many points, or all if there are fewer.
+    /// Passes `count` points, or all if fewer remain.
     #[inline]
     pub fn pass(&mut self, count: usize)
         ensures { self.new ≡ drop count self.old }
@@ -124,7 +124,7 @@ impl<'a> PointsAhead<'a> {
         }
     }
 
-    /// Keeps the next points, this many if there are as many, and forgets those after them.
+    /// Keeps the next `count` points, or all if fewer remain, and drops the others.
     #[inline]
     pub(crate) fn truncate(&mut self, count: usize)
         ensures { self.new ≡ take count self.old }
@@ -132,8 +132,8 @@ impl<'a> PointsAhead<'a> {
         self.count = self.count.min(count);
     }
 
-    /// Passes over the next points as long as they pass a test, over `most` at most, and says over how many. The first that
-    /// doesn't pass stays ahead.
+    /// Passes points while they pass a test, at most `most`, and returns the number of passed points. The first point that fails the test
+    /// is then the next.
     pub fn pass_while<T: PointTest>(&mut self, most: usize, test: &T) -> usize
         ensures most { result ≤ most }
         ensures bound { result ≤ length self.old }

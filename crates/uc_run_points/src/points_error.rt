@@ -1,17 +1,17 @@
-//! Why bytes give no points.
+//! [`PointsError`]: a reason why bytes encode no points.
 ghost use Rattle.std.specs.Prelude.{◌≡◌};
 ghost use Rattle.uc_run_points.specs.declared.points_error.PointsError.TheVariants.{Memory};
 
 use std::alloc::{AllocError, AllocFailed};
 use thiserror::Error;
 
-/// Why bytes give no points.
+/// Reason why bytes encode no points.
 #[derive(Clone, Copy, Debug, PartialEq, Eq, Error)]
 pub enum PointsError {
-    /// No point is spelled at this offset, where bytes follow the last one that is.
+    /// The bytes from this offset on begin with no valid point, and those before it are valid points.
     #[error("no point at byte {0}")]
     Fault(usize),
-    /// Memory ran out.
+    /// Allocation failed.
     #[error("out of memory")]
     Memory,
 }

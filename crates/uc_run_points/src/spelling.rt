@@ -1,4 +1,4 @@
-//! The bytes of an entry.
+//! The encoding of an entry.
 ghost use Rattle.std.specs.Prelude.{◌≡◌, ◌<◌, ◌^◌, ◌++◌, take, drop, OnOk};
 ghost use mathlib.Core.List.{IsPrefix};
 ghost use Rattle.uc_run_entry.specs.Packed.{what_of};
@@ -10,7 +10,7 @@ use crate::point_ref::PointRef;
 use std::alloc::AllocError;
 use uc_run_entry::WhatRef;
 
-/// The tag of what an entry says, and its text.
+/// Returns the tag of an entry's change, and its value or operand.
 #[inline]
 fn tagged(what: WhatRef<'_>) -> (u64, &[u8])
     ensures tag { result.0 ≡ spelling.tag_of (what_of what.entry) }
@@ -24,7 +24,7 @@ fn tagged(what: WhatRef<'_>) -> (u64, &[u8])
     }
 }
 
-/// Pushes the bytes of an entry. An `Err` may leave some of them pushed.
+/// Pushes the encoding of an entry. On `Err` some of its bytes may have been pushed.
 #[tactic(auto, unfolding(crate::specs::Spelling::entry_text))]
 pub(crate) fn push_entry(
     bytes: &mut Vec<u8>,
@@ -49,7 +49,7 @@ pub(crate) fn push_entry(
     Ok(())
 }
 
-/// This many bytes at the front, and those after them; all and none if there are fewer.
+/// Splits `bytes` after the first `count` bytes, or at the end if there are fewer.
 #[inline]
 fn split_front(bytes: &[u8], count: u64) -> (&[u8], &[u8])
     ensures front { result.0.now ≡ take count bytes.now }
@@ -58,7 +58,7 @@ fn split_front(bytes: &[u8], count: u64) -> (&[u8], &[u8])
     bytes.split_at(bytes.len().min(count as usize))
 }
 
-/// The entry at the front, and the bytes after it.
+/// Returns the first entry, and the bytes that follow it.
 #[inline]
 #[tactic(auto, unfolding(crate::specs::Spelling::entry_from))]
 pub(crate) fn read_entry(bytes: &[u8]) -> (PointRef<'_>, &[u8])
