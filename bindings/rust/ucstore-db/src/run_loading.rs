@@ -57,7 +57,7 @@ pub(crate) fn add_runs(
 }
 
 /// Adds the run of a file, and returns its ID.
-fn add_run(store: &Store, run: &ListedRun, file: Vec<u8>) -> Result<u64, Error> {
+pub(crate) fn add_run(store: &Store, run: &ListedRun, file: Vec<u8>) -> Result<u64, Error> {
     let name = Name::Run(run.number);
     let id = store.add_run(&file).map_err(|error| match error {
         RunError::Damaged { offset, .. } => {
