@@ -80,7 +80,7 @@ static void try_versions(void) {
     OK(ucstore_db_options_init(&options, sizeof options));
     CHECK(options.size == sizeof options && options.sync == UCSTORE_DB_SYNC_ALWAYS && options.compactors == 2);
     CHECK(options.write_buffer_size == 4 << 20 && options.checkpoint_least == 64 << 20 && options.event == NULL);
-    CHECK(options.compact_when_idle_milliseconds == 0);
+    CHECK(options.compact_when_idle_milliseconds == 0 && options.checkpoint_bytes_per_second == 0 && options.checkpoint_ratio == 0);
 }
 
 /* A program compiled with another header has a smaller or a larger struct of options. */
@@ -603,7 +603,7 @@ static void try_events(void) {
     OK(ucstore_db_compact(told.db));
     OK(ucstore_db_checkpoint(told.db));
     CHECK(told.events[UCSTORE_DB_FLUSHED] == 4 && told.events[UCSTORE_DB_CHECKPOINTED] == 1);
-    CHECK(strcmp(told.text, "000002-4.base") == 0 || told.events[UCSTORE_DB_COMPACTED] > 0);
+    CHECK(strcmp(told.text, "000002-4.runs") == 0 || told.events[UCSTORE_DB_COMPACTED] > 0);
     stats.size = 1;
     CHECK(ucstore_db_stats(told.db, &stats) == UCSTORE_DB_BAD_SIZE);
     memset(&stats, 'm', sizeof stats);
@@ -616,6 +616,7 @@ static void try_events(void) {
     CHECK(stats.batches == 4 && stats.flushes == 4 && stats.checkpoints == 1 && stats.syncs >= 4 && stats.last == 4);
     CHECK(stats.user_bytes == 4 * 24 && stats.logged_bytes == 4 * 35 && stats.base_bytes > 0);
     CHECK(stats.flush_bytes > 0 && stats.compaction_read >= stats.compaction_written);
+    CHECK(stats.run_files >= 1 && stats.run_files <= 4 && stats.kept_bytes == 0);
     CHECK(stats.size == sizeof stats && stats.sync_p50 <= stats.sync_p99);
     OK(ucstore_db_stats_text(told.db, room, sizeof room, &size));
     CHECK(strlen(room) == size && strstr(room, "write amplification") != NULL);

@@ -325,7 +325,9 @@ class Calls(InFolder):
             db.checkpoint()
             stats = db.stats()
             self.assertEqual((stats.last, stats.batches, stats.checkpoints), (21, 21, 1))
-            self.assertTrue(stats.flushes == 20 and stats.base_bytes > 0 and stats.sync_p50 <= stats.sync_p99)
+            # The checkpoint flushes what is left.
+            self.assertTrue(stats.flushes == 21 and stats.base_bytes > 0 and stats.sync_p50 <= stats.sync_p99)
+            self.assertTrue(stats.run_files >= 1 and stats.kept_bytes == 0)
             self.assertIn("write amplification", db.stats_text())
             self.assertIsNone(db.failure())
             self.assertEqual(len(list(db)), 19)
@@ -566,8 +568,8 @@ class Backups(InFolder):
                 db.backup(backup)
             with self.assertRaises(ValueError):
                 db.backup("a\0b")
-            base = "000002-1.base"
-            self.assertEqual(os.stat(backup / base).st_ino, os.stat(self.folder / base).st_ino)
+            for name in "000002-1.runs", "000001.run":
+                self.assertEqual(os.stat(backup / name).st_ino, os.stat(self.folder / name).st_ino)
         with self.assertRaises(Closed):
             db.backup(self.folder.parent / "late")
         with Db(backup, must_exist=True) as db:
@@ -592,7 +594,8 @@ class Told(InFolder):
         self.assertEqual([event.kind for event in told], [EventKind.FLUSHED, EventKind.CHECKPOINTED])
         flushed, checkpointed = told
         self.assertTrue(flushed.runs == 1 and flushed.bytes > 0 and flushed.error is None and flushed.seconds >= 0)
-        self.assertEqual((checkpointed.text, checkpointed.bytes), ("000002-1.base", os.path.getsize(self.folder / "000002-1.base")))
+        written = sum(os.path.getsize(self.folder / name) for name in ("000002-1.runs", "000001.run"))
+        self.assertEqual((checkpointed.text, checkpointed.bytes), ("000002-1.runs", written))
 
     def test_a_function_that_is_told_may_call(self):
         seen = []

@@ -68,7 +68,7 @@ class Cut(WithBases):
         beside.sharded.close()
         # A batch has some 17 bytes per write.
         self.assertGreater(17 * beside.single.last, 2 * sum(map(len, self.shards().values())))
-        self.assertTrue([name for name in self.files() if name.endswith(".base")])
+        self.assertTrue([name for name in self.files() if name.endswith((".base", ".runs"))])
         self.assertEqual(self.rows(self.open()), dict(beside.single.scan_at(b"", None, beside.single.take_snapshot())))
 
     def test_a_worker_needs_memory_for_the_data_and_not_for_all_that_was_written(self):
@@ -240,7 +240,7 @@ class Damaged(WithBases):
         time.sleep(0.5)
         store.close()
         files, wanted = self.files(), {put.key: put.value for put in puts(59, 60, 30)}
-        self.assertGreater(sum(name.endswith(".base") for name in files), 3)
+        self.assertGreater(sum(name.endswith((".base", ".runs")) for name in files), 3)
         for name, text in sorted(files.items()):
             # These are not read, and logs that were cut are empty.
             places = self.draws.sample(range(len(text)), min(3, len(text))) if name not in ("lock", "epoch") else []

@@ -685,7 +685,7 @@ class Cuts(Folder):
 
     def base(self):
         """Returns the last sequence number of the newest checkpoint: 0 if there is none."""
-        return max((int(name[7:-5]) for name in self.files() if name.endswith(".base")), default=0)
+        return max((int(name[7:-5]) for name in self.files() if name.endswith((".base", ".runs"))), default=0)
 
     def restore(self, files):
         for path in self.path.iterdir():

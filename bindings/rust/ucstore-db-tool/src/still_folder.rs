@@ -70,7 +70,7 @@ fn still(path: &Path, folder: &DiskFolder) -> Result<Option<BTreeMap<String, Sti
         };
         let is_read = matches!(
             listed.kind,
-            FileKind::Checkpoint | FileKind::Log | FileKind::Operator
+            FileKind::Checkpoint | FileKind::Run | FileKind::Log | FileKind::Operator
         );
         let file = match is_read.then(|| fs::File::open(path.join(name))).transpose() {
             Err(error) if error.kind() == ErrorKind::NotFound => return Ok(None),

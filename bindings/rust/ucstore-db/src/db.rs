@@ -364,25 +364,25 @@ impl Db {
         Ok(())
     }
 
-    /// Writes all that it holds to a base, and removes the logs before it. Others write meanwhile. In memory it does
-    /// nothing.
+    /// Writes the runs that no checkpoint has, and a list of all, and removes the logs before it. Others write meanwhile, and wait for a
+    /// flush of what no run has. In memory it does nothing.
     ///
     /// # Errors
     ///
-    /// [`Error::File`] and [`Error::Store`] if the base isn't written, or no new log can be made, and [`Error::Damaged`] if the base
-    /// isn't read as it was written: then the logs stay, the device has nothing of the base, and the database goes on.
+    /// [`Error::File`] and [`Error::Store`] if it isn't written, or no new log can be made, and [`Error::Damaged`] or [`Error::Missing`]
+    /// if it isn't read as it was written: then the logs stay, and the database goes on.
     /// [`Error::ReadOnly`] if the log can't be synced. [`Error::Closed`].
     pub fn checkpoint(&self) -> Result<(), Error> {
         self.shared().checkpoint()
     }
 
-    /// Writes the rows of a snapshot to a base, and removes the logs that have nothing after it. Later writes stay in
-    /// logs, so that it may be made again as a [mark](Options::marks). Others write meanwhile. In memory, or if a base has as much, it
-    /// does nothing. It ends if the database is closed, which waits for that.
+    /// Writes the runs of a snapshot, or a base of its rows if it has writes that no run has, and removes the logs that have nothing after
+    /// it. Later writes stay in logs, so that it may be made again as a [mark](Options::marks). Others write meanwhile. In memory, or if a
+    /// checkpoint has as much, it does nothing. It ends if the database is closed, which waits for that.
     ///
     /// # Errors
     ///
-    /// [`Error::File`] and [`Error::Store`] if the base isn't written, or no new log can be made: then the logs stay, and the database
+    /// [`Error::File`] and [`Error::Store`] if it isn't written, or no new log can be made: then the logs stay, and the database
     /// goes on. [`Error::ReadOnly`] if the log can't be ended. [`Error::OtherDatabase`], [`Error::Closed`].
     pub fn checkpoint_to(&self, snapshot: &Snapshot) -> Result<(), Error> {
         let (shared, (view, counts)) = (self.shared(), snapshot.parts());
@@ -392,7 +392,7 @@ impl Db {
         shared.checkpoint_to(view)
     }
 
-    /// Goes on in a new log, unless nothing is in this one: so a base of now will let the ones before it go, whatever is written until
+    /// Goes on in a new log, unless nothing is in this one: so a checkpoint of now will let the ones before it go, whatever is written until
     /// then. Nothing has to call this. In memory it does nothing.
     ///
     /// # Errors

@@ -51,12 +51,13 @@
 //!
 //! `LOCK` is locked by the process that has the database open. `OPERATOR` names the operator that the folder was made
 //! with. `000001.log` and those after it are write-ahead logs as
-//! RocksDB writes them. A checkpoint `000007-1234.base` is such a log too. It holds what was written up to sequence 1234, where it ends:
-//! all of the logs before `000007.log`, and of that one what comes up to there. `000007.log.lost` has what an opening cut off that log,
-//! where a crash had left it. A [`Folder`] of another device may stand for the file system.
+//! RocksDB writes them. A checkpoint holds what was written up to a sequence, as 1234:
+//! all of the logs before `000007.log`, and of that one what comes up to there. It is a list of run files, `000007-1234.runs`, or a base,
+//! `000007-1234.base`, which is a log of rows. `000012.run` is a run file, which is written once. `000007.log.lost` has what an opening
+//! cut off that log, where a crash had left it. A [`Folder`] of another device may stand for the file system.
 //!
-//! [`Db::backup`] makes another folder of it while it is used. [`files_of`] lists what a folder has, and [`read_writes`] reads a log or a
-//! checkpoint, without opening a database.
+//! [`Db::backup`] makes another folder of it while it is used. [`files_of`] lists what a folder has, [`read_writes`] reads a log or a
+//! base, and [`verify_checkpoint`] a checkpoint with its runs, without opening a database.
 //!
 //! # Parts of something greater
 //!
@@ -71,6 +72,7 @@ mod backup;
 mod base_file;
 mod cache_padded;
 mod checkpoint;
+mod checkpoint_reading;
 mod checkpoint_steps;
 mod checksum;
 mod compactor;
@@ -134,6 +136,7 @@ mod view_cache;
 mod windows;
 mod workers;
 
+pub use checkpoint_reading::{verify_checkpoint, CheckpointRead, RunRead};
 pub use conflict::Conflict;
 pub use db::{Db, WeakDb};
 pub use disk_folder::DiskFolder;

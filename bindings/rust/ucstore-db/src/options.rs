@@ -66,7 +66,7 @@ pub struct Options {
     /// acknowledged: then the opening is refused.
     pub give_up_until: u64,
     /// Sequences at which snapshots are made while the folder is read, which [`Db::take_mark`](crate::Db::take_mark) gives out. Each
-    /// has to be the end of a batch, and no base goes beyond it.
+    /// has to be the end of a batch, and no checkpoint goes beyond it.
     pub marks: Vec<u64>,
     /// Is told how far the opening of a folder is: after each MiB, and each file.
     pub progress: Option<Listener<Progress>>,

@@ -5,7 +5,7 @@ mod common;
 use common::{map_of, seed, Call, Device, Extent, Map, Numbers};
 use std::collections::BTreeMap;
 use std::sync::Arc;
-use ucstore_db::{Db, Error, Operator, Options, Sync};
+use ucstore_db::{verify_checkpoint, CheckpointRead, Db, Error, Folder, Operator, Options, Sync};
 
 type Files = BTreeMap<String, Vec<u8>>;
 
@@ -56,11 +56,21 @@ fn story(value: &str) -> (Files, [Map; 3]) {
     (files, [first, second, third])
 }
 
-/// Opens damaged files, which is refused with the file and the offset; nothing is changed.
+/// Opens damaged files, which is refused with the file and the offset; nothing is changed. A list that is read alone has the same fault.
 fn refused(files: &Files) -> (String, u64) {
     let device = Device::of(files);
     let error = open_with(&device, &options()).unwrap_err();
     assert_eq!(&device.files(), files);
+    if let Some(list) = files.keys().find(|name| name.ends_with(".runs")) {
+        let verified = verify_checkpoint(&device, list);
+        let alone = verified.map_or_else(Some, |read| read.fault().cloned());
+        assert_eq!(alone.map(place_of), Some(place_of(error.clone())));
+    }
+    place_of(error)
+}
+
+/// The file and the offset of an error.
+fn place_of(error: Error) -> (String, u64) {
     match error {
         Error::Damaged { file, offset, .. } => (file, offset),
         Error::Missing { file } => (file, 0),
@@ -151,6 +161,86 @@ fn files_of_another_database_or_version_are_named() {
     };
     let error = open_with(&Device::of(&nameless), &counter).unwrap_err();
     assert!(matches!(error, Error::OtherOperator { .. }), "{error}");
+}
+
+#[test]
+fn a_checkpoint_is_read_alone() {
+    let (files, _) = story("value");
+    let device = Device::of(&files);
+    let CheckpointRead { last, runs, .. } = verify_checkpoint(&device, "000002-6.runs").unwrap();
+    let found = runs.iter().map(|run| {
+        assert!(run.fault.is_none());
+        assert_eq!(run.length, files[&run.name].len() as u64);
+        (&*run.name, run.first, run.last)
+    });
+    assert_eq!(last, 6);
+    let wanted = [("000001.run", 1, 2), ("000002.run", 3, 6)];
+    assert_eq!(Vec::from_iter(found), wanted);
+    for name in ["000002.log", "000001.run", "OPERATOR"] {
+        let error = verify_checkpoint(&device, name).unwrap_err();
+        assert!(matches!(error, Error::Missing { .. }), "{error}");
+    }
+    // Each of several faults is told.
+    let mut both = with(&files, "000002.run", "other");
+    both.remove("000001.run");
+    let read = verify_checkpoint(&Device::of(&both), "000002-6.runs").unwrap();
+    let faults = read.runs.iter().filter_map(|run| run.fault.clone());
+    let places = Vec::from_iter(faults.map(place_of));
+    assert_eq!(places, [("000001.run".into(), 0), ("000002.run".into(), 5)]);
+
+    let db = open_with(&device, &options()).unwrap();
+    db.checkpoint_to(&db.snapshot().unwrap()).unwrap();
+    drop(db);
+    let read = verify_checkpoint(&device, "000003-7.base").unwrap();
+    assert_eq!((read.last, read.runs.len()), (7, 0));
+    let whole = device.files();
+    let base = &whole["000003-7.base"];
+    for length in 0..base.len() {
+        let cut = Device::of(&with(&whole, "000003-7.base", &base[..length]));
+        let error = verify_checkpoint(&cut, "000003-7.base").unwrap_err();
+        assert!(place_of(error).1 <= length as u64);
+    }
+}
+
+/// A run file that somebody has removed takes no log away.
+#[test]
+fn a_checkpoint_misses_a_run_that_it_keeps() {
+    let device = Device::default();
+    let db = open_with(&device, &options()).unwrap();
+    db.put("a", "1").unwrap();
+    db.checkpoint().unwrap();
+    db.put("b", "2").unwrap();
+    Folder::remove(&device, "000001.run").unwrap();
+    let error = db.checkpoint().unwrap_err();
+    assert_eq!(place_of(error), ("000001.run".into(), 0));
+    assert!(device.files().contains_key("000002.log"));
+    // The next one writes all runs anew.
+    db.checkpoint().unwrap();
+    let map = map_of(&db);
+    drop(db);
+    let names = Vec::from_iter(device.logs().into_keys());
+    let wanted = ["000003.run", "000004-2.runs", "000004.log", "000004.run"];
+    assert_eq!(names, wanted);
+    assert_eq!(map_of(&open_with(&device, &options()).unwrap()), map);
+}
+
+/// A list may be whole and lie about a run.
+#[test]
+fn a_run_with_other_sequences_than_its_list_says_is_named() {
+    let (files, _) = story("value");
+    let mut list = files["000002-6.runs"].clone();
+    // The high of the first run is 2.
+    assert_eq!(list[56..64], 2u64.to_le_bytes());
+    list[56] = 1;
+    let end = list.len() - 4;
+    let checksum = !list[..end].iter().fold(u32::MAX, |crc, byte| {
+        (0..8).fold(crc ^ u32::from(*byte), |crc, _| {
+            (crc >> 1) ^ (0x82f6_3b78 * (crc & 1))
+        })
+    });
+    list[end..].copy_from_slice(&checksum.to_le_bytes());
+    let lying = with(&files, "000002-6.runs", list);
+    assert_eq!(refused(&lying), ("000001.run".into(), 0));
 }
 
 /// Up to a damaged run there is a state of the past.

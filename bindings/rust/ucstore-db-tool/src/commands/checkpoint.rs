@@ -7,7 +7,7 @@ use crate::output::Output;
 use std::sync::mpsc;
 use ucstore_db::{Event, Listener, Options};
 
-/// Write all rows to a checkpoint, delete the logs before it, and print its name and its size in bytes
+/// Write a checkpoint, delete the logs before it, and print its name and the number of bytes written
 #[derive(clap::Args)]
 #[command(after_help = "Example: ucstore-db visits checkpoint")]
 pub struct Checkpoint {}

@@ -7,8 +7,8 @@ use crate::failure::Outcome;
 /// Compact the runs as far as is due, and write a checkpoint, as `checkpoint` does
 #[derive(clap::Args)]
 #[command(
-    after_help = "Runs are in memory alone: the directory gets smaller by the checkpoint, which has no write that a later one \
-replaces.
+    after_help = "The checkpoint has the runs as they are then: the directory gets smaller by the writes that compactions drop, and by the \
+logs.
 
 Example: ucstore-db visits compact"
 )]

@@ -7,13 +7,14 @@ use crate::opening;
 use crate::output::Output;
 use std::path::Path;
 use ucstore_db::ucstore::{BatchFault, Ended, LogFault, Operation, Write};
-use ucstore_db::{files_of, read_writes, Error, FileKind, Folder, FolderFile};
+use ucstore_db::{files_of, read_writes, verify_checkpoint, Error, FileKind, Folder, FolderFile};
 
 /// Print the writes of the checkpoint and the logs, in order
 #[derive(clap::Args)]
 #[command(
     after_help = "A line `file NAME` begins each file. After its writes a line says how it ends, as `ucstore dump` does: \
-`clean`, `torn OFFSET`, `log fault ...` or `batch fault ...`. With --hex a file's lines are those of `ucstore dump`, but that a batch \
+`clean`, `torn OFFSET`, `log fault ...` or `batch fault ...`. A list of run files has a line `run NAME sequences FIRST LAST` for \
+each. With --hex a file's lines are those of `ucstore dump`, but that a batch \
 fault has no numbers of bytes and tags. Files that an opening doesn't read are left out, unless they are named.
 
 Example: ucstore-db visits log 000002.log"
@@ -29,6 +30,12 @@ impl Log {
         let mut output = Output::new(args.form());
         for name in self.names(args, &*folder)? {
             output.line(&format!("file {name}"))?;
+            if name.ends_with(".runs") {
+                for line in lines_of_list(args, &*folder, &name)? {
+                    output.line(&line)?;
+                }
+                continue;
+            }
             let read = read_writes(&*folder, &name, |write| {
                 print(&mut output, args.form(), &write)
             });
@@ -58,6 +65,22 @@ impl Log {
             None => Ok(self.files.clone()),
         }
     }
+}
+
+/// The lines of a list of run files.
+fn lines_of_list(args: &Args, folder: &dyn Folder, name: &str) -> Outcome<Vec<String>> {
+    let read = match verify_checkpoint(folder, name) {
+        Err(Error::Damaged { offset, .. }) => return Ok(vec![format!("list fault {offset}")]),
+        outcome => outcome.map_err(Failure::of(&args.dir))?,
+    };
+    let runs = read.runs.iter();
+    let runs = runs.map(|run| format!("run {} sequences {} {}", run.name, run.first, run.last));
+    let end = match read.fault() {
+        None => "clean".into(),
+        Some(Error::Damaged { file, offset, .. }) => format!("run fault {file} {offset}"),
+        Some(error) => format!("run fault: {error}"),
+    };
+    Ok(runs.chain([end]).collect())
 }
 
 /// Why a file isn't read on.

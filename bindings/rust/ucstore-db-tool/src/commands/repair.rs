@@ -5,7 +5,9 @@ use crate::failure::{Failure, Outcome};
 use crate::opening;
 use crate::output::Output;
 use std::path::PathBuf;
-use ucstore_db::{files_of, read_writes, Db, DiskFolder, Error, FileKind, FolderFile, Options};
+use ucstore_db::{
+    files_of, read_writes, verify_checkpoint, Db, DiskFolder, Error, FileKind, FolderFile, Options,
+};
 
 /// Read a damaged directory up to the fault, write that to a new one, and print what is lost
 #[derive(clap::Args)]
@@ -15,7 +17,7 @@ use ucstore_db::{files_of, read_writes, Db, DiskFolder, Error, FileKind, FolderF
   lost FILE bytes SIZE          what isn't read from there on, for each file
   kept rows R last SEQUENCE     what NEW has
 
-A log that is missing can't be repaired.
+A log or a run file that is missing can't be repaired.
 
 Example: ucstore-db visits repair visits-repaired")]
 pub struct Repair {
@@ -59,7 +61,13 @@ fn losses(db: &Db, folder: &DiskFolder) -> Result<Vec<String>, Error> {
         return Ok(vec![]);
     };
     let files = files_of(folder)?;
-    let read: Vec<&FolderFile> = files.iter().filter(|file| is_read(file)).collect();
+    let mut read: Vec<&FolderFile> = files.iter().filter(|file| is_read(file)).collect();
+    let places = places_of_runs(folder, &read);
+    read.sort_by_key(|file| match file.kind {
+        FileKind::Checkpoint => 0,
+        FileKind::Run => 1 + places.iter().take_while(|name| **name != file.name).count(),
+        _ => usize::MAX,
+    });
     let Error::Damaged {
         file: damaged,
         offset,
@@ -71,7 +79,7 @@ fn losses(db: &Db, folder: &DiskFolder) -> Result<Vec<String>, Error> {
     let mut lines = vec![format!("fault {damaged} {offset}: {fault}")];
     let rest = read.iter().skip_while(|file| file.name != *damaged);
     for file in rest {
-        let kept = match file.name == *damaged {
+        let kept = match file.name == *damaged && has_writes(file) {
             true => read_writes(folder, damaged, |_| Ok::<(), Error>(()))?.end,
             false => 0,
         };
@@ -85,7 +93,7 @@ fn losses(db: &Db, folder: &DiskFolder) -> Result<Vec<String>, Error> {
 /// Lists the bytes that a crash left at the end of the last log.
 fn torn(folder: &DiskFolder, read: &[&FolderFile]) -> Result<Vec<String>, Error> {
     let mut lines = vec![];
-    for file in read {
+    for file in read.iter().filter(|file| has_writes(file)) {
         let end = read_writes(folder, &file.name, |_| Ok::<(), Error>(()))?.end;
         if file.length > end {
             lines.push(lost(&file.name, file.length - end));
@@ -98,7 +106,21 @@ fn lost(name: &str, bytes: u64) -> String {
     format!("lost {name} bytes {bytes}")
 }
 
-/// Whether a checkpoint or a log is one that an opening reads.
+/// The run files in the order in which an opening reads them, if the list that names them can be read.
+fn places_of_runs(folder: &DiskFolder, read: &[&FolderFile]) -> Vec<String> {
+    let list = read.iter().find(|file| file.kind == FileKind::Checkpoint);
+    let list = list.and_then(|list| verify_checkpoint(folder, &list.name).ok());
+    let runs = list.into_iter().flat_map(|list| list.runs);
+    runs.map(|run| run.name).collect()
+}
+
+/// Whether a file of data is one that an opening reads.
 fn is_read(file: &FolderFile) -> bool {
-    file.is_read && matches!(file.kind, FileKind::Checkpoint | FileKind::Log)
+    let kinds = [FileKind::Checkpoint, FileKind::Run, FileKind::Log];
+    file.is_read && kinds.contains(&file.kind)
+}
+
+/// Whether a file is a log, or a checkpoint in the format of one.
+fn has_writes(file: &FolderFile) -> bool {
+    file.kind == FileKind::Log || file.kind == FileKind::Checkpoint && !file.name.ends_with(".runs")
 }

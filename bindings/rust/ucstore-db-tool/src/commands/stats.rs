@@ -44,7 +44,7 @@ impl Stats {
             rows += 1;
         }
         let of = |kind: FileKind| move |file: &&FolderFile| file.kind == kind;
-        let bytes = |kind| files.iter().filter(of(kind)).map(|file| file.length).sum();
+        let bytes = |kind| -> u64 { files.iter().filter(of(kind)).map(|file| file.length).sum() };
         let figure = |name, key, value| Figure { name, key, value };
         let logs = files.iter().filter(of(FileKind::Log)).count() as u64;
         let figures = [
@@ -55,7 +55,7 @@ impl Stats {
             figure(
                 "bytes of checkpoints",
                 "checkpoint_bytes",
-                bytes(FileKind::Checkpoint),
+                bytes(FileKind::Checkpoint) + bytes(FileKind::Run),
             ),
             figure(
                 "bytes set aside",

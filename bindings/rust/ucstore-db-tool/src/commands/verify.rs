@@ -6,7 +6,10 @@ use crate::opening;
 use crate::output::Output;
 use ucstore_db::ucstore::Ended;
 use ucstore_db::WritesRead;
-use ucstore_db::{files_of, read_writes, Db, Error, FileKind, Folder, FolderFile, Options};
+use ucstore_db::{
+    files_of, read_writes, verify_checkpoint, CheckpointRead, Db, Error, FileKind, Folder,
+    FolderFile, Options,
+};
 
 /// Read all files, print what is in each, and find damage; nothing is changed
 #[derive(clap::Args)]
@@ -14,9 +17,11 @@ use ucstore_db::{files_of, read_writes, Db, Error, FileKind, Folder, FolderFile,
     after_help = "Prints for each checkpoint and log, in the order in which an opening reads them,
 
   checkpoint|log NAME bytes SIZE batches B writes W sequences FIRST LAST STATE
+  checkpoint NAME bytes SIZE runs R sequences FIRST LAST STATE
+  run NAME bytes SIZE sequences FIRST LAST STATE
 
-where STATE is `whole`, `torn OFFSET` after a crash, which an opening cuts off, `damaged OFFSET`, or `unneeded` if no opening reads the \
-file. Then come the other files, and `total rows R last SEQUENCE`. Takes as much memory as an opening.
+where a checkpoint of the second form is a list of run files, and STATE is `whole`, `torn OFFSET` after a crash, which an opening cuts off, `damaged OFFSET`, or `unneeded` if no opening reads the \
+file, or `unlisted` for a run file if the list is damaged. Then come the other files, and `total rows R last SEQUENCE`. Takes as much memory as an opening.
 
 While another process has the database open, the files are read as they were at one moment, and `torn OFFSET` may be a write in progress.
 
@@ -36,8 +41,19 @@ impl Verify {
             _ => None,
         };
         let mut output = Output::new(args.form());
+        let list = files.iter().find(|file| file.is_read && is_list(file));
+        let list = list.map(|file| verify_checkpoint(&*folder, &file.name));
+        let list = list.transpose().or_else(|error| match error {
+            Error::Damaged { .. } => Ok(None),
+            error => Err(Failure::of(&args.dir)(error)),
+        })?;
         for file in &files {
-            output.line(&line_of(args, &*folder, file, damage)?)?;
+            let line = match file.kind {
+                FileKind::Run => run_line(file, list.as_ref()),
+                _ if is_list(file) => list_line(file, list.as_ref(), damage),
+                _ => line_of(args, &*folder, file, damage)?,
+            };
+            output.line(&line)?;
         }
         let (rows, last) = match &opened {
             Ok(db) => totals(db).map_err(Failure::of(&args.dir))?,
@@ -60,6 +76,46 @@ fn totals(db: &Db) -> Result<(u64, u64), Error> {
         count += 1;
     }
     Ok((count, snapshot.sequence()))
+}
+
+/// Whether a file is a list of run files.
+fn is_list(file: &FolderFile) -> bool {
+    file.kind == FileKind::Checkpoint && file.name.ends_with(".runs")
+}
+
+/// The line of a list. It is read only if an opening reads it: the runs of an older one may be gone.
+fn list_line(file: &FolderFile, read: Option<&CheckpointRead>, damage: Option<&Error>) -> String {
+    let read = read.filter(|_| file.is_read);
+    let runs = read.map_or(&[][..], |read| &read.runs);
+    let first = runs.first().map_or(0, |run| run.first);
+    let last = read.map_or(0, |read| read.last);
+    let state = match (file.is_read, damaged(file, damage)) {
+        (false, _) => "unneeded".into(),
+        (true, Some(state)) => state,
+        (true, None) => "whole".into(),
+    };
+    let FolderFile { name, length, .. } = file;
+    let count = runs.len();
+    format!("checkpoint {name} bytes {length} runs {count} sequences {first} {last} {state}")
+}
+
+/// The line of a run file, of which the list tells the sequences.
+fn run_line(file: &FolderFile, list: Option<&CheckpointRead>) -> String {
+    let FolderFile { name, length, .. } = file;
+    let mut runs = list.into_iter().flat_map(|list| &list.runs);
+    let Some(run) = runs.find(|run| run.name == *name) else {
+        let state = if file.is_read { "unlisted" } else { "unneeded" };
+        return format!("run {name} bytes {length} sequences 0 0 {state}");
+    };
+    let state = match &run.fault {
+        None => "whole".into(),
+        Some(Error::Damaged { offset, .. }) => format!("damaged {offset}"),
+        Some(_) => "missing".into(),
+    };
+    format!(
+        "run {name} bytes {length} sequences {} {} {state}",
+        run.first, run.last
+    )
 }
 
 /// The line of a file.

@@ -54,12 +54,13 @@ impl Watch {
     }
 }
 
-/// The bytes of the logs and of the checkpoints of a directory.
+/// The bytes of the logs and of the checkpoints of a directory, with their runs.
 fn sizes_of(folder: &DiskFolder) -> Result<[u64; 2], Error> {
     let files = files_of(folder)?;
-    let bytes = |kind| {
+    let bytes = |kind| -> u64 {
         let files = files.iter().filter(|file| file.kind == kind);
         files.map(|file| file.length).sum()
     };
-    Ok([FileKind::Log, FileKind::Checkpoint].map(bytes))
+    let checkpoints = bytes(FileKind::Checkpoint) + bytes(FileKind::Run);
+    Ok([bytes(FileKind::Log), checkpoints])
 }
