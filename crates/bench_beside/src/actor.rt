@@ -1,4 +1,4 @@
-//! [`Actor`]: what uses a store in a thread of its own.
+//! [`Actor`]: a thread that uses a store.
 ghost use Rattle.std.specs.Prelude.{◌≡◌, All, IfSome};
 ghost use Rattle.std.proofs.Props.{props};
 
@@ -13,7 +13,7 @@ use uc_share::{Compactor, Name, Reader, Seat, Store};
 /// A reader of a store of counters.
 pub(crate) type Reads<N> = Reader<Counter, N>;
 
-/// A seat of the store that a name says, unless a claim has it.
+/// A seat of the store `N`, which may be in use by a claim.
 pub(crate) struct Place<N: Name> {
     seat: Option<Seat>,
     of: PhantomData<N>,
@@ -27,7 +27,7 @@ impl<N: Name> Drop for Place<N> {
 }
 
 impl<N: Name> Place<N> {
-    /// A free seat.
+    /// Returns a free seat.
     fn of(seat: Seat) -> Place<N>
         requires { seat.table ≡ N.table }
     {
@@ -37,14 +37,14 @@ impl<N: Name> Place<N> {
         }
     }
 
-    /// The seat, if it is free.
+    /// Takes the seat, if it is free.
     pub(crate) fn take(&mut self) -> Option<Seat>
         ensures { IfSome result (λ seat. seat.table ≡ N.table) }
     {
         self.seat.take()
     }
 
-    /// The seat is free again.
+    /// Puts the seat back.
     pub(crate) fn put(&mut self, seat: Seat)
         requires { seat.table ≡ N.table }
     {
@@ -52,18 +52,18 @@ impl<N: Name> Place<N> {
     }
 }
 
-/// An actor uses a store in a thread of its own.
+/// A thread's role in a store.
 #[derive(Drop)]
 pub(crate) enum Actor<N: Name> {
-    /// Compacts what is picked until nothing is, and beside feeds until these end too.
+    /// Compacts picks until nothing is picked and, if there are feeders, these have ended.
     Compactor(Compactor<Counter, N>),
-    /// Makes all runs one, two by two.
+    /// Compacts all runs into one, two at a time.
     Installer(Reads<N>, Place<N>),
     /// Answers the queries as one batch.
     Batch(Vec<Reads<N>>),
-    /// Feeds the batches, and keeps the last sequence, which is the number here.
+    /// Feeds the batches, and keeps the last sequence number. The number is the one kept last.
     Feeder(Reads<N>, u64),
-    /// Looks drawn keys up.
+    /// Looks up random keys.
     Drawer(Reads<N>, Numbers),
     /// Pins.
     Pinner(Reads<N>),
@@ -93,13 +93,13 @@ fn push_changer<N: Name, W: Wait + Drop>(
     actors.push(actor).ok()
 }
 
-/// An actor that answers a batch by the last `count` of these readers.
+/// Returns an actor that answers a batch by the last `count` of these readers.
 pub(crate) fn batch_of<N: Name>(readers: &mut Vec<Reads<N>>, count: usize) -> Option<Actor<N>> {
     let rest = readers.len().checked_sub(count)?;
     Some(Actor::Batch(readers.split_off(rest).ok()?))
 }
 
-/// The actor of a reader, at a place among those that feed, look keys up or pin.
+/// Returns the actor of a reader, by its index among the feeders, the actors that look up keys, and those that pin.
 fn actor_at<N: Name>(plan: Plan, place: usize, reader: Reads<N>) -> Actor<N> {
     if place < plan.feeders {
         Actor::Feeder(reader, 0)
@@ -110,7 +110,7 @@ fn actor_at<N: Name>(plan: Plan, place: usize, reader: Reads<N>) -> Actor<N> {
     }
 }
 
-/// Adds those that read.
+/// Adds the actors that answer a batch, feed, look up keys and pin.
 fn push_readers<N: Name>(
     actors: &mut Vec<Actor<N>>,
     plan: Plan,
@@ -125,7 +125,7 @@ fn push_readers<N: Name>(
     Some(())
 }
 
-/// The actors of a plan, first at most two that compact or install.
+/// Returns the actors of a plan. Those that compact or install come first, and are two at most.
 pub(crate) fn actors_of<N: Name, W: Wait + Drop>(
     alloc: Global,
     store: &Store<Counter, N, W>,

@@ -1,4 +1,4 @@
-//! [`Bench`]: a store that threads share, where actors work at once.
+//! [`Bench`]: the measurement of a store in which actors work concurrently.
 use crate::actor::Actor;
 use crate::plan::Plan;
 use crate::told::Told;
@@ -13,7 +13,7 @@ use uc_oper::Counter;
 use uc_query_read::Query;
 use uc_share::{Name, Store};
 
-/// The phases of a measurement: the store doesn't change yet, it changes, its changes have ended, and something was refused.
+/// Phases of a measurement: before the store changes, while it changes, after its changes, and after a refused call.
 pub(crate) const WAITING: u64 = 0;
 
 pub(crate) const CHANGING: u64 = 1;
@@ -22,7 +22,7 @@ pub(crate) const STOPPED: u64 = 2;
 
 pub(crate) const REFUSED: u64 = 3;
 
-/// A store, the measurement, and the words by which actors know of each other.
+/// A store, its measurement, and the atomic words by which its actors communicate.
 pub(crate) struct Bench<'a, N: Name, W: Wait + Drop, R> {
     pub(crate) rt: &'a R,
     pub(crate) alloc: Global,
@@ -32,7 +32,7 @@ pub(crate) struct Bench<'a, N: Name, W: Wait + Drop, R> {
     pub(crate) batches: &'a [Writes],
     pub(crate) begun: Instant,
     pub(crate) phase: AtomicU64,
-    /// The number of actors, and of those that have begun.
+    /// Number of actors, and number of those that have begun.
     pub(crate) actors: u64,
     pub(crate) ready: AtomicU64,
 }
@@ -70,7 +70,7 @@ where
     W: Wait + Drop,
     R: Threads + Wait + Clock + Sync,
 {
-    /// The nanoseconds since all began.
+    /// Returns the nanoseconds since the beginning of the measurement.
     pub(crate) fn now(&self) -> u64 {
         match Instant::now(self.rt) {
             Ok(now) => u64::try_from(now.duration_since(self.begun).as_nanos()).unwrap_or(u64::MAX),
@@ -78,28 +78,28 @@ where
         }
     }
 
-    /// The nanoseconds since a time.
+    /// Returns the nanoseconds since `start`.
     pub(crate) fn since(&self, start: u64) -> u64 {
         self.now().saturating_sub(start)
     }
 
-    /// Whether it is this phase.
+    /// Returns true during this phase.
     pub(crate) fn is(&self, phase: u64) -> bool {
         self.phase.load(Ordering::Acquire) == phase
     }
 
-    /// Whether all actors have begun.
+    /// Returns true if all actors have begun.
     pub(crate) fn are_ready(&self) -> bool {
         self.ready.load(Ordering::Acquire) >= self.actors
     }
 
-    /// Ends the work of an actor, and the changes of the store.
+    /// Ends the changes of the store. Returns false, which ends the actor.
     pub(crate) fn stop(&self) -> Option<bool> {
         self.phase.store(STOPPED, Ordering::Release);
         Some(false)
     }
 
-    /// Takes an actor's next step. Returns whether there are more, and `None` if something is refused.
+    /// Takes an actor's next step. Returns true if there are more, and `None` if a call was refused.
     fn step(&self, actor: &mut Actor<N>, told: &mut Told) -> Option<bool> {
         match actor {
             Actor::Compactor(compactor) => self.compact(compactor, told),
@@ -111,7 +111,7 @@ where
         }
     }
 
-    /// Takes an actor's next step, unless something was refused. Returns whether there are more.
+    /// Takes an actor's next step, unless a call was refused before. Returns true if there are more.
     fn goes_on(&self, actor: &mut Actor<N>, told: &mut Told) -> bool {
         if self.is(REFUSED) {
             return false;
@@ -126,7 +126,7 @@ where
         }
     }
 
-    /// Lets an actor work, and tells about it.
+    /// Runs an actor, and returns its record.
     pub(crate) fn act(&self, mut actor: Actor<N>) -> Told {
         let mut told = Told::new(self.alloc);
         self.ready.fetch_add(1, Ordering::Release);
@@ -147,7 +147,7 @@ where
     W: Wait + Drop + Send,
     R: Threads + Wait + Clock + Sync,
 {
-    /// Lets all actors work at once.
+    /// Runs all actors concurrently. Returns their records.
     pub(crate) fn act_at_once(&self, actors: Vec<Actor<N>>) -> Option<Vec<Told>> {
         let work = |actor: Actor<N>| -> Told { self.act(actor) };
         map_vec(self.rt, actors, &work).ok()

@@ -13,7 +13,7 @@ use uc_batch::Writes;
 use uc_oper::Counter;
 use uc_share::{Compactor, Held, Name, Stretch, Turn};
 
-/// From how many runs on a feed waits, as a flush of RocksDB does by default (`level0_slowdown_writes_trigger`).
+/// Number of runs at which a feed waits. RocksDB's flush waits at as many by default (`level0_slowdown_writes_trigger`).
 const CROWDED: usize = 19;
 
 /// The two newest runs.
@@ -25,7 +25,7 @@ where
     W: Wait + Drop,
     R: Threads + Wait + Clock + Sync,
 {
-    /// Takes a compactor's turn. It ends where nothing is picked, and beside feeds where these have ended too.
+    /// Takes a compactor's turn. The compactor ends when nothing is picked, but not before the feeders.
     pub(crate) fn compact(
         &self,
         compactor: &mut Compactor<Counter, N>,
@@ -40,13 +40,13 @@ where
         Some(true)
     }
 
-    /// The number of runs that are shown.
+    /// Returns the number of runs that the store shows.
     fn runs(&self, reader: &mut Reads<N>) -> Option<usize> {
         let pin = self.store.pin(reader).ok()?;
         Some(pin.version().runs().len())
     }
 
-    /// Compacts a claim and installs it, with a clock around both.
+    /// Compacts a claim and installs it. Times both.
     fn install_held(
         &self,
         reader: &mut Reads<N>,
@@ -86,7 +86,7 @@ where
         }
     }
 
-    /// Compacts and installs the two newest runs once all actors have begun. It ends where there is one run.
+    /// Compacts and installs the two newest runs, once all actors have begun. The installer ends when one run is left.
     pub(crate) fn install(
         &self,
         reader: &mut Reads<N>,
@@ -107,7 +107,7 @@ where
         Some(true)
     }
 
-    /// Waits until few enough runs are there, or something was refused. Returns whether it had to wait.
+    /// Waits until there are fewer than `CROWDED` runs, or a call was refused. Returns true if it had to wait.
     fn await_room(&self, reader: &mut Reads<N>) -> Option<bool> {
         let mut waited = false;
         for _ in self.rt.forever() {
@@ -120,7 +120,7 @@ where
         unreachable!()
     }
 
-    /// Feeds a batch as soon as there is room, with a clock around it.
+    /// Feeds a batch once there are few enough runs. Times the wait and the feed.
     fn feed_batch(&self, reader: &mut Reads<N>, batch: &Writes, told: &mut Told) -> Option<()> {
         let start = self.now();
         let waited = self.await_room(reader)?;
@@ -130,7 +130,7 @@ where
         Some(())
     }
 
-    /// Keeps the last sequence, with a clock around it, and releases the one that was kept before.
+    /// Keeps the last sequence number, and releases the one kept before. Times the keep.
     fn keep(&self, reader: &mut Reads<N>, kept: &mut u64, told: &mut Told) -> Option<()> {
         let start = self.now();
         let seq = self.store.keep(self.rt, self.alloc, reader).ok()?;
@@ -142,7 +142,7 @@ where
         Some(())
     }
 
-    /// Feeds the next batch, and keeps the last sequence then.
+    /// Feeds the next batch, and then keeps the last sequence number.
     pub(crate) fn feed(
         &self,
         reader: &mut Reads<N>,

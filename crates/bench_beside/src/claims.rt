@@ -1,4 +1,4 @@
-//! Takes and gives of slots by 1, 2 or 4 threads, for `bench/claims`.
+//! Takes and returns of slots by 1, 2 or 4 threads, for `bench/claims`.
 ghost use Rattle.std.specs.Prelude.{◌≡◌, ◌<◌, All};
 ghost use Rattle.uc_claims.specs.Holding.{AreDistinct};
 
@@ -10,15 +10,15 @@ use uc_claims::{ClaimTable, MOST_SLOTS, Seat};
 
 const COUNT: usize = MOST_SLOTS;
 
-/// The work of each thread: where its slots are, and how often it takes them.
+/// The work of each thread: the layout of its slots, and the number of rounds.
 #[derive(Clone, Copy)]
 pub(crate) struct Claims {
-    /// 0: each thread has two slots of its own, side by side. 1: these share no cache line with another's. Else all want the same two.
+    /// With 0 each thread has two adjacent slots of its own, and with 1 no two threads share a cache line. Otherwise all take the same two.
     pub(crate) layout: u64,
     pub(crate) rounds: u64,
 }
 
-/// The slots of a thread.
+/// Returns the slots of a thread.
 fn asked(thread: u64, layout: u64) -> &'static [usize]
     ensures distinct { AreDistinct result.now }
     ensures below { All (λ slot. slot < COUNT) result.now }
@@ -34,7 +34,7 @@ fn asked(thread: u64, layout: u64) -> &'static [usize]
     }
 }
 
-/// One thread's rounds, and how many takes won.
+/// Makes the rounds of one thread. Returns the number of successful takes.
 fn work(table: &ClaimTable, mut seat: Seat, thread: u64, claims: Claims) -> (Seat, u64)
     requires table { seat.table ≡ table.now.table }
     requires count { table.now.count ≡ COUNT }
@@ -54,7 +54,7 @@ fn work(table: &ClaimTable, mut seat: Seat, thread: u64, claims: Claims) -> (Sea
     (seat, won)
 }
 
-/// Two threads' rounds.
+/// Makes the rounds of two threads.
 fn work_two<R: Threads + Sync>(
     rt: &R,
     table: &ClaimTable,
@@ -82,7 +82,7 @@ fn work_two<R: Threads + Sync>(
     (table.join(a, b), x.wrapping_add(y))
 }
 
-/// Four threads' rounds.
+/// Makes the rounds of four threads.
 fn work_four<R: Threads + Sync>(
     rt: &R,
     table: &ClaimTable,
@@ -108,7 +108,8 @@ fn work_four<R: Threads + Sync>(
     (table.join(a, b), x.wrapping_add(y))
 }
 
-/// All threads' rounds on a new table: the nanoseconds, and how many takes won. Nothing is written if a slot is taken in the end.
+/// Makes the rounds of all threads on a new table. Returns the nanoseconds and the number of successful takes, or `None` if a slot
+/// stays taken.
 pub(crate) fn claimed<R: Threads + Clock + Sync>(
     rt: &R,
     alloc: Global,

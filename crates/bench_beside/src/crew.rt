@@ -1,4 +1,4 @@
-//! The work of a plan's actors in a store.
+//! The actors of a plan at work in a store.
 ghost use Rattle.std.specs.Prelude.{◌≡◌, false};
 ghost use Rattle.uc_share.specs.Stores.{IsNamed};
 
@@ -20,7 +20,7 @@ use uc_oper::Counter;
 use uc_query_read::Query;
 use uc_share::{Name, Opening, Options, Store};
 
-/// A store, and how many actors work there.
+/// Returns the measurement of a store with a number of actors.
 fn bench_of<'x, N: Name, W: Wait + Drop, R: Clock>(
     rt: &'x R,
     alloc: Global,
@@ -58,7 +58,7 @@ where
     W: Wait + Drop + Send,
     R: Threads + Wait + Clock + Sync,
 {
-    /// Lets all actors work at once. Then, if the plan says so, a batch is answered once more.
+    /// Runs all actors concurrently. Then answers a batch once more, if the plan has readers for it.
     fn play(&self, actors: Vec<Actor<N>>, readers: &mut Vec<Reads<N>>) -> Option<Vec<Told>> {
         let mut told = self.act_at_once(actors)?;
         if self.plan.last > 0 {
@@ -69,7 +69,7 @@ where
     }
 }
 
-/// Writes the accounts of the actors of a store that gets its name here.
+/// Names a store, runs its actors, and writes their records.
 fn played_named<N, W, R>(
     rt: &R,
     handle: W,
@@ -92,7 +92,7 @@ where
     write_all(out, plan, &bench.play(actors, &mut readers)?)
 }
 
-/// A store of these writes.
+/// Returns a store of these writes.
 fn opening_of(alloc: Global, writes: &Writes, plan: Plan) -> Option<Opening<Counter>> {
     let options = Options {
         memtable: plan.memtable,
@@ -101,7 +101,7 @@ fn opening_of(alloc: Global, writes: &Writes, plan: Plan) -> Option<Opening<Coun
     Opening::open(alloc, writes, &[], options, plan.readers(), plan.changers()).ok()
 }
 
-/// Writes the runs and points with which a store opens, and the accounts of its actors.
+/// Writes the numbers of runs and points with which a store opens, and the records of its actors.
 fn played_given<R: Threads + Wait + Clock + Sync>(
     rt: &R,
     alloc: Global,
@@ -117,7 +117,7 @@ fn played_given<R: Threads + Wait + Clock + Sync>(
     played_named::<Brand, &R, R>(rt, rt, alloc, opening, plan, given, out)
 }
 
-/// Measures a store that these writes are fed to, or that begins with them. The queries are at the last sequence.
+/// Measures a store that begins with these writes, or to which they are fed. The queries are at the last sequence number.
 pub(crate) fn played<R: Threads + Wait + Clock + Sync>(
     rt: &R,
     alloc: Global,

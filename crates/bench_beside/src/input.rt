@@ -1,13 +1,13 @@
-//! [`Input`]: numbers and bytes, one after the other.
+//! [`Input`]: an encoding of numbers and bytes.
 
-/// The input that is left to read. A number is decimal digits. Bytes are their length, a number, and then themselves. One byte of any kind
-/// follows each of both. Where nothing is left, there are zeros and no bytes.
+/// The input that remains to be read. A number is decimal digits. A byte string is its length, as a number, and its bytes. Each number and
+/// byte string ends with one byte of any value. At the end all numbers are 0 and all byte strings are empty.
 #[derive(Clone, Copy, Drop)]
 pub(crate) struct Input<'a> {
     rest: &'a [u8],
 }
 
-/// The number at the front, and how many bytes it takes with the one after it.
+/// Returns the number at the front, and its size in bytes with the final byte.
 fn number_in(bytes: &[u8]) -> Option<(u64, usize)> {
     let mut number = 0_u64;
     for (place, byte) in bytes.iter().enumerate() {
@@ -21,34 +21,34 @@ fn number_in(bytes: &[u8]) -> Option<(u64, usize)> {
 }
 
 impl<'a> Input<'a> {
-    /// All of these bytes.
+    /// Returns an input of these bytes.
     pub(crate) fn new(bytes: &'a [u8]) -> Input<'a> {
         Input { rest: bytes }
     }
 
-    /// Whether nothing is left.
+    /// Returns true if nothing remains.
     pub(crate) fn is_empty(&self) -> bool {
         self.rest.is_empty()
     }
 
-    /// The next number.
+    /// Reads a number.
     pub(crate) fn number(&mut self) -> u64 {
         let (number, length) = number_in(self.rest).unwrap_or((0, usize::MAX));
         self.rest = self.rest.get(length..).unwrap_or(&[]);
         number
     }
 
-    /// The next number, as a number of things.
+    /// Reads a number as a count or a length.
     pub(crate) fn count(&mut self) -> usize {
         self.number() as usize
     }
 
-    /// The next number, as a yes or a no.
+    /// Reads a number as a flag.
     pub(crate) fn flag(&mut self) -> bool {
         self.number() != 0
     }
 
-    /// The next bytes.
+    /// Reads a byte string.
     pub(crate) fn bytes(&mut self) -> &'a [u8] {
         let length = self.count();
         let bytes = self.rest.get(..length).unwrap_or(&[]);

@@ -1,13 +1,13 @@
-//! Several threads at once in a store that they share, for `bench/share`, `bench/shared`, `bench/live` and `bench/claims`.
+//! Threads that share a store concurrently, for `bench/share`, `bench/shared`, `bench/live` and `bench/claims`.
 //!
-//! Standard input has a flag, a log of counters, and measurements (`input.rt` says how numbers and bytes are spelled). A measurement is
-//! a 0 and the numbers of a `Plan` (`plan.rt`), or a 1 and the numbers of threads, their layout and their rounds (`claims.rt`). A store
-//! begins with the log; where it is fed it is empty at first, and the log's first batches are fed. For each store the program prints a
-//! line: the runs and points with which it opens, and an account of each actor (`told.rt`), those that change the store first.
-//! `bench/beside` draws up plans and reads the lines.
+//! Standard input is a flag, a log of counters, and measurements (`input.rt` describes the encoding). A measurement is a 0 and the numbers
+//! of a `Plan` (`plan.rt`), or a 1 and the number of threads, their layout and their rounds (`claims.rt`). A store begins with the log. If
+//! it has feeders, it begins empty, and the log's first batches are fed. For each store the program prints a line: the numbers of runs and
+//! points with which it opens, and a record of each actor (`told.rt`), beginning with those that change the store. `bench/beside` makes the
+//! plans and reads the lines.
 //!
-//! If the flag is set a line has only what doesn't change from run to run: whether anything is compacted, and checksums of the answers
-//! meanwhile and after it. The answers must be the same, whoever compacts and answers.
+//! If the flag is set, a line has only results that are the same in each run: whether a compaction was installed, and checksums of the
+//! answers meanwhile and at the end. The answers must not depend on the actors that compact and answer.
 #![tactic(auto)]
 
 mod actor;
@@ -51,7 +51,7 @@ fn measure(
     Some(())
 }
 
-/// Measures the claims of threads: the nanoseconds, and how many takes won, unless these may change from run to run.
+/// Measures the claims of threads. Writes the nanoseconds and the number of successful takes, unless only repeatable results are printed.
 fn measure_claims(
     rt: &(impl Threads + Clock + Sync + Print),
     alloc: Global,

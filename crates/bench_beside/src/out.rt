@@ -3,7 +3,7 @@ use itoa::Buffer;
 use std::alloc::Global;
 use std::io::{self, ErrorKind, Write};
 
-/// A line of numbers. Once memory ran out it takes nothing more, and isn't printed.
+/// A line of numbers. After a failed allocation it takes no more numbers, and isn't printed.
 #[derive(Drop)]
 pub(crate) struct Out {
     bytes: Vec<u8>,
@@ -11,7 +11,7 @@ pub(crate) struct Out {
 }
 
 impl Out {
-    /// An empty line.
+    /// Returns an empty line.
     pub(crate) fn new(alloc: Global) -> Out {
         Out {
             bytes: Vec::new(alloc),
@@ -19,7 +19,7 @@ impl Out {
         }
     }
 
-    /// Writes bytes as they are.
+    /// Writes bytes.
     fn push(&mut self, bytes: &[u8]) {
         if !self.is_short && self.bytes.extend_from_slice(bytes).is_err() {
             self.is_short = true;
@@ -33,7 +33,7 @@ impl Out {
         self.push(b" ");
     }
 
-    /// Writes how many numbers there are, and these.
+    /// Writes the number of numbers, and the numbers.
     pub(crate) fn numbers(&mut self, numbers: &[u64]) {
         self.number(numbers.len() as u64);
         for number in numbers {

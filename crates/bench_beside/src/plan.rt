@@ -1,40 +1,40 @@
-//! [`Plan`]: the numbers of a measurement.
+//! [`Plan`]: the parameters of a measurement.
 use crate::input::Input;
 
-/// The numbers of a measurement, in the order in which they are read.
+/// Parameters of a measurement, in the order in which they are read.
 #[derive(Clone, Copy)]
 pub(crate) struct Plan {
-    /// Whether only what doesn't change from run to run is printed.
+    /// True if only results that are the same in each run are printed.
     pub(crate) is_few: bool,
-    /// The actors that compact or install, two at most.
+    /// Number of actors that compact, and number of those that install. Together they are two at most.
     pub(crate) compactors: usize,
     pub(crate) installers: usize,
-    /// The readers that answer a batch beside these, and those that answer it once more in the end.
+    /// Number of readers that answer a batch meanwhile, and number of those that answer it again at the end.
     pub(crate) batch: usize,
     pub(crate) last: usize,
-    /// The actors that feed, that look keys up and that pin.
+    /// Numbers of actors that feed, that look up keys, and that pin.
     pub(crate) feeders: usize,
     pub(crate) drawers: usize,
     pub(crate) pinners: usize,
-    /// The pins in a step of an actor, and whether there is one in place of them, with a clock around it.
+    /// Number of pins in a step. If `is_timed` is true, a step is one pin, which is timed.
     pub(crate) rounds: u64,
     pub(crate) is_timed: bool,
-    /// The bytes of writes that make a run as a store opens.
+    /// Size of the memtables in bytes, while a store opens.
     pub(crate) memtable: u64,
-    /// The stores that are measured, one after the other.
+    /// Number of stores, measured in turn.
     pub(crate) stores: u64,
-    /// The lookups and scans of a batch. An actor that looks keys up beside no feeder has as many lookups.
+    /// Numbers of lookups and scans in a batch. Without feeders, an actor that looks up keys makes as many lookups.
     pub(crate) lookups: u64,
     pub(crate) scans: u64,
-    /// The keys from which both are drawn.
+    /// Number of keys to choose from.
     pub(crate) keys: u64,
-    /// The writes of a batch that is fed, and the number of batches.
+    /// Number of writes in a batch that is fed, and number of these batches.
     pub(crate) size: usize,
     pub(crate) count: usize,
 }
 
 impl Plan {
-    /// The next plan.
+    /// Reads the next plan.
     pub(crate) fn of(input: &mut Input<'_>, is_few: bool) -> Plan {
         Plan {
             is_few,
@@ -57,19 +57,19 @@ impl Plan {
         }
     }
 
-    /// The number of actors that compact or install.
+    /// Returns the number of actors that compact or install.
     pub(crate) fn changers(self) -> usize {
         self.compactors.saturating_add(self.installers)
     }
 
-    /// The number of actors that feed, look keys up or pin.
+    /// Returns the number of actors that feed, look up keys or pin.
     pub(crate) fn lone_readers(self) -> usize {
         self.feeders
             .saturating_add(self.drawers)
             .saturating_add(self.pinners)
     }
 
-    /// The number of readers.
+    /// Returns the number of readers.
     pub(crate) fn readers(self) -> usize {
         let of_batches = self.batch.saturating_add(self.last);
         self.changers()

@@ -1,4 +1,4 @@
-//! Steps of actors that read a store: they answer a batch, look a key up, or pin.
+//! Steps of actors that read a store: they answer a batch, look up a key, or pin.
 use crate::actor::Reads;
 use crate::bench::{Bench, CHANGING, STOPPED};
 use crate::drawn::{Numbers, key_of};
@@ -15,10 +15,10 @@ use uc_query_read::{Answer, Query, answer_one};
 use uc_query_shared::{Free, answer_all};
 use uc_share::{Name, Version};
 
-/// The queries that a worker draws at a time.
+/// Number of queries that a worker draws at a time.
 const PIECE: usize = 16;
 
-/// The number of a version's runs, and of their points together.
+/// Returns the number of a version's runs, and the number of their points.
 pub(crate) fn totals(version: &Version) -> (u64, u64) {
     let mut points = 0_u64;
     for placed in version.runs() {
@@ -27,7 +27,7 @@ pub(crate) fn totals(version: &Version) -> (u64, u64) {
     (version.runs().len() as u64, points)
 }
 
-/// The newest sequence that a version keeps, which is 0 where nothing is fed yet.
+/// Returns the newest sequence number that a version keeps, or 0 before the first feed.
 fn newest_keep(version: &Version) -> u64 {
     version.keeps().last().copied().unwrap_or(0)
 }
@@ -38,7 +38,7 @@ where
     W: Wait + Drop,
     R: Threads + Wait + Clock + Sync,
 {
-    /// Answers the queries as one batch, with a clock around it.
+    /// Answers the queries as one batch. Times it.
     pub(crate) fn answer_batch(
         &self,
         readers: &mut Vec<Reads<N>>,
@@ -62,15 +62,15 @@ where
         self.count_all(readers.last_mut()?, told)
     }
 
-    /// Counts the runs and points that are shown, and ends an actor's work.
+    /// Records the numbers of runs and points that the store shows. Returns false, which ends the actor.
     fn count_all(&self, reader: &mut Reads<N>, told: &mut Told) -> Option<bool> {
         let pin = self.store.pin(reader).ok()?;
         told.totals = totals(pin.version());
         Some(false)
     }
 
-    /// The answer to a lookup at the newest sequence that is kept in what is shown then, which is pinned and let go of. There is none
-    /// where nothing is fed yet.
+    /// Returns the answer to a lookup at the newest kept sequence number of a new pin, which is then released. There is no answer before
+    /// the first feed.
     fn answer(&self, reader: &mut Reads<N>, key: Bytes) -> Option<Option<Answer>> {
         let pin = self.store.pin(reader).ok()?;
         let version = pin.version();
@@ -82,7 +82,7 @@ where
         Some(Some(answer_one::<Counter>(self.alloc, version, &Query::Get { key, at }).ok()?))
     }
 
-    /// Whether an actor has looked up what it was to: `lookups` keys, or beside feeds any number until these end.
+    /// Returns true if an actor has looked up `lookups` keys or, if there are feeders, when these have ended.
     fn has_asked(&self, told: &Told) -> bool {
         if self.plan.feeders > 0 {
             self.is(STOPPED)
@@ -91,7 +91,7 @@ where
         }
     }
 
-    /// Looks a drawn key up, with a clock around it, whose time counts where the store changes.
+    /// Looks up a random key. Times it, and records the time while the store changes.
     pub(crate) fn ask(
         &self,
         reader: &mut Reads<N>,
@@ -108,7 +108,7 @@ where
         told.tell_one(&answer, self.is(CHANGING).then_some(time))
     }
 
-    /// Pins `rounds` times. Returns the number of pins that went well.
+    /// Pins `rounds` times. Returns the number of successful pins.
     fn pin_often(&self, reader: &mut Reads<N>) -> u64 {
         let mut pins = 0_u64;
         for _ in 0..self.plan.rounds {
@@ -119,7 +119,7 @@ where
         pins
     }
 
-    /// The time of a pin that went well.
+    /// Returns the time of one pin, if it succeeds.
     fn time_of_pin(&self, reader: &mut Reads<N>) -> Option<u64> {
         let start = self.now();
         let pin = self.store.pin(reader);
@@ -128,8 +128,8 @@ where
         Some(time)
     }
 
-    /// Pins once with a clock around it, or `rounds` times. What counts are pins while the store changes. It ends where there is no
-    /// installer, or where that has ended.
+    /// Pins once and times it, or pins `rounds` times. Counts only pins while the store changes. The actor ends with the installer, or at
+    /// once if there is none.
     pub(crate) fn pin(&self, reader: &mut Reads<N>, told: &mut Told) -> Option<bool> {
         let phase = self.phase.load(Ordering::Acquire);
         if phase == STOPPED {

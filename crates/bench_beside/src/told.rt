@@ -1,27 +1,27 @@
-//! [`Told`]: an actor's account of its work and times.
+//! [`Told`]: an actor's record of its work and times.
 use crate::out::Out;
 use crate::plan::Plan;
 use std::alloc::Global;
 use uc_query_read::Answer;
 use uc_query_shared::AskError;
 
-/// An actor's account. All times are nanoseconds.
+/// An actor's record. All times are in nanoseconds.
 pub(crate) struct Told {
-    /// Whether nothing was refused.
+    /// True if no call was refused.
     pub(crate) is_fine: bool,
-    /// From its beginning to its end.
+    /// Time from the actor's beginning to its end.
     pub(crate) whole: u64,
-    /// The time of what is timed in it.
+    /// Sum of the timed parts.
     pub(crate) part: u64,
-    /// The number of answers, pins, installs or stalls.
+    /// Number of answers, pins, installs or stalls.
     pub(crate) count: u64,
-    /// A checksum of the answers.
+    /// Checksum of the answers.
     pub(crate) checksum: u64,
-    /// The runs and points after a batch.
+    /// Numbers of runs and points after a batch.
     pub(crate) totals: (u64, u64),
-    /// The times of single pins, lookups, keeps or installs.
+    /// Times of single pins, lookups, keeps or installs.
     pub(crate) times: Vec<u64>,
-    /// The times of the compactions that were installed.
+    /// Times of installed compactions.
     pub(crate) compactions: Vec<u64>,
 }
 
@@ -41,7 +41,7 @@ impl Drop for Told {
     }
 }
 
-/// A checksum and then bytes.
+/// Returns a checksum, extended by bytes.
 fn with_bytes(checksum: u64, bytes: &[u8]) -> u64 {
     let mut sum = checksum;
     for byte in bytes {
@@ -50,7 +50,7 @@ fn with_bytes(checksum: u64, bytes: &[u8]) -> u64 {
     sum
 }
 
-/// A checksum and then an answer: the bytes that it shows, and the number of its kind.
+/// Returns a checksum, extended by an answer: its bytes, and the number of its kind.
 fn with_answer(checksum: u64, answer: &Answer) -> u64 {
     let (sum, kind) = match answer {
         Answer::Value(None) => (checksum, 0),
@@ -68,7 +68,7 @@ fn with_answer(checksum: u64, answer: &Answer) -> u64 {
 }
 
 impl Told {
-    /// Nothing yet.
+    /// Returns an empty record.
     pub(crate) fn new(alloc: Global) -> Told {
         Told {
             is_fine: true,
@@ -82,7 +82,7 @@ impl Told {
         }
     }
 
-    /// Counts an answer. One of a sequence that isn't kept isn't fine.
+    /// Counts an answer. The record isn't fine if the answer's sequence number isn't protected.
     fn tell(&mut self, answer: &Answer) {
         if let Answer::NotProtected(_) = answer {
             self.is_fine = false;
@@ -103,7 +103,7 @@ impl Told {
         }
     }
 
-    /// Counts a lookup's answer and its time, if there are any. It isn't the actor's last.
+    /// Counts a lookup's answer and its time, if there are any. Returns true, since the actor continues.
     pub(crate) fn tell_one(&mut self, answer: &Option<Answer>, time: Option<u64>) -> Option<bool> {
         if let Some(answer) = answer {
             self.tell(answer);
@@ -114,7 +114,7 @@ impl Told {
         Some(true)
     }
 
-    /// Writes all numbers, and how many times there are before these.
+    /// Writes all numbers. The number of times precedes the times.
     fn write(&self, out: &mut Out) {
         out.number(self.whole);
         out.number(self.part);
@@ -127,7 +127,7 @@ impl Told {
     }
 }
 
-/// Whether nothing was refused to any actor.
+/// Returns true if no call of any actor was refused.
 fn are_fine(told: &[Told]) -> bool {
     for one in told {
         if !one.is_fine {
@@ -137,7 +137,7 @@ fn are_fine(told: &[Told]) -> bool {
     true
 }
 
-/// The number of installs of the first actors.
+/// Returns the number of installs by the first actors.
 fn installs_in(told: &[Told], actors: usize) -> u64 {
     let mut installs = 0_u64;
     for one in told.iter().take(actors) {
@@ -146,15 +146,15 @@ fn installs_in(told: &[Told], actors: usize) -> u64 {
     installs
 }
 
-/// Writes the checksum of an account, if it is there.
+/// Writes the checksum of a record, if there is one.
 fn write_checksum(out: &mut Out, told: Option<&Told>) {
     if let Some(told) = told {
         out.number(told.checksum);
     }
 }
 
-/// Writes what doesn't change from run to run: whether anything is installed, a checksum of the answers beside that, unless they are
-/// beside feeds, and one of the last answers.
+/// Writes the results that are the same in each run: 1 if a compaction was installed, else 0; the checksum of the answers made meanwhile,
+/// unless there are feeders; and the checksum of the last answers.
 fn write_few(out: &mut Out, plan: Plan, told: &[Told]) {
     let changers = plan.changers();
     out.number(u64::from(installs_in(told, changers) > 0));
@@ -164,7 +164,7 @@ fn write_few(out: &mut Out, plan: Plan, told: &[Told]) {
     write_checksum(out, told.last());
 }
 
-/// Writes the accounts, unless something was refused.
+/// Writes the records. Returns `None` if a call was refused.
 pub(crate) fn write_all(out: &mut Out, plan: Plan, told: &[Told]) -> Option<()> {
     if !are_fine(told) {
         return None;

@@ -1,4 +1,4 @@
-//! Queries and their answers, as calls spell them.
+//! Encodings of queries and answers in calls.
 use crate::input::Input;
 use crate::out::Out;
 use crate::said::{self, Spelled};
@@ -7,7 +7,7 @@ use uc_bytes::Bytes;
 use uc_query_read::{Answer, Query, Rows};
 
 impl Spelled for Query {
-    /// A query: 0, a key and a sequence, or 1, the ends of a scan, its sequence and the most rows.
+    /// Reads a query: 0, a key and a sequence number; or 1, the ends of a scan, its sequence number and its largest number of rows.
     fn read(alloc: Global, call: &mut Input<'_>) -> Result<Query, AllocError> {
         if call.number() == 0 {
             let key = Bytes::from_slice(alloc, call.bytes())?;
@@ -26,7 +26,7 @@ impl Spelled for Query {
     }
 }
 
-/// Writes rows: how many they are, and of each its key and value.
+/// Writes the number of rows, and the key and value of each.
 fn write_rows(out: &mut Out, rows: &Rows) {
     out.place(rows.len());
     for (key, value) in rows.iter() {
@@ -35,7 +35,7 @@ fn write_rows(out: &mut Out, rows: &Rows) {
     }
 }
 
-/// Writes an answer: 0 if there is no value, 1 and a value, 2 and rows, or 3 and the sequence that isn't protected.
+/// Writes an answer: 0 for no value, 1 and a value, 2 and rows, or 3 and a sequence number that isn't protected.
 pub(crate) fn write_answer(out: &mut Out, answer: &Answer) {
     match answer {
         Answer::Value(None) => out.number(0),
@@ -54,7 +54,7 @@ pub(crate) fn write_answer(out: &mut Out, answer: &Answer) {
     }
 }
 
-/// Writes an answer that was made.
+/// Writes an answer, unless allocation failed.
 pub(crate) fn made_answer(out: &mut Out, made: Result<Answer, AllocError>) {
     match made {
         Ok(answer) => write_answer(out, &answer),

@@ -1,11 +1,11 @@
-//! [`Beginning`]: what a store of one owner is opened from.
+//! [`Beginning`]: the contents from which a store with one owner is opened.
 use crate::input::Input;
 use crate::{said, versions};
 use std::alloc::{AllocError, Global};
 use uc_bytes::Write;
 use uc_version_state::Options;
 
-/// The beginning of a store: a log, the writes after it, and the snapshots that it keeps.
+/// The beginning of a store: a log, the writes that follow it, and the store's snapshots.
 pub(crate) struct Beginning<'a> {
     pub(crate) way: u64,
     pub(crate) options: Options,
@@ -27,7 +27,7 @@ impl<'a> Drop for Beginning<'a> {
 }
 
 impl<'a> Beginning<'a> {
-    /// The beginning of a store without a log.
+    /// Returns the options, snapshots and writes of a store without a log.
     pub(crate) fn into_parts(self) -> (Options, Vec<u64>, Vec<Write>) {
         let Beginning {
             way: _,
@@ -40,8 +40,8 @@ impl<'a> Beginning<'a> {
     }
 }
 
-/// A way, options, snapshots, a log, and writes. In the way 0 there is no log. In the others one thread
-/// reads it (5), or threads flush its last memtables (1) or the first ones (2), or it comes in pieces (3), or as its first writes (4).
+/// Reads a way, options, snapshots, a log, and writes. Way 0 has no log. Otherwise the log is read by one thread (5), or threads flush its
+/// last memtables (1) or its first (2), or it comes in pieces (3), or as the store's first writes (4).
 pub(crate) fn given<'a>(alloc: Global, call: &mut Input<'a>) -> Result<Beginning<'a>, AllocError> {
     Ok(Beginning {
         way: call.number(),

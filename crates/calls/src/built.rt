@@ -1,4 +1,4 @@
-//! Runs of points and fragments that a call has.
+//! Runs with given points and fragments.
 use crate::input::Input;
 use crate::out::Halt;
 use crate::said::{self, Spelled};
@@ -8,7 +8,7 @@ use uc_run::Run;
 use uc_run_entry::{Entry, Fragment, Seqs, is_run};
 
 impl Spelled for Entry {
-    /// A point: its sequence, kind, key and text.
+    /// Reads a point: its sequence number, kind, key, and value or operand.
     fn read(alloc: Global, call: &mut Input<'_>) -> Result<Entry, AllocError> {
         let (seq, kind) = (call.number(), call.number());
         let key = Bytes::from_slice(alloc, call.bytes())?;
@@ -18,14 +18,14 @@ impl Spelled for Entry {
 }
 
 impl Spelled for Fragment {
-    /// A fragment: its sequences and ends.
+    /// Reads a fragment: its sequence numbers and ends.
     fn read(alloc: Global, call: &mut Input<'_>) -> Result<Fragment, AllocError> {
         let seqs = Seqs::alone(alloc, &call.numbers(alloc)?)?;
         Fragment::alone(alloc, call.bytes(), call.bytes(), seqs)
     }
 }
 
-/// The range of a run's sequences, its points and its fragments: the run, if they make one.
+/// Reads the range of a run's sequence numbers, its points and its fragments. Returns the run, if they make one.
 pub(crate) fn built(alloc: Global, call: &mut Input<'_>) -> Result<Run, Halt> {
     let (low, high) = (call.number(), call.number());
     let points = said::list::<Entry>(alloc, call)?;

@@ -1,4 +1,4 @@
-//! Calls that make one run of several, or compare two.
+//! Calls that merge runs into one, or compare two.
 use crate::input::Input;
 use crate::out::{Halt, Out};
 use crate::runs::Shelf;
@@ -10,7 +10,7 @@ use uc_compact::{Alone, Compacted, compact, compact_by, compact_by_parts, inputs
 use uc_oper::Operator;
 use uc_run::Run;
 
-/// The runs that are kept at numbers, those that there are.
+/// Returns the runs at these numbers. Skips numbers without a run.
 fn runs_at(alloc: Global, runs: &[Arc<Run>], numbers: &[u64]) -> Result<Vec<Arc<Run>>, AllocError> {
     let mut found = Vec::new(alloc);
     for number in numbers {
@@ -21,7 +21,8 @@ fn runs_at(alloc: Global, runs: &[Arc<Run>], numbers: &[u64]) -> Result<Vec<Arc<
     Ok(found)
 }
 
-/// Compacts runs that may be compacted together: by the calling thread alone, by threads, or by one part less than `way` says.
+/// Compacts runs, unless they can't be compacted together. `way` is 0 for the calling thread alone, 1 for threads, or the number of parts
+/// plus one.
 fn compacted<O: Operator + Sync>(
     rt: &(impl Threads + Sync),
     alloc: Global,
@@ -39,14 +40,14 @@ fn compacted<O: Operator + Sync>(
     })
 }
 
-/// Writes what a compaction was asked: how many runs it had, its keeps, and whether the oldest run is among them.
+/// Writes the terms of a compaction: the number of its runs, its keeps, and a flag that is set if it has the oldest run.
 fn tell<O: Operator>(made: &Compacted<O>, out: &mut Out) {
     out.place(made.inputs().len());
     out.numbers(made.keeps());
     out.flag(made.oldest());
 }
 
-/// The numbers of runs, keeps, whether the oldest run is among them, and a way: what they become.
+/// Reads the numbers of runs, keeps, a flag that is set if the oldest run is among them, and a way. Returns the compaction.
 fn made<O: Operator + Sync>(
     rt: &(impl Threads + Sync),
     alloc: Global,
@@ -60,7 +61,7 @@ fn made<O: Operator + Sync>(
     compacted::<O>(rt, alloc, &inputs, &keeps, terms)
 }
 
-/// A number to keep it at, and what `made` takes: the run that those become.
+/// Reads a number, and the arguments of `made`. Keeps the compacted run at the number.
 pub(crate) fn keep_merged<O: Operator + Sync>(
     rt: &(impl Threads + Sync),
     alloc: Global,
@@ -78,7 +79,7 @@ pub(crate) fn keep_merged<O: Operator + Sync>(
     }
 }
 
-/// The numbers of two runs: whether they are the same.
+/// Reads the numbers of two runs. Writes a flag that is set if they are the same.
 pub(crate) fn same(runs: &[Arc<Run>], call: &mut Input<'_>, out: &mut Out) {
     match (runs.get(call.place()), runs.get(call.place())) {
         (Some(run), Some(other)) => out.flag(run.same(other)),

@@ -1,4 +1,4 @@
-//! [`Desk`]: what calls of memtables and runs work with.
+//! [`Desk`]: the state of calls of memtables and runs.
 use crate::input::Input;
 use crate::out::Out;
 use crate::runs::{self, Shelf};
@@ -12,7 +12,7 @@ use std::time::Clock;
 use uc_memtable::FlushableMemtables;
 use uc_oper::Operator;
 
-/// A shelf, and memtables that are looked into while they take writes.
+/// A shelf of runs, and memtables that are read while they take writes.
 struct Desk {
     shelf: Shelf,
     memtables: Vec<FlushableMemtables>,
@@ -38,7 +38,7 @@ fn look(shelf: &Shelf, memtables: &[FlushableMemtables], out: &mut Out) {
     }
 }
 
-/// The number of a run: makes a call of it.
+/// Reads the number of a run, and makes a call of that run.
 fn play_run<O: Operator>(
     alloc: Global,
     shelf: &Shelf,
@@ -52,7 +52,7 @@ fn play_run<O: Operator>(
     }
 }
 
-/// The number of memtables: makes the run of what they show (44), or another call of them.
+/// Reads the number of memtables. Makes a run of their visible writes (44), or another call.
 fn play_memtables<O: Operator>(
     alloc: Global,
     desk: &mut Desk,
@@ -107,7 +107,7 @@ fn play_at<O: Operator + Sync>(
     Ok(())
 }
 
-/// Makes all calls.
+/// Makes all calls, beginning with an empty desk.
 pub(crate) fn play_all<O: Operator + Sync>(
     rt: &(impl Threads + Clock + Sync + Print),
     alloc: Global,

@@ -1,4 +1,4 @@
-//! Calls of logs, their records and checksums, and batches of writes.
+//! Calls of logs, their records and checksums, and write batches.
 use crate::input::Input;
 use crate::out::Out;
 use crate::{readers, said};
@@ -10,7 +10,7 @@ use uc_batch::{
 use uc_bytes::{Op, Write, WriteRef};
 use uc_logrec::{LogRead, LogWriter, crc32c, mask, read_log, unmask};
 
-/// Bytes: their checksum, and that masked and unmasked.
+/// Reads bytes. Writes their checksum, the masked checksum, and that unmasked again.
 fn sum_up(call: &mut Input<'_>, out: &mut Out) {
     let checksum = crc32c(call.bytes());
     out.number(u64::from(checksum));
@@ -18,7 +18,7 @@ fn sum_up(call: &mut Input<'_>, out: &mut Out) {
     out.number(u64::from(unmask(mask(checksum))));
 }
 
-/// Writes payloads, and how their log ends.
+/// Writes payloads, and the ending of their log.
 fn write_payloads(alloc: Global, out: &mut Out, read: &LogRead) {
     let payloads = read.payloads.as_slice();
     out.place(payloads.len());
@@ -28,7 +28,7 @@ fn write_payloads(alloc: Global, out: &mut Out, read: &LogRead) {
     out.name(alloc, &read.ending);
 }
 
-/// A log: its payloads, and how it ends.
+/// Reads a log. Writes its payloads and its ending.
 fn read(alloc: Global, call: &mut Input<'_>, out: &mut Out) {
     match read_log(alloc, call.bytes()) {
         Ok(read) => write_payloads(alloc, out, &read),
@@ -36,7 +36,7 @@ fn read(alloc: Global, call: &mut Input<'_>, out: &mut Out) {
     }
 }
 
-/// A number of payloads, and these: their log.
+/// Reads the number of payloads, and the payloads. Writes their log.
 fn log_of(alloc: Global, call: &mut Input<'_>) -> Result<Vec<u8>, AllocError> {
     let mut log = LogWriter::new(alloc);
     for _ in 0..call.number() {
@@ -48,7 +48,7 @@ fn log_of(alloc: Global, call: &mut Input<'_>) -> Result<Vec<u8>, AllocError> {
     Ok(log.finish())
 }
 
-/// Writes a write: its sequence, kind and texts.
+/// Writes a write: its sequence number, kind and byte strings.
 pub(crate) fn write_write(out: &mut Out, write: &WriteRef<'_>) {
     let (kind, first, second) = write.op().parts();
     out.number(write.seq());
@@ -57,7 +57,7 @@ pub(crate) fn write_write(out: &mut Out, write: &WriteRef<'_>) {
     out.bytes(second);
 }
 
-/// Writes writes.
+/// Writes the number of writes, and each write.
 fn write_writes(out: &mut Out, writes: &[Write]) {
     out.flag(true);
     out.place(writes.len());
@@ -66,7 +66,7 @@ fn write_writes(out: &mut Out, writes: &[Write]) {
     }
 }
 
-/// The last sequence before it, and a batch: its writes, or why it is refused.
+/// Reads the last sequence number before a batch, and the batch. Writes its writes, or the reason why it is refused.
 fn read_one(alloc: Global, call: &mut Input<'_>, out: &mut Out) {
     let (last, batch) = (call.number(), call.bytes());
     match read_batch(alloc, batch, last) {
@@ -79,7 +79,7 @@ fn read_one(alloc: Global, call: &mut Input<'_>, out: &mut Out) {
     }
 }
 
-/// Writes the batch of changes, the first of which has this sequence.
+/// Writes the batch of changes that begins with this sequence number.
 fn write_ops(alloc: Global, out: &mut Out, first: u64, ops: &[Op]) {
     if fits_batch(first, ops) {
         out.made(write_batch(alloc, first, ops));
@@ -88,7 +88,7 @@ fn write_ops(alloc: Global, out: &mut Out, first: u64, ops: &[Op]) {
     }
 }
 
-/// The sequence of the first, and changes: their batch.
+/// Reads the first sequence number, and changes. Writes their batch.
 fn write_one(alloc: Global, call: &mut Input<'_>, out: &mut Out) {
     let first = call.number();
     match said::list::<Op>(alloc, call) {
@@ -97,7 +97,7 @@ fn write_one(alloc: Global, call: &mut Input<'_>, out: &mut Out) {
     }
 }
 
-/// Writes what was read of a log, or why it isn't read.
+/// Writes the writes of a log, or the reason why it can't be read.
 fn write_read(alloc: Global, out: &mut Out, read: &Result<Writes, ReadError>) {
     match read {
         Ok(writes) => write_writes(out, writes.list()),
@@ -109,7 +109,7 @@ fn write_read(alloc: Global, out: &mut Out, read: &Result<Writes, ReadError>) {
     }
 }
 
-/// Writes how many writes were read of a log that isn't at fault.
+/// Writes the number of writes of a log without damage.
 fn write_count(out: &mut Out, read: &Result<Writes, ReadError>) {
     match read {
         Ok(writes) => out.place(writes.list().len()),
@@ -118,8 +118,8 @@ fn write_count(out: &mut Out, read: &Result<Writes, ReadError>) {
     }
 }
 
-/// Whether what is before a fault is read, and a log: the writes of its batches, or why they aren't read. The reading alone is
-/// clocked.
+/// Reads a flag that is set to keep the writes before damage, and a log. Writes the writes of its batches, or the reason why they can't be
+/// read. Clocks only the reading.
 fn read_all(clock: &impl Clock, alloc: Global, call: &mut Input<'_>, out: &mut Out) {
     let mode = if call.flag() {
         Mode::PointInTime
@@ -131,14 +131,14 @@ fn read_all(clock: &impl Clock, alloc: Global, call: &mut Input<'_>, out: &mut O
     write_read(alloc, out, &read);
 }
 
-/// A log that isn't at fault: how many writes its batches have.
+/// Reads a log without damage. Writes the number of its batches' writes.
 fn count_all(clock: &impl Clock, alloc: Global, call: &mut Input<'_>, out: &mut Out) {
     let read = read_writes(alloc, call.bytes(), Mode::TornTail);
     out.watch.stop(clock);
     write_count(out, &read);
 }
 
-/// Makes a call, whose kind was read.
+/// Makes a call of the given kind.
 pub(crate) fn play(
     clock: &impl Clock,
     alloc: Global,

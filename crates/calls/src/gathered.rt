@@ -1,4 +1,4 @@
-//! Calls of memtables that are looked into while they take writes.
+//! Calls of memtables that are read while they take writes.
 use crate::input::Input;
 use crate::out::{Halt, Out};
 use crate::said;
@@ -8,7 +8,7 @@ use uc_memtable::{ActiveMemtable, FlushableMemtables};
 use uc_oper::Operator;
 use uc_run::Run;
 
-/// A write: it waits in the memtables.
+/// Reads a write, and prepares it.
 fn prepare(memtables: &mut FlushableMemtables, call: &mut Input<'_>, out: &mut Out) {
     let write = said::write(call);
     if write.seq() <= memtables.last_prepared() || MAX_SEQUENCE < write.seq() {
@@ -17,8 +17,8 @@ fn prepare(memtables: &mut FlushableMemtables, call: &mut Input<'_>, out: &mut O
     out.done(memtables.prepare(&write));
 }
 
-/// The shown writes' number, bytes, last sequence and number of range deletions; of all writes the last sequence and the bytes;
-/// whether some wait, and whether none is shown.
+/// Writes the number, size in bytes, last sequence number and number of range deletions of the visible writes. Then the last sequence
+/// number and size of all writes, and flags that are set if some are prepared and if none is visible.
 pub(crate) fn look(memtables: &FlushableMemtables, out: &mut Out) {
     out.place(memtables.len());
     out.number(memtables.size());
@@ -30,13 +30,13 @@ pub(crate) fn look(memtables: &FlushableMemtables, out: &mut Out) {
     out.flag(memtables.is_empty());
 }
 
-/// As `look`, and whether all are in one memtable, which may change where nothing else does.
+/// Writes the answer of `look`, and a flag that is set if all writes are in one memtable. Only this flag may change with the layout.
 fn look_closely(memtables: &FlushableMemtables, out: &mut Out) {
     look(memtables, out);
     out.flag(memtables.memtable().is_some());
 }
 
-/// A key and a sequence: what the shown writes do to it.
+/// Reads a key and a sequence number. Writes the effect of the visible writes on the key.
 fn look_up<O: Operator>(
     alloc: Global,
     memtables: &FlushableMemtables,
@@ -47,7 +47,7 @@ fn look_up<O: Operator>(
     out.made_effect(memtables.effect::<O>(alloc, key, at));
 }
 
-/// Writes the sequences of the shown writes in a memtable, and whether others wait there.
+/// Writes the sequence numbers of a memtable's visible writes, and a flag that is set if others are prepared.
 fn write_seqs(memtable: &ActiveMemtable, out: &mut Out) {
     out.place(memtable.len());
     for place in 0..memtable.len() {
@@ -58,7 +58,7 @@ fn write_seqs(memtable: &ActiveMemtable, out: &mut Out) {
     out.flag(memtable.is_waiting());
 }
 
-/// One memtable of all that is shown: its sequences.
+/// Writes the sequence numbers of all visible writes, joined in one memtable.
 fn join(alloc: Global, memtables: &FlushableMemtables, out: &mut Out) {
     match memtables.to_memtable(alloc) {
         Ok(memtable) => write_seqs(&memtable, out),
@@ -66,7 +66,7 @@ fn join(alloc: Global, memtables: &FlushableMemtables, out: &mut Out) {
     }
 }
 
-/// The run of what is shown.
+/// Returns the run of the visible writes.
 pub(crate) fn run(alloc: Global, memtables: &FlushableMemtables) -> Result<Run, Halt> {
     if memtables.is_empty() {
         return Err(Halt::Refused);
@@ -74,7 +74,7 @@ pub(crate) fn run(alloc: Global, memtables: &FlushableMemtables) -> Result<Run, 
     Ok(memtables.to_run(alloc)?)
 }
 
-/// Other memtables that have what these show: a share, or those that are set apart.
+/// Returns memtables with the same contents: a share, or the ones that are set apart for a flush.
 fn shared(
     alloc: Global,
     memtables: &mut FlushableMemtables,
@@ -87,7 +87,7 @@ fn shared(
     }
 }
 
-/// Keeps memtables after all others.
+/// Appends memtables to the list.
 pub(crate) fn add(
     all: &mut Vec<FlushableMemtables>,
     memtables: FlushableMemtables,
@@ -96,7 +96,7 @@ pub(crate) fn add(
     Ok(())
 }
 
-/// The number of memtables, and whether what is shown is set apart: keeps a share of it after all others.
+/// Reads the number of memtables, and a flag that is set to take the writes set apart for a flush. Appends a share of them to the list.
 pub(crate) fn share(
     alloc: Global,
     all: &mut Vec<FlushableMemtables>,
@@ -110,7 +110,7 @@ pub(crate) fn share(
     Ok(add(all, share)?)
 }
 
-/// Makes a call, whose kind and memtables were read.
+/// Makes a call of the given kind and memtables.
 pub(crate) fn play<O: Operator>(
     alloc: Global,
     memtables: &mut FlushableMemtables,

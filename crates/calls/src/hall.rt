@@ -1,4 +1,4 @@
-//! [`Hall`]: a store that threads share, and who works there, one after the other.
+//! [`Hall`]: a store that threads share, with the readers and seats that calls use in turn.
 ghost use Rattle.std.specs.Prelude.{◌≡◌, false};
 
 use crate::hall_changes::{abandon, drop_claim, feed, install, keep, release, turn};
@@ -13,7 +13,7 @@ use std::thread::Threads;
 use uc_compact::Compacted;
 use uc_share::{Name, Pin, Reader, Store};
 
-/// A store, its readers and its places; and pins and compactions, which are kept at numbers.
+/// A store, its readers and its places, and pins and compactions, each under a number.
 pub(crate) struct Hall<'a, N: Name, W: Wait + Drop, R> {
     pub(crate) rt: &'a R,
     pub(crate) alloc: Global,
@@ -41,7 +41,7 @@ impl<N: Name, W: Wait + Drop, R> Drop for Hall<'_, N, W, R> {
     }
 }
 
-/// Where the last value with a number stands.
+/// Returns the index of the last value with a number.
 fn place_of<T>(list: &[(u64, T)], number: u64) -> Option<usize> {
     for (place, (known, _)) in list.iter().enumerate().rev() {
         if *known == number {
@@ -51,7 +51,7 @@ fn place_of<T>(list: &[(u64, T)], number: u64) -> Option<usize> {
     None
 }
 
-/// The last value with a number.
+/// Returns the last value with a number.
 pub(crate) fn numbered<T>(list: &[(u64, T)], number: u64) -> Option<&T> {
     match place_of(list, number) {
         Some(place) if place < list.len() => Some(&list[place].1),
@@ -59,7 +59,7 @@ pub(crate) fn numbered<T>(list: &[(u64, T)], number: u64) -> Option<&T> {
     }
 }
 
-/// The last value with a number, which isn't there any more.
+/// Removes and returns the last value with a number.
 pub(crate) fn take_numbered<T>(list: &mut Vec<(u64, T)>, number: u64) -> Result<T, Halt> {
     match place_of(list, number) {
         Some(place) if place < list.len() => Ok(list.remove(place).1),
@@ -67,7 +67,7 @@ pub(crate) fn take_numbered<T>(list: &mut Vec<(u64, T)>, number: u64) -> Result<
     }
 }
 
-/// Keeps a value at a number, after the others. It allocates nothing if there is room.
+/// Appends a value under a number. Doesn't allocate if the list has capacity.
 pub(crate) fn put_numbered<T: Drop>(
     list: &mut Vec<(u64, T)>,
     number: u64,
@@ -83,7 +83,7 @@ where
     W: Wait + Drop,
     R: Threads + Wait + Sync,
 {
-    /// A store, and who begins there.
+    /// Returns the hall of a store, with no pins and no compactions.
     pub(crate) fn new(
         rt: &'a R,
         alloc: Global,
@@ -105,7 +105,7 @@ where
         }
     }
 
-    /// Makes a call of a reader, whose number comes first.
+    /// Reads the number of a reader, and makes a call of it.
     pub(crate) fn play_reader(&mut self, kind: u64, call: &mut Input<'_>, out: &mut Out) {
         let (rt, alloc, store) = (self.rt, self.alloc, self.store);
         match self.readers.get_mut(call.place()) {
@@ -119,7 +119,7 @@ where
         }
     }
 
-    /// Makes a call of a place, whose number comes first.
+    /// Reads the number of a place, and makes a call of it.
     pub(crate) fn play_place(&mut self, kind: u64, call: &mut Input<'_>, out: &mut Out) {
         let (rt, alloc, store) = (self.rt, self.alloc, self.store);
         let Some(place) = self.places.get_mut(call.place()) else {
@@ -135,7 +135,7 @@ where
         out.end(ended);
     }
 
-    /// Makes a call of a reader and a place of one number, which comes first.
+    /// Reads a number, and makes a call of the reader and the place with that number.
     pub(crate) fn play_both(&mut self, kind: u64, call: &mut Input<'_>, out: &mut Out) {
         let (rt, alloc, store, who) = (self.rt, self.alloc, self.store, call.place());
         let (Some(reader), Some(place)) = (self.readers.get_mut(who), self.places.get_mut(who))

@@ -19,7 +19,7 @@ use std::thread::Threads;
 use std::time::Clock;
 use uc_share::{Name, OpenError, Opening};
 
-/// Numbers of readers and seats, options, snapshots and writes: a store that has no name yet, or why it isn't opened.
+/// Reads the numbers of readers and seats, options, snapshots and writes. Returns a store without a name, or the reason for an error.
 fn opened(
     alloc: Global,
     call: &mut Input<'_>,
@@ -33,7 +33,7 @@ fn opened(
     }
 }
 
-/// Reads the arguments of `opened`: a store that has no name yet. Writes whether it is opened, and what it shows, or why it isn't.
+/// Reads the arguments of `opened`, and returns a store without a name. Writes its version, or the reason why it isn't opened.
 fn open(alloc: Global, call: &mut Input<'_>, out: &mut Out) -> Option<Opening<Commas>> {
     match opened(alloc, call, out) {
         Ok(opening) => {
@@ -54,7 +54,7 @@ fn open(alloc: Global, call: &mut Input<'_>, out: &mut Out) -> Option<Opening<Co
     }
 }
 
-/// All that can be told of a store: what it shows, how many readers, pins and compactions there are, and which seats are free.
+/// Writes the state of a store: the shown version, the numbers of readers, pins and compactions, and the free seats.
 fn look<N, W, R>(hall: &mut Hall<'_, N, W, R>, out: &mut Out)
 where
     N: Name,
@@ -113,7 +113,7 @@ where
     Ok(())
 }
 
-/// Names a store, and makes all calls there. Want of memory for the name hands the opening back.
+/// Names a store, and makes all calls in it. Returns the store without a name if allocation of the name fails.
 fn play_named<N, R>(
     rt: &R,
     alloc: Global,
@@ -146,7 +146,7 @@ where
     Ok(play_at(&mut hall, talk))
 }
 
-/// Makes all calls in a store that was opened: the first gives it a name.
+/// Makes all calls in an opened store. The first gives it a name.
 fn play_opened<R>(
     rt: &R,
     alloc: Global,
@@ -166,7 +166,7 @@ where
     Ok(())
 }
 
-/// Makes all calls. The first one opens a store.
+/// Makes all calls. The first opens a store.
 pub(crate) fn play_all<R>(rt: &R, alloc: Global, talk: &mut Talk<'_>) -> io::Result<()>
 where
     R: Threads + Wait + Clock + Sync + Print,

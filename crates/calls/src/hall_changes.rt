@@ -1,4 +1,4 @@
-//! What changes a store that threads share, and what asks it.
+//! Calls that change or query a store that threads share.
 ghost use Rattle.std.specs.Prelude.{◌≡◌, false};
 
 use crate::asked::write_answers;
@@ -18,14 +18,14 @@ use uc_query_read::{Answer, Query, answer_one};
 use uc_query_shared::{AskError, Free, answer_all, batch_refusal};
 use uc_share::{FeedError, InstallError, Name, Pin, Reader, ReleaseError, Store, Turn, Version};
 
-/// Writes that something is done, and a number.
+/// Writes true and a number.
 fn write_done(out: &mut Out, number: u64) {
     out.flag(true);
     out.number(number);
 }
 
-/// Writes what came of a turn: 0 if nothing was picked, 1 if that is installed, 2 and the library's own name of why another was faster;
-/// or why there is none.
+/// Writes the result of a turn: 0 if nothing was picked, 1 if a compaction was installed, 2 and the library's name of the reason if another
+/// install came first; or the reason for an error.
 fn write_turn(alloc: Global, out: &mut Out, came: &Result<Turn, InstallError>) {
     match came {
         Ok(Turn::Idle) => write_done(out, 0),
@@ -38,7 +38,7 @@ fn write_turn(alloc: Global, out: &mut Out, came: &Result<Turn, InstallError>) {
     }
 }
 
-/// Writes why an install is refused, unless its memory ran out.
+/// Writes the reason why an install is refused, unless allocation failed.
 fn write_uninstalled(alloc: Global, out: &mut Out, error: &InstallError) {
     match error {
         InstallError::Memory => out.want(),
@@ -46,7 +46,7 @@ fn write_uninstalled(alloc: Global, out: &mut Out, error: &InstallError) {
     }
 }
 
-/// Writes what was fed, or why nothing was.
+/// Writes the number of runs that were fed, or the reason why there are none.
 fn write_fed(alloc: Global, out: &mut Out, fed: &Result<u64, FeedError>) {
     match fed {
         Ok(runs) => write_done(out, *runs),
@@ -55,7 +55,7 @@ fn write_fed(alloc: Global, out: &mut Out, fed: &Result<u64, FeedError>) {
     }
 }
 
-/// Writes that a snapshot is released, or why it isn't.
+/// Writes the released sequence number, or the reason why it isn't released.
 fn write_released(alloc: Global, out: &mut Out, seq: u64, released: &Result<(), ReleaseError>) {
     match released {
         Ok(()) => write_done(out, seq),
@@ -64,7 +64,7 @@ fn write_released(alloc: Global, out: &mut Out, seq: u64, released: &Result<(), 
     }
 }
 
-/// The answers from a version.
+/// Returns the answers to queries from a version.
 fn answers_of(
     alloc: Global,
     version: &Version,
@@ -77,7 +77,7 @@ fn answers_of(
     Ok(answers)
 }
 
-/// Writes answers, or why there are none.
+/// Writes answers, or the reason why there are none.
 fn write_answered(alloc: Global, out: &mut Out, answered: &Result<Vec<Answer>, AskError>) {
     match answered {
         Ok(answers) => {
@@ -89,7 +89,7 @@ fn write_answered(alloc: Global, out: &mut Out, answered: &Result<Vec<Answer>, A
     }
 }
 
-/// The number of what was made: installs that for what is claimed.
+/// Reads the number of a compaction. Installs it for the claim.
 pub(crate) fn install<N: Name, W: Wait + Drop>(
     rt: &impl Wait,
     alloc: Global,
@@ -119,7 +119,7 @@ pub(crate) fn install<N: Name, W: Wait + Drop>(
     Ok(())
 }
 
-/// A number: gives the claim back, and keeps its pin at the number.
+/// Reads a number. Abandons the claim, and keeps its pin at the number.
 pub(crate) fn abandon<N: Name, W: Wait + Drop>(
     store: &Store<Commas, N, W>,
     place: &mut Place<N>,
@@ -135,7 +135,7 @@ pub(crate) fn abandon<N: Name, W: Wait + Drop>(
     Ok(put_numbered(pins, call.number(), pin)?)
 }
 
-/// Drops the claim, and its seat with it.
+/// Drops the claim with its seat.
 pub(crate) fn drop_claim<N: Name>(place: &mut Place<N>) -> Result<(), Halt> {
     drop(place.take_claim()?);
     Ok(())
@@ -159,7 +159,7 @@ pub(crate) fn turn<N: Name, W: Wait + Drop>(
     Ok(())
 }
 
-/// Writes: feeds them.
+/// Reads writes, and feeds them.
 pub(crate) fn feed<N: Name, W: Wait + Drop>(
     rt: &impl Wait,
     alloc: Global,
@@ -173,7 +173,7 @@ pub(crate) fn feed<N: Name, W: Wait + Drop>(
     }
 }
 
-/// Keeps the last sequence.
+/// Keeps the last sequence number.
 pub(crate) fn keep<N: Name, W: Wait + Drop>(
     rt: &impl Wait,
     alloc: Global,
@@ -189,7 +189,7 @@ pub(crate) fn keep<N: Name, W: Wait + Drop>(
     }
 }
 
-/// A sequence: releases it.
+/// Reads a sequence number, and releases it.
 pub(crate) fn release<N: Name, W: Wait + Drop>(
     rt: &impl Wait,
     alloc: Global,
@@ -204,7 +204,7 @@ pub(crate) fn release<N: Name, W: Wait + Drop>(
     write_released(alloc, out, seq, &store.release(rt, alloc, seq, reader));
 }
 
-/// Queries: their answers from a version.
+/// Reads queries. Returns their answers from a version.
 fn answers_to(
     alloc: Global,
     version: &Version,
@@ -214,7 +214,7 @@ fn answers_to(
     answers_of(alloc, version, &queries)
 }
 
-/// Writes answers that were made.
+/// Writes answers, unless allocation failed.
 fn write_made(out: &mut Out, answers: Result<Vec<Answer>, AllocError>) {
     match answers {
         Ok(answers) => {
@@ -225,7 +225,7 @@ fn write_made(out: &mut Out, answers: Result<Vec<Answer>, AllocError>) {
     }
 }
 
-/// The number of a pin, and queries: their answers.
+/// Reads the number of a pin, and queries. Writes the answers.
 pub(crate) fn ask_pin<N: Name>(
     alloc: Global,
     pins: &[(u64, Pin<Commas, N>)],
@@ -238,7 +238,7 @@ pub(crate) fn ask_pin<N: Name>(
     }
 }
 
-/// The answers by this many workers. All readers come back.
+/// Returns the answers by a number of workers, which give all readers back.
 fn answered<N: Name + Send>(
     rt: &(impl Threads + Sync),
     alloc: Global,
@@ -252,8 +252,8 @@ fn answered<N: Name + Send>(
     answers
 }
 
-/// The number of workers, of queries in a piece, and queries: whether a refusal is foretold, how many readers there are then, and
-/// the answers.
+/// Reads the number of workers, the number of queries in a piece, and queries. Writes a flag that is set if a refusal is predicted, the
+/// number of readers afterwards, and the answers.
 pub(crate) fn ask<N: Name + Send>(
     rt: &(impl Threads + Sync),
     alloc: Global,

@@ -1,4 +1,4 @@
-//! What is pinned, picked, claimed and compacted in a store that threads share.
+//! Calls that pin, pick, claim and compact in a store that threads share.
 ghost use Rattle.std.specs.Prelude.{◌≡◌};
 
 use crate::hall::{numbered, put_numbered, take_numbered};
@@ -17,26 +17,26 @@ use uc_compact::{Compacted, compact, inputs_stand};
 use uc_run::Run;
 use uc_share::{ClaimError, Name, Pin, Reader, Seat, Store};
 
-/// Writes what is pinned: a version, and how many events led to it.
+/// Writes a pin: its version, and the number of events before it.
 fn write_pin<N: Name>(out: &mut Out, pin: &Pin<Commas, N>) {
     write_version(out, pin.version());
     out.number(pin.front().len());
 }
 
-/// Writes why something is refused: the library's own name of it.
+/// Writes the library's name of the reason for a refusal.
 pub(crate) fn write_why<E: Debug>(alloc: Global, out: &mut Out, error: &E) {
     out.flag(false);
     out.name(alloc, error);
 }
 
-/// Writes what a compaction was asked: how many runs it had, whether the oldest run is among them, and its keeps.
+/// Writes the terms of a compaction: the number of its runs, a flag that is set if it has the oldest run, and its keeps.
 fn write_made(out: &mut Out, made: &Compacted<Commas>) {
     out.place(made.inputs().len());
     out.flag(made.oldest());
     out.numbers(made.keeps());
 }
 
-/// Writes the slots that a seat finds taken.
+/// Writes a flag for each slot that is set if a seat finds it taken.
 fn write_busy<N: Name, W: Wait + Drop>(out: &mut Out, store: &Store<Commas, N, W>, seat: &mut Seat)
     requires { seat.old.table ≡ store.now.table }
     ensures { seat.new.table ≡ store.now.table }
@@ -46,7 +46,7 @@ fn write_busy<N: Name, W: Wait + Drop>(out: &mut Out, store: &Store<Commas, N, W
     }
 }
 
-/// Writes why a claim is refused, unless its memory ran out.
+/// Writes the reason why a claim is refused, unless allocation failed.
 fn write_unclaimed(alloc: Global, out: &mut Out, error: &ClaimError) {
     match error {
         ClaimError::Memory => out.want(),
@@ -54,7 +54,7 @@ fn write_unclaimed(alloc: Global, out: &mut Out, error: &ClaimError) {
     }
 }
 
-/// Writes what is shown now.
+/// Writes the shown version.
 pub(crate) fn write_shown<N: Name>(out: &mut Out, reader: &mut Reader<Commas, N>) {
     match reader.pin() {
         Ok(pin) => write_pin(out, &pin),
@@ -62,7 +62,7 @@ pub(crate) fn write_shown<N: Name>(out: &mut Out, reader: &mut Reader<Commas, N>
     }
 }
 
-/// A number if what is pinned is kept there: pins what is shown.
+/// Reads a flag and a number. Pins the shown version, and keeps the pin at the number if the flag is set.
 pub(crate) fn pin<N: Name>(
     reader: &mut Reader<Commas, N>,
     pins: &mut Vec<(u64, Pin<Commas, N>)>,
@@ -81,7 +81,7 @@ pub(crate) fn pin<N: Name>(
     }
 }
 
-/// The number of a pin: what is pinned.
+/// Reads the number of a pin, and writes the pin.
 pub(crate) fn look<N: Name>(pins: &[(u64, Pin<Commas, N>)], call: &mut Input<'_>, out: &mut Out) {
     match numbered(pins, call.number()) {
         Some(pin) => write_pin(out, pin),
@@ -89,7 +89,7 @@ pub(crate) fn look<N: Name>(pins: &[(u64, Pin<Commas, N>)], call: &mut Input<'_>
     }
 }
 
-/// Which stretch of a pin is compacted next.
+/// Writes the stretch of a pin to compact next.
 fn picked<N: Name, W: Wait + Drop>(
     store: &Store<Commas, N, W>,
     place: &mut Place<N>,
@@ -105,7 +105,7 @@ fn picked<N: Name, W: Wait + Drop>(
     Ok(())
 }
 
-/// A pin: which stretch is compacted next.
+/// Reads the number of a pin. Writes its stretch to compact next.
 pub(crate) fn pick<N: Name, W: Wait + Drop>(
     store: &Store<Commas, N, W>,
     place: &mut Place<N>,
@@ -124,7 +124,7 @@ pub(crate) fn pick<N: Name, W: Wait + Drop>(
     }
 }
 
-/// Which slots a seat finds taken.
+/// Writes a flag for each slot that is set if a seat finds it taken.
 pub(crate) fn busy<N: Name, W: Wait + Drop>(
     store: &Store<Commas, N, W>,
     place: &mut Place<N>,
@@ -138,7 +138,7 @@ pub(crate) fn busy<N: Name, W: Wait + Drop>(
     Ok(())
 }
 
-/// A pin and a stretch: claims it.
+/// Reads the number of a pin, and a stretch. Claims the stretch.
 pub(crate) fn claim<N: Name, W: Wait + Drop>(
     alloc: Global,
     store: &Store<Commas, N, W>,
@@ -167,7 +167,7 @@ pub(crate) fn claim<N: Name, W: Wait + Drop>(
     Ok(())
 }
 
-/// Keeps a compaction at a number, if it was made.
+/// Keeps a compaction at a number, unless it failed.
 fn keep(
     all: &mut Vec<(u64, Compacted<Commas>)>,
     number: u64,
@@ -183,7 +183,7 @@ fn keep(
     }
 }
 
-/// The run that a claim is compacted to.
+/// Compacts a claim.
 fn compacted<N: Name>(
     rt: &(impl Threads + Sync),
     alloc: Global,
@@ -192,7 +192,7 @@ fn compacted<N: Name>(
     Ok(place.claim()?.compact(rt, alloc)?)
 }
 
-/// A number: compacts what is claimed, and keeps that at the number.
+/// Reads a number. Compacts the claim, and keeps the compaction at the number.
 pub(crate) fn compact_claim<N: Name>(
     rt: &(impl Threads + Sync),
     alloc: Global,
@@ -204,7 +204,7 @@ pub(crate) fn compact_claim<N: Name>(
     keep(all, call.number(), compacted(rt, alloc, place), out);
 }
 
-/// The run that unclaimed runs are compacted to.
+/// Compacts runs that aren't claimed.
 fn merged(
     rt: &(impl Threads + Sync),
     alloc: Global,
@@ -218,7 +218,7 @@ fn merged(
     Ok(compact::<Commas>(rt, alloc, runs, keeps, oldest)?)
 }
 
-/// A stretch, keeps, and whether it has the oldest run: what its runs become.
+/// Reads a stretch, keeps, and a flag that is set if it has the oldest run. Compacts the stretch.
 fn made<N: Name>(
     rt: &(impl Threads + Sync),
     alloc: Global,
@@ -230,7 +230,7 @@ fn made<N: Name>(
     merged(rt, alloc, &inputs, &keeps, call.flag())
 }
 
-/// A number, a pin, and what `made` takes: what its runs become, which is kept at the number.
+/// Reads a number, the number of a pin, and the arguments of `made`. Keeps the compaction at the first number.
 pub(crate) fn make<N: Name>(
     rt: &(impl Threads + Sync),
     alloc: Global,

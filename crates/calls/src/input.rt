@@ -1,17 +1,18 @@
-//! [`Input`]: numbers and bytes, one after the other, as a call spells them.
+//! [`Input`]: the encoding of a call, as numbers and bytes.
 use std::alloc::{AllocError, Global};
 
-/// The input that is left to read.
+/// The input that remains to be read.
 ///
-/// A number is decimal digits. Bytes are their length, a number, and then themselves. One byte of any kind follows each of both.
+/// A number is decimal digits. A byte string is its length, as a number, and its bytes. Each number and byte string ends with one byte of
+/// any value.
 #[derive(Clone, Copy, Drop)]
 pub(crate) struct Input<'a> {
     rest: &'a [u8],
-    /// Whether more was asked for than was there.
+    /// True if a read went past the end.
     is_short: bool,
 }
 
-/// The number at the front, and how many bytes it takes with the one after it.
+/// Returns the number at the front, and its size in bytes with the final byte.
 fn number_in(bytes: &[u8]) -> Option<(u64, usize)> {
     let mut number = 0_u64;
     for (place, byte) in bytes.iter().enumerate() {
@@ -25,7 +26,7 @@ fn number_in(bytes: &[u8]) -> Option<(u64, usize)> {
 }
 
 impl<'a> Input<'a> {
-    /// All of these bytes.
+    /// Returns an input of these bytes.
     pub(crate) fn new(bytes: &'a [u8]) -> Input<'a> {
         Input {
             rest: bytes,
@@ -33,23 +34,23 @@ impl<'a> Input<'a> {
         }
     }
 
-    /// Whether nothing is left.
+    /// Returns true if nothing remains.
     pub(crate) fn is_empty(&self) -> bool {
         self.rest.is_empty()
     }
 
-    /// Whether more was asked for than was there.
+    /// Returns true if a read went past the end.
     pub(crate) fn is_short(&self) -> bool {
         self.is_short
     }
 
-    /// Leaves nothing to read, as if more had been asked for: it is no call.
+    /// Discards the rest, as if a read had gone past the end. The call is malformed then.
     pub(crate) fn spoil(&mut self) {
         self.rest = &[];
         self.is_short = true;
     }
 
-    /// The next number; 0 if there is none.
+    /// Reads a number, or 0 at the end.
     pub(crate) fn number(&mut self) -> u64 {
         match number_in(self.rest) {
             Some((number, length)) => {
@@ -63,17 +64,17 @@ impl<'a> Input<'a> {
         }
     }
 
-    /// The next number, as a place or a length.
+    /// Reads a number as an index or a length.
     pub(crate) fn place(&mut self) -> usize {
         self.number() as usize
     }
 
-    /// The next number, as a yes or a no.
+    /// Reads a number as a flag.
     pub(crate) fn flag(&mut self) -> bool {
         self.number() != 0
     }
 
-    /// The next bytes; none if there aren't any.
+    /// Reads a byte string, or an empty one at the end.
     pub(crate) fn bytes(&mut self) -> &'a [u8] {
         let length = self.place();
         match self.rest.get(..length) {
@@ -88,7 +89,7 @@ impl<'a> Input<'a> {
         }
     }
 
-    /// A flag, and bytes if it is set.
+    /// Reads a flag, and a byte string if it is set.
     pub(crate) fn some_bytes(&mut self) -> Option<&'a [u8]> {
         if self.flag() {
             Some(self.bytes())
@@ -97,7 +98,7 @@ impl<'a> Input<'a> {
         }
     }
 
-    /// A number of numbers, and these.
+    /// Reads the number of numbers, and the numbers.
     pub(crate) fn numbers(&mut self, alloc: Global) -> Result<Vec<u64>, AllocError> {
         let mut numbers = Vec::new(alloc);
         for _ in 0..self.number() {

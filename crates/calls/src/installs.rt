@@ -1,4 +1,4 @@
-//! What the runs of claims become, and how it is put in their place.
+//! Compactions of claimed runs, and their installs.
 use crate::merges::made_by_parts;
 use crate::out::Halt;
 use crate::owner::{Held, find, held_under, hold, taken};
@@ -12,18 +12,18 @@ use uc_version::{Alone, CompactError, MOST_SLOTS, Owned, Stretch};
 use uc_version_compact::InstallError;
 use uc_version_state::Placed;
 
-/// Who compacts, flushes what is fed, and merges.
+/// The executor of compactions, feeds and merges.
 #[derive(Clone, Copy)]
 pub(crate) enum Workers {
     /// The calling thread.
     Alone,
     /// Threads.
     Threads,
-    /// Threads, in parts of the key space.
+    /// Threads, for a number of parts of the key space.
     Parts,
 }
 
-/// The stretch of a claim now: what is fed and installed moves it.
+/// Returns the current stretch of a claim, which feeds and installs shift.
 fn stretch_of(runs: &[Placed], newest: u64, count: usize) -> Result<Stretch, Halt> {
     for (first, placed) in runs.iter().enumerate() {
         if placed.id() == newest {
@@ -33,7 +33,7 @@ fn stretch_of(runs: &[Placed], newest: u64, count: usize) -> Result<Stretch, Hal
     Err(Halt::Refused)
 }
 
-/// The run that a claim is compacted to by parts, for the store's keeps.
+/// Compacts a claim in parts, for the store's keeps.
 fn made_for_store<O: Operator + Sync>(
     rt: &(impl Threads + Sync),
     alloc: Global,
@@ -47,7 +47,7 @@ fn made_for_store<O: Operator + Sync>(
     made_by_parts::<O>(rt, alloc, runs, stretch, (version.keeps(), oldest))
 }
 
-/// The run that a claim is compacted to.
+/// Compacts a claim.
 fn made_of<O: Operator + Sync>(
     rt: &(impl Threads + Sync),
     alloc: Global,
@@ -65,7 +65,7 @@ fn made_of<O: Operator + Sync>(
     })
 }
 
-/// Compacts what is held, for the store's keeps.
+/// Compacts a held claim, for the store's keeps.
 pub(crate) fn make<O: Operator + Sync>(
     rt: &(impl Threads + Sync),
     alloc: Global,
@@ -78,7 +78,7 @@ pub(crate) fn make<O: Operator + Sync>(
     Ok(())
 }
 
-/// Compacts what is held, for other keeps, and as the oldest runs or not.
+/// Compacts a held claim for other keeps, as the oldest runs or not.
 pub(crate) fn make_under<O: Operator + Sync>(
     rt: &(impl Threads + Sync),
     alloc: Global,
@@ -93,7 +93,7 @@ pub(crate) fn make_under<O: Operator + Sync>(
     Ok(())
 }
 
-/// Puts what was made in the place of a claim's runs. What is refused is held again.
+/// Installs a compaction in place of its claim's runs. If that is refused, the claim is held again.
 fn put<O: Operator>(
     store: &mut Owned<O>,
     claims: &mut Vec<Held<O>>,
@@ -123,7 +123,7 @@ fn put<O: Operator>(
     }
 }
 
-/// Compacts what is held under a name, if that isn't done, and puts it in its place.
+/// Installs the compaction of the claim with a name. Compacts first if that wasn't done.
 pub(crate) fn install<O: Operator + Sync>(
     rt: &(impl Threads + Sync),
     alloc: Global,
@@ -144,7 +144,7 @@ pub(crate) fn install<O: Operator + Sync>(
     }
 }
 
-/// Compacts a stretch at once: the id of the run.
+/// Compacts a stretch and installs the run. Returns its id.
 fn compacted_now<O: Operator + Sync>(
     rt: &(impl Threads + Sync),
     alloc: Global,
@@ -158,7 +158,7 @@ fn compacted_now<O: Operator + Sync>(
     }
 }
 
-/// Compacts a stretch at once, unless that is refused.
+/// Compacts a stretch and installs the run, unless that is refused.
 fn compacted<O: Operator + Sync>(
     rt: &(impl Threads + Sync),
     alloc: Global,
@@ -173,7 +173,7 @@ fn compacted<O: Operator + Sync>(
     }
 }
 
-/// Compacts a stretch at once.
+/// Reads a stretch, compacts it and installs the run.
 pub(crate) fn compact<O: Operator + Sync>(
     rt: &(impl Threads + Sync),
     alloc: Global,
@@ -189,7 +189,7 @@ pub(crate) fn compact<O: Operator + Sync>(
     }
 }
 
-/// Compacts what is picked until nothing is: how many compactions those were. Each leaves fewer runs.
+/// Compacts picked stretches until nothing is picked. Returns the number of compactions. Each leaves fewer runs.
 pub(crate) fn settle<O: Operator + Sync>(
     rt: &(impl Threads + Sync),
     alloc: Global,

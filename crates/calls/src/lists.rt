@@ -1,4 +1,4 @@
-//! Lists of calls of a store of one owner.
+//! Lists of calls of a store with one owner.
 ghost use Rattle.std.specs.Prelude.{◌↔◌, IsTrue};
 ghost use Rattle.std.specs.List.{AllByRecursion};
 ghost use Rattle.uc_query.specs.Turns.{HasName};
@@ -19,19 +19,19 @@ use uc_query_read::Query;
 use uc_query_workers::AskError;
 use uc_version::{MOST_CLAIMS, Owned};
 
-/// The name of a claim; the greatest number for one that is none.
+/// Reads the name of a claim. The greatest number stands for a name that doesn't exist.
 pub(crate) fn name(call: &mut Input<'_>) -> u8 {
     u8::try_from(call.number()).unwrap_or(u8::MAX)
 }
 
-/// A batch: the number of workers, of queries in a piece, and the queries.
+/// Reads a batch: the number of workers, the number of queries in a piece, and the queries.
 fn batch(alloc: Global, call: &mut Input<'_>) -> Result<Call, AllocError> {
     let (workers, piece) = (call.place(), call.place());
     let queries = Items::from(said::list::<Query>(alloc, call)?);
     Ok(Call::Ask(queries, workers, piece))
 }
 
-/// Writes that rise. Others are no call.
+/// Reads writes whose sequence numbers ascend. Refuses others.
 fn feed(alloc: Global, call: &mut Input<'_>) -> Result<Call, AllocError> {
     match Writes::of(said::list::<Write>(alloc, call)?) {
         Some(writes) => Ok(Call::Feed(writes)),
@@ -39,14 +39,14 @@ fn feed(alloc: Global, call: &mut Input<'_>) -> Result<Call, AllocError> {
     }
 }
 
-/// A malformed call: the whole list is refused.
+/// A malformed call, for which the whole list is refused.
 fn no_call(call: &mut Input<'_>) -> Call {
     call.spoil();
     Call::Pick
 }
 
 impl Spelled for Call {
-    /// A call of a list: its kind, and what the call of that kind takes.
+    /// Reads a call of a list: its kind, and the arguments of that kind.
     fn read(alloc: Global, call: &mut Input<'_>) -> Result<Call, AllocError> {
         match call.number() {
             3 => Ok(Call::Claim(name(call), stretch(call))),
@@ -64,7 +64,7 @@ impl Spelled for Call {
     }
 }
 
-/// Whether a call's name exists.
+/// Returns true if the name of a call exists.
 fn has_name(call: &Call) -> bool
     ensures { IsTrue result ↔ HasName call.now }
 {
@@ -76,14 +76,14 @@ fn has_name(call: &Call) -> bool
     }
 }
 
-/// Whether all calls' names exist.
+/// Returns true if the names of all calls exist.
 fn have_names(calls: &[Call]) -> bool
     ensures { IsTrue result ↔ AllByRecursion HasName calls.now }
 {
     calls.iter().all(has_name)
 }
 
-/// Writes why queries can't be asked so.
+/// Writes the reason why queries are refused.
 pub(crate) fn write_stopped(alloc: Global, out: &mut Out, error: &AskError) {
     match error {
         AskError::Memory => out.want(),
@@ -91,7 +91,7 @@ pub(crate) fn write_stopped(alloc: Global, out: &mut Out, error: &AskError) {
     }
 }
 
-/// Makes calls at once: their replies, or why they are stopped.
+/// Makes the calls of a list. Writes their replies, or the reason why the list stops.
 fn make<O: Operator + Sync>(
     rt: &(impl Threads + Sync),
     alloc: Global,
@@ -111,7 +111,7 @@ fn make<O: Operator + Sync>(
     }
 }
 
-/// A number of calls, and these: makes them at once.
+/// Reads the number of calls, and the calls. Makes them.
 pub(crate) fn play<O: Operator + Sync>(
     rt: &(impl Threads + Sync),
     alloc: Global,

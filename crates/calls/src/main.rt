@@ -1,15 +1,16 @@
-//! Calls of the libraries, numbers and bytes in and out, for the tests in `tests/`.
+//! A player of calls of the libraries, for the tests in `tests/`. Reads and writes numbers and bytes.
 //!
-//! Standard input is a scene, an operator and calls, each as bytes; a line of the output answers each. The program knows no text, draws
-//! nothing, compares nothing and expects nothing: `tests/play.py` spells the calls and reads the answers. Read `talk.rt` first,
-//! which says how calls stand in a row, then `input.rt` and `out.rt`, which say how they are spelled.
+//! Standard input is a scene, an operator and calls, each as bytes. Each call is answered by a line of output. The program compares nothing
+//! and expects nothing: `tests/play.py` encodes the calls and decodes the answers. Read `talk.rt` first, which describes the list of
+//! calls, then `input.rt` and `out.rt`, which describe their encoding. In this crate "Reads" means arguments of the call, and "Writes"
+//! means its answer.
 //!
-//! A call whose memory is refused says so in its answer, and what it works with has to be as before. `marks.rt` shows a
-//! preloaded library (`faults/refuse.c`) which requests for memory are a call's own. A call may be clocked instead: `watch.rt` has how
-//! long it takes, for the scripts in `bench/`.
+//! If allocation fails in a call, its answer says so, and the state must be as before. `marks.rt` shows a preloaded library
+//! (`faults/refuse.c`) which requests for memory belong to a call. A call can be clocked instead: `watch.rt` measures its time for the
+//! scripts in `bench/`.
 //!
-//! A scene is what calls work with: `desk.rt` has memtables and runs, `shop.rt` a store of one owner,
-//! `hall_calls.rt` a store that threads share, `slots.rt` a table of slots, and `sheet.rt` effects and plain writes alone.
+//! A scene is the state that calls work with. `desk.rt` has memtables and runs, `shop.rt` a store with one owner, `hall_calls.rt` a store
+//! that threads share, `slots.rt` a table of slots, and `sheet.rt` only effects and plain writes.
 #![tactic(auto)]
 
 mod asked;
@@ -59,7 +60,7 @@ use std::thread::Threads;
 use std::time::Clock;
 use uc_oper::{Append, Counter, Maximum, Tail};
 
-/// Makes all calls of memtables and runs under an operator.
+/// Makes all calls of memtables and runs, under an operator.
 fn desk_by(
     rt: &(impl Threads + Clock + Sync + Print),
     alloc: Global,
@@ -72,7 +73,7 @@ fn desk_by(
     }
 }
 
-/// Makes all calls of a store of one owner under an operator.
+/// Makes all calls of a store with one owner, under an operator.
 fn shop_by(
     rt: &(impl Threads + Clock + Sync + Print),
     alloc: Global,
@@ -87,7 +88,7 @@ fn shop_by(
     }
 }
 
-/// Makes all calls of effects and plain writes under an operator.
+/// Makes all calls of effects and plain writes, under an operator.
 fn sheet_by(
     rt: &(impl Threads + Clock + Sync + Print),
     alloc: Global,
@@ -103,7 +104,7 @@ fn sheet_by(
     }
 }
 
-/// Makes all calls of a scene. Each scene has the operators alone that its tests take, since a program is compiled once for each.
+/// Makes all calls of a scene. A scene has only the operators that its tests use, since each operator is compiled separately.
 fn play(
     rt: &(impl Threads + Wait + Clock + Sync + Print),
     alloc: Global,

@@ -1,4 +1,4 @@
-//! Compactions of a version's runs that nobody claims.
+//! Compactions of a version's runs without claims.
 use crate::out::Halt;
 use std::alloc::{AllocError, Global};
 use std::marker::Sync;
@@ -9,10 +9,10 @@ use uc_oper::Operator;
 use uc_run::Run;
 use uc_version_state::{Placed, Stretch};
 
-/// In how many parts.
+/// Number of parts of a compaction.
 const PARTS: usize = 3;
 
-/// Shares of the runs of a stretch.
+/// Returns shares of the runs of a stretch.
 pub(crate) fn shares(
     alloc: Global,
     runs: &[Placed],
@@ -25,7 +25,7 @@ pub(crate) fn shares(
     Ok(shares)
 }
 
-/// The run that a stretch is compacted to by parts, for these keeps, and as the oldest ones or not.
+/// Compacts a stretch in parts, for these keeps, and as the oldest runs or not.
 pub(crate) fn made_by_parts<O: Operator + Sync>(
     rt: &(impl Threads + Sync),
     alloc: Global,

@@ -1,4 +1,4 @@
-//! Ways to open a store of one owner.
+//! Ways to open a store with one owner.
 use crate::beginning::{Beginning, given};
 use crate::input::Input;
 use crate::out::Out;
@@ -13,14 +13,14 @@ use uc_version::{Alone, InThreads, OpenError, Opener, Owned, open_plain};
 use uc_version_open::{Recovered, recover, recover_first, recover_pieces};
 use uc_version_state::{Options, Version};
 
-/// The bytes of a log in pieces.
+/// Returns a log in pieces.
 fn pieces(alloc: Global, log: &[u8]) -> Result<Pieces, AllocError> {
     let mut pieces = Pieces::new(alloc);
     pieces.push_bytes(alloc, log)?;
     Ok(pieces)
 }
 
-/// The log's writes in a store that is being opened.
+/// Returns an opening store with the writes of a log.
 fn recovered(
     rt: &(impl Threads + Sync),
     alloc: Global,
@@ -40,7 +40,7 @@ fn recovered(
     }
 }
 
-/// Takes a write that follows.
+/// Adds a write that follows the log.
 fn insert(alloc: Global, opener: &mut Opener, write: &Write, out: &mut Out) {
     if write.seq <= opener.last() || MAX_SEQUENCE < write.seq {
         return out.refuse();
@@ -48,7 +48,7 @@ fn insert(alloc: Global, opener: &mut Opener, write: &Write, out: &mut Out) {
     out.done(opener.insert(&Alone, alloc, &WriteRef::of(write)));
 }
 
-/// Takes the writes after the log, up to one that is refused.
+/// Adds the writes that follow the log, until one is refused.
 fn insert_all(alloc: Global, opener: &mut Opener, writes: &[Write], out: &mut Out) {
     for write in writes {
         if out.halt().is_some() {
@@ -58,7 +58,7 @@ fn insert_all(alloc: Global, opener: &mut Opener, writes: &[Write], out: &mut Ou
     }
 }
 
-/// Writes how far a log was read: 0 if all is read, 1 and a place if it is torn, and 2 if it is at fault.
+/// Writes the extent to which a log was read: 0 for all of it, 1 and an offset if it is torn, or 2 if it is damaged.
 fn write_ended(out: &mut Out, ended: Ended) {
     match ended {
         Ended::Torn(place) => {
@@ -70,7 +70,7 @@ fn write_ended(out: &mut Out, ended: Ended) {
     }
 }
 
-/// The log's writes and those after it in a store that is being opened. Writes how far the log was read.
+/// Returns an opening store with the writes of a log and those that follow. Writes the extent to which the log was read.
 fn begun(
     rt: &(impl Threads + Sync),
     alloc: Global,
@@ -89,7 +89,7 @@ fn begun(
     Ok(opener)
 }
 
-/// The version of the writes that came.
+/// Returns the version of the writes that were added.
 fn finished(
     rt: &(impl Threads + Sync),
     alloc: Global,
@@ -104,7 +104,7 @@ fn finished(
     }
 }
 
-/// A store of a version.
+/// Returns a store of a version.
 fn owned<O: Operator>(
     alloc: Global,
     version: Version,
@@ -117,7 +117,7 @@ fn owned<O: Operator>(
     }
 }
 
-/// The store of a log and the writes after it, or why it isn't opened.
+/// Returns the store of a log and the writes that follow, or the reason why it isn't opened.
 fn opened_of_log<O: Operator>(
     rt: &(impl Threads + Sync),
     alloc: Global,
@@ -133,7 +133,7 @@ fn opened_of_log<O: Operator>(
     owned::<O>(alloc, version, given.options)
 }
 
-/// The store of plain writes, or why it isn't opened.
+/// Returns the store of plain writes, or the reason why it isn't opened.
 fn opened_of_writes<O: Operator>(
     clock: &impl Clock,
     alloc: Global,
@@ -151,8 +151,8 @@ fn opened_of_writes<O: Operator>(
     opened
 }
 
-/// Opens a store: the store, or why it isn't opened. Writes how far its log was read, if it has one. The opening alone is
-/// clocked. If the answer says already that there is none, the error doesn't count.
+/// Opens a store. Returns it, or the reason why it isn't opened. Writes the extent to which its log was read, if it has one. Clocks only
+/// the opening. If the answer already says that there is no store, the error is ignored.
 pub(crate) fn open<O: Operator>(
     rt: &(impl Threads + Clock + Sync),
     alloc: Global,

@@ -1,19 +1,19 @@
-//! [`Out`]: the answer to a call, numbers and bytes one after the other.
+//! [`Out`]: the answer to a call, as numbers and bytes.
 use crate::watch::Watch;
 use itoa::Buffer;
 use std::alloc::{AllocError, Global};
 use std::fmt::{Debug, Display};
 use uc_oper::Effect;
 
-/// How many bytes are reserved, so that most answers ask for no memory.
+/// Bytes reserved, so that most answers allocate nothing.
 const RESERVED: usize = 1 << 16;
 
-/// Why a call has no answer.
+/// Reason why a call has no answer.
 #[derive(Clone, Copy)]
 pub(crate) enum Halt {
-    /// Memory ran out.
+    /// Allocation failed.
     Memory,
-    /// It isn't a call, or it may not be made now.
+    /// The call is malformed, or isn't allowed now.
     Refused,
 }
 
@@ -23,17 +23,17 @@ impl From<AllocError> for Halt {
     }
 }
 
-/// An answer, spelled as an `Input` is. It remembers why there is none, so that a call needs no way out for each step.
+/// An answer, in the encoding of an `Input`. Records the reason why there is no answer, so that steps of a call need no error handling.
 #[derive(Drop)]
 pub(crate) struct Out {
     bytes: Vec<u8>,
     halt: Option<Halt>,
-    /// The time of the call, if it is clocked.
+    /// Time of the call, if it is clocked.
     pub(crate) watch: Watch,
 }
 
 impl Out {
-    /// An empty answer.
+    /// Returns an empty answer.
     pub(crate) fn new(alloc: Global) -> Result<Out, AllocError> {
         Ok(Out {
             bytes: Vec::with_capacity(alloc, RESERVED)?,
@@ -42,47 +42,47 @@ impl Out {
         })
     }
 
-    /// Empties it.
+    /// Empties the answer.
     pub(crate) fn clear(&mut self) {
         self.bytes.clear();
         self.halt = None;
     }
 
-    /// The bytes that were written.
+    /// Returns the bytes of the answer.
     pub(crate) fn as_slice(&self) -> &[u8] {
         self.bytes.as_slice()
     }
 
-    /// Why there is no answer, if there is none.
+    /// Returns the reason why there is no answer, if there is one.
     pub(crate) fn halt(&self) -> Option<Halt> {
         self.halt
     }
 
-    /// Records why there is no answer, unless a reason is known already.
+    /// Records the reason why there is no answer, unless one was recorded before.
     pub(crate) fn stop(&mut self, halt: Halt) {
         if self.halt.is_none() {
             self.halt = Some(halt);
         }
     }
 
-    /// Records that memory ran out.
+    /// Records that allocation failed.
     pub(crate) fn want(&mut self) {
         self.stop(Halt::Memory);
     }
 
-    /// Records that it isn't a call, or may not be made now.
+    /// Records that the call is malformed or not allowed now.
     pub(crate) fn refuse(&mut self) {
         self.stop(Halt::Refused);
     }
 
-    /// Records why a step failed, if it did.
+    /// Records the reason why a step failed, if it did.
     pub(crate) fn end(&mut self, came: Result<(), Halt>) {
         if let Err(halt) = came {
             self.stop(halt);
         }
     }
 
-    /// Writes bytes as they are.
+    /// Writes bytes without their length.
     fn push(&mut self, bytes: &[u8]) {
         if self.halt.is_none() && self.bytes.extend_from_slice(bytes).is_err() {
             self.want();
@@ -96,31 +96,31 @@ impl Out {
         self.push(b" ");
     }
 
-    /// Writes a place or a length.
+    /// Writes an index or a length.
     pub(crate) fn place(&mut self, place: usize) {
         self.number(place as u64);
     }
 
-    /// Writes a yes or a no.
+    /// Writes a flag.
     pub(crate) fn flag(&mut self, flag: bool) {
         self.number(u64::from(flag));
     }
 
-    /// Writes bytes, with their length.
+    /// Writes a byte string after its length.
     pub(crate) fn bytes(&mut self, bytes: &[u8]) {
         self.place(bytes.len());
         self.push(bytes);
         self.push(b" ");
     }
 
-    /// Records that memory ran out in a step, if it did.
+    /// Records that allocation failed in a step, if it did.
     pub(crate) fn done(&mut self, done: Result<(), AllocError>) {
         if done.is_err() {
             self.want();
         }
     }
 
-    /// Writes bytes that were made, or records that memory ran out.
+    /// Writes a byte string, or records that allocation failed.
     pub(crate) fn made(&mut self, made: Result<Vec<u8>, AllocError>) {
         match made {
             Ok(bytes) => self.bytes(&bytes),
@@ -128,7 +128,7 @@ impl Out {
         }
     }
 
-    /// Writes the library's own text of an error.
+    /// Writes the library's error message.
     pub(crate) fn text<E: Display>(&mut self, alloc: Global, error: &E) {
         match format!(in alloc; "{error}") {
             Ok(text) => self.bytes(text.as_bytes()),
@@ -136,7 +136,7 @@ impl Out {
         }
     }
 
-    /// Writes the library's own name of something.
+    /// Writes the library's name of a value.
     pub(crate) fn name<E: Debug>(&mut self, alloc: Global, error: &E) {
         match format!(in alloc; "{error:?}") {
             Ok(name) => self.bytes(name.as_bytes()),
@@ -144,7 +144,7 @@ impl Out {
         }
     }
 
-    /// Writes a flag, and bytes if there are any.
+    /// Writes an optional byte string.
     pub(crate) fn some_bytes(&mut self, bytes: Option<&[u8]>) {
         self.flag(bytes.is_some());
         if let Some(bytes) = bytes {
@@ -152,7 +152,7 @@ impl Out {
         }
     }
 
-    /// Writes how many numbers there are, and these.
+    /// Writes the number of numbers, and the numbers.
     pub(crate) fn numbers(&mut self, numbers: &[u64]) {
         self.place(numbers.len());
         for number in numbers {
@@ -160,7 +160,7 @@ impl Out {
         }
     }
 
-    /// Writes numbers that were made, or records that memory ran out.
+    /// Writes numbers, or records that allocation failed.
     pub(crate) fn made_numbers(&mut self, made: Result<Vec<u64>, AllocError>) {
         match made {
             Ok(numbers) => self.numbers(&numbers),
@@ -168,7 +168,7 @@ impl Out {
         }
     }
 
-    /// Writes an effect that was made, or records that memory ran out.
+    /// Writes an effect, or records that allocation failed.
     pub(crate) fn made_effect(&mut self, made: Result<Effect, AllocError>) {
         match made {
             Ok(effect) => self.effect(&effect),
@@ -176,7 +176,7 @@ impl Out {
         }
     }
 
-    /// Writes an effect: 0 for one that keeps, 1 that clears, 2 that sets a value, 3 that folds an operand.
+    /// Writes an effect: 0 keeps the value, 1 clears it, 2 sets it, and 3 merges an operand.
     pub(crate) fn effect(&mut self, effect: &Effect) {
         match effect {
             Effect::Keep => self.number(0),

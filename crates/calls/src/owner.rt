@@ -7,7 +7,7 @@ use uc_query::Reply;
 use uc_version::{Owned, OwnedClaim, Stretch};
 use uc_version_state::Placed;
 
-/// A claim under a name: the id of its newest run, how many runs it has, and what they were compacted to, if they were.
+/// A claim under a name: the id of its newest run, the number of its runs, and their compaction, if it was made.
 pub(crate) struct Held<O: Operator> {
     pub(crate) name: u8,
     pub(crate) newest: u64,
@@ -29,12 +29,12 @@ impl<O: Operator> Drop for Held<O> {
 }
 
 impl<O: Operator> Held<O> {
-    /// This is what its runs were compacted to.
+    /// Adds the compaction of the claim's runs.
     pub(crate) fn put_made(&mut self, made: Compacted<O>) {
         self.made = Some(made);
     }
 
-    /// Its name, newest run, number of runs, claim, and what they were compacted to.
+    /// Returns the name, the newest run, the number of runs, the claim, and the compaction.
     pub(crate) fn into_parts(self) -> (u8, u64, usize, OwnedClaim, Option<Compacted<O>>) {
         let Held {
             name,
@@ -47,7 +47,7 @@ impl<O: Operator> Held<O> {
     }
 }
 
-/// Where a name is held.
+/// Returns the index of a name's claim.
 pub(crate) fn find<O: Operator>(claims: &[Held<O>], name: u8) -> Option<usize> {
     for (place, held) in claims.iter().enumerate() {
         if held.name == name {
@@ -57,7 +57,7 @@ pub(crate) fn find<O: Operator>(claims: &[Held<O>], name: u8) -> Option<usize> {
     None
 }
 
-/// The claim that is held under a name.
+/// Returns the claim with a name.
 pub(crate) fn held_under<O: Operator>(
     claims: &mut Vec<Held<O>>,
     name: u8,
@@ -69,7 +69,7 @@ pub(crate) fn held_under<O: Operator>(
     }
 }
 
-/// Takes what is held under a name.
+/// Removes and returns the claim with a name.
 pub(crate) fn taken<O: Operator>(claims: &mut Vec<Held<O>>, name: u8) -> Option<Held<O>> {
     match find(claims, name) {
         Some(place) if place < claims.len() => Some(claims.swap_remove(place)),
@@ -77,7 +77,7 @@ pub(crate) fn taken<O: Operator>(claims: &mut Vec<Held<O>>, name: u8) -> Option<
     }
 }
 
-/// Holds a claim after the others.
+/// Appends a claim.
 pub(crate) fn hold<O: Operator>(
     claims: &mut Vec<Held<O>>,
     held: Held<O>,
@@ -86,7 +86,7 @@ pub(crate) fn hold<O: Operator>(
     Ok(())
 }
 
-/// The id of the run at a place; 0 if there is none.
+/// Returns the id of the run at an index, or 0 if there is none.
 fn id_at(runs: &[Placed], place: usize) -> u64 {
     match runs.get(place) {
         Some(placed) => placed.id(),
@@ -122,7 +122,7 @@ pub(crate) fn claim<O: Operator>(
     }
 }
 
-/// Gives a claim back, if the store holds it.
+/// Returns a claim to the store, if the store has it.
 fn give_back<O: Operator>(store: &mut Owned<O>, claim: OwnedClaim) -> Result<(), Halt> {
     if !store.holds(&claim) {
         return Err(Halt::Refused);
@@ -131,7 +131,7 @@ fn give_back<O: Operator>(store: &mut Owned<O>, claim: OwnedClaim) -> Result<(),
     Ok(())
 }
 
-/// Gives back what is held under a name.
+/// Returns the claim with a name to the store.
 pub(crate) fn abandon<O: Operator>(
     store: &mut Owned<O>,
     claims: &mut Vec<Held<O>>,

@@ -1,4 +1,4 @@
-//! [`Place`]: a seat of a store that threads share, and what is claimed by it.
+//! [`Place`]: a seat of a store that threads share, and its claim.
 ghost use Rattle.std.specs.Prelude.{◌≡◌, All, IfOk, IfSome};
 ghost use Rattle.std.proofs.Props.{props};
 
@@ -7,10 +7,10 @@ use std::alloc::{AllocError, Global};
 use uc_oper::Append;
 use uc_share::{Held, Name, Seat};
 
-/// The operator of a store that threads share: texts joined by a comma.
+/// The operator of a store that threads share: joins operands with a comma.
 pub(crate) type Commas = Append<0x2C>;
 
-/// A seat of the store that a name says: it is free, or there is a claim, or the claim was dropped.
+/// A seat of the store `N`: free, with a claim, or lost because its claim was dropped.
 pub(crate) struct Place<N: Name> {
     seat: Option<Seat>,
     held: Option<Held<Commas, N>>,
@@ -25,7 +25,7 @@ impl<N: Name> Drop for Place<N> {
 }
 
 impl<N: Name> Place<N> {
-    /// A free seat.
+    /// Returns a free seat.
     fn of(seat: Seat) -> Place<N>
         requires { seat.table ≡ N.table }
     {
@@ -35,7 +35,7 @@ impl<N: Name> Place<N> {
         }
     }
 
-    /// The seat, if it is free.
+    /// Returns the seat if it is free.
     pub(crate) fn take_seat(&mut self) -> Result<Seat, Halt>
         ensures { IfOk result (λ seat. seat.table ≡ N.table) }
     {
@@ -45,14 +45,14 @@ impl<N: Name> Place<N> {
         }
     }
 
-    /// The seat is free again.
+    /// Puts the seat back.
     pub(crate) fn put_seat(&mut self, seat: Seat)
         requires { seat.table ≡ N.table }
     {
         self.seat = Some(seat);
     }
 
-    /// The stretch that is claimed.
+    /// Returns the claimed stretch.
     pub(crate) fn claim(&self) -> Result<&Held<Commas, N>, Halt> {
         match &self.held {
             Some(held) => Ok(held),
@@ -60,7 +60,7 @@ impl<N: Name> Place<N> {
         }
     }
 
-    /// Takes the claim, which is its owner's then.
+    /// Removes and returns the claim.
     pub(crate) fn take_claim(&mut self) -> Result<Held<Commas, N>, Halt>
         ensures { IfOk result (λ held. held.seat.table ≡ N.table) }
     {
@@ -70,7 +70,7 @@ impl<N: Name> Place<N> {
         }
     }
 
-    /// This is claimed.
+    /// Puts a claim here.
     pub(crate) fn put_claim(&mut self, held: Held<Commas, N>)
         requires { held.seat.table ≡ N.table }
     {
@@ -79,13 +79,13 @@ impl<N: Name> Place<N> {
 }
 
 impl<N: Name> Place<N> {
-    /// Whether the seat is free, and whether there is a claim.
+    /// Writes flags: whether the seat is free, and whether there is a claim.
     pub(crate) fn has(&self) -> (bool, bool) {
         (self.seat.is_some(), self.held.is_some())
     }
 }
 
-/// Places whose seats are free.
+/// Returns places for free seats.
 pub(crate) fn places_of<N: Name>(
     alloc: Global,
     seats: Vec<Seat>,

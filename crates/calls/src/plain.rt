@@ -1,4 +1,4 @@
-//! Calls of sums, rows, texts and queries of plain writes. None of them keeps anything.
+//! Calls of sums, rows, byte strings and queries of plain writes. They are stateless.
 use crate::input::Input;
 use crate::out::Out;
 use crate::said::Spelled;
@@ -15,7 +15,7 @@ use uc_oper::{Effect, Operator};
 use uc_query_read::{Answer, Query, answer_writes};
 use uc_run::{same_text, text_order};
 
-/// All effects in turn, by the calling thread.
+/// Returns the composition of effects, computed by the calling thread.
 fn in_turn<O: Operator>(alloc: Global, effects: Vec<Effect>) -> Result<Effect, AllocError> {
     let mut all = Effect::Keep;
     for effect in effects {
@@ -24,7 +24,7 @@ fn in_turn<O: Operator>(alloc: Global, effects: Vec<Effect>) -> Result<Effect, A
     Ok(all)
 }
 
-/// A number of effects, and these: all in turn. The folding alone is clocked.
+/// Reads effects. Writes their composition. Clocks only the folding.
 fn fold_in_turn<O: Operator>(
     clock: &impl Clock,
     alloc: Global,
@@ -42,7 +42,7 @@ fn fold_in_turn<O: Operator>(
     }
 }
 
-/// Totals: points, fragments and bytes.
+/// Reads totals: the numbers of points, fragments and bytes.
 fn total(call: &mut Input<'_>) -> Totals {
     Totals {
         points: call.number(),
@@ -57,7 +57,7 @@ impl Spelled for Totals {
     }
 }
 
-/// A number of totals, and these: their sum, folded in threads.
+/// Reads totals. Returns their sum, folded in threads.
 fn sum_all(
     rt: &(impl Threads + Sync),
     alloc: Global,
@@ -74,13 +74,13 @@ fn write_sum(out: &mut Out, sum: Result<Totals, AllocError>) {
     }
 }
 
-/// Two totals, a number of totals, and these: the sum of the two, and the sum of these.
+/// Reads two totals, and then a list of totals. Writes the sum of the two, and the sum of the list.
 fn sum(rt: &(impl Threads + Sync), alloc: Global, call: &mut Input<'_>, out: &mut Out) {
     write_sum(out, Sums::join(alloc, total(call), total(call)));
     write_sum(out, sum_all(rt, alloc, call));
 }
 
-/// Keeps and a query: its answer by writes that rise.
+/// Reads keeps and a query. Returns its answer from plain writes.
 fn answered<O: Operator>(
     alloc: Global,
     writes: &Writes,
@@ -91,14 +91,14 @@ fn answered<O: Operator>(
     answer_writes::<O>(alloc, writes, &keeps, &query)
 }
 
-/// Writes that rise, keeps and a query: its answer.
+/// Reads writes, keeps and a query. Writes the answer.
 fn ask<O: Operator>(alloc: Global, call: &mut Input<'_>, out: &mut Out) {
     if let Some(writes) = said::rising(alloc, call, out) {
         asked::made_answer(out, answered::<O>(alloc, &writes, call));
     }
 }
 
-/// A change and a key: whether it touches the key.
+/// Reads a change and a key. Writes a flag that is set if the change affects the key.
 fn touch(alloc: Global, call: &mut Input<'_>, out: &mut Out) {
     match Op::read(alloc, call) {
         Ok(op) => out.flag(touches_key(&op, call.bytes())),
@@ -106,7 +106,7 @@ fn touch(alloc: Global, call: &mut Input<'_>, out: &mut Out) {
     }
 }
 
-/// Two texts: whether they are the same, and whether the first is below the second, and above it.
+/// Reads two byte strings. Writes flags: whether they are equal, and whether the first is below the second, or above it.
 fn compare(call: &mut Input<'_>, out: &mut Out) {
     let (text, other) = (call.bytes(), call.bytes());
     let order = text_order(text, other);
@@ -115,7 +115,7 @@ fn compare(call: &mut Input<'_>, out: &mut Out) {
     out.flag(order.is_gt());
 }
 
-/// Makes a call, whose kind was read.
+/// Makes a call of the given kind.
 pub(crate) fn play<O: Operator + Sync>(
     rt: &(impl Threads + Clock + Sync),
     alloc: Global,

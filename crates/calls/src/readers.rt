@@ -1,4 +1,4 @@
-//! Calls of logs that are read step by step: from offsets, by readers, and in pieces; and of batches and logs that grow.
+//! Calls that read a log step by step: from offsets, by readers, and in pieces. Calls that grow batches and logs.
 use crate::formats::write_write;
 use crate::input::Input;
 use crate::out::Out;
@@ -8,10 +8,10 @@ use uc_batch::{Advance, BatchReader, BatchWrites, PieceReader, Pieces, PushError
 use uc_bytes::{Op, OpRef};
 use uc_logrec::{LogReader, Next, crc32c, extend, next_payload, payload_bytes};
 
-/// The bytes of a buffer before a log is read.
+/// Contents of a buffer before it is used to read a log.
 const BEFORE: &[u8] = b"of an earlier log";
 
-/// Writes what comes next in a log: a payload, one that was joined, or how the log ends. Returns whether it ends.
+/// Writes the next item of a log: a payload, a joined payload, or the ending. Returns true for the ending.
 fn write_next(alloc: Global, out: &mut Out, next: Next<'_>, joined: &[u8]) -> bool {
     match next {
         Next::Whole(payload) => {
@@ -32,7 +32,7 @@ fn write_next(alloc: Global, out: &mut Out, next: Next<'_>, joined: &[u8]) -> bo
     }
 }
 
-/// Writes the payload at an offset, and the offset after it. Returns that, if the log goes on there.
+/// Writes the payload at an offset, and the next offset. Returns the next offset unless the log ends.
 fn write_at(
     alloc: Global,
     out: &mut Out,
@@ -53,7 +53,7 @@ fn write_at(
     }
 }
 
-/// An offset, and a log: the payload at the offset, and the offset after it, and so on from there, up to the end.
+/// Reads an offset and a log. Writes the payload at the offset and the next offset, and repeats this until the log ends.
 fn walk(alloc: Global, joined: &mut Vec<u8>, call: &mut Input<'_>, out: &mut Out) {
     let (first, log) = (call.number(), call.bytes());
     let mut offset = first;
@@ -66,7 +66,7 @@ fn walk(alloc: Global, joined: &mut Vec<u8>, call: &mut Input<'_>, out: &mut Out
     out.refuse();
 }
 
-/// Writes what a reader reads, and how many payloads it has read then. Returns whether the log ends.
+/// Writes a reader's next item, and the number of payloads read so far. Returns true if the log ends.
 fn write_payload(
     alloc: Global,
     out: &mut Out,
@@ -86,7 +86,7 @@ fn write_payload(
     }
 }
 
-/// A log: each payload by a reader and how many were read then, and the ending, which the reader gives twice.
+/// Reads a log. Writes each payload, by a reader, with the number of payloads read so far, and the ending twice.
 fn read_on(alloc: Global, joined: &mut Vec<u8>, call: &mut Input<'_>, out: &mut Out) {
     let log = call.bytes();
     let mut reader = LogReader::new(log);
@@ -99,7 +99,7 @@ fn read_on(alloc: Global, joined: &mut Vec<u8>, call: &mut Input<'_>, out: &mut 
     out.refuse();
 }
 
-/// Reads a log step by step, with a buffer that isn't empty: from an offset on, or by a reader.
+/// Reads a log step by step, with a buffer that isn't empty: from an offset, or by a reader.
 fn read_with(
     alloc: Global,
     is_walk: bool,
@@ -117,13 +117,13 @@ fn read_with(
 
 /// A reader of batches.
 trait Batches {
-    /// Goes to the next batch.
+    /// Advances to the next batch.
     fn go_on(&mut self) -> Result<Advance, AllocError>;
 
-    /// The writes of the current batch.
+    /// Returns the writes of the current batch.
     fn current(&self) -> BatchWrites<'_>;
 
-    /// The last sequence used.
+    /// Returns the last sequence number used.
     fn last_used(&self) -> u64;
 }
 
@@ -155,7 +155,7 @@ impl Batches for PieceReader {
     }
 }
 
-/// Writes the writes of the current batch, and the last sequence then.
+/// Writes the writes of the current batch, and the last sequence number used.
 fn write_current<B: Batches>(out: &mut Out, batches: &B) {
     for write in batches.current() {
         out.flag(true);
@@ -165,7 +165,7 @@ fn write_current<B: Batches>(out: &mut Out, batches: &B) {
     out.number(batches.last_used());
 }
 
-/// Writes the current batch, and how the log ends if it does. Returns whether it ends.
+/// Writes the current batch, or the log's ending. Returns true for the ending.
 fn write_advance<B: Batches>(alloc: Global, out: &mut Out, batches: &B, advance: &Advance) -> bool {
     match advance {
         Advance::Batch => {
@@ -182,7 +182,7 @@ fn write_advance<B: Batches>(alloc: Global, out: &mut Out, batches: &B, advance:
     }
 }
 
-/// Goes to the next batch, and writes that or how the log ends. Returns whether it ends.
+/// Advances to the next batch. Writes it, or the log's ending. Returns true for the ending.
 fn write_step<B: Batches>(alloc: Global, out: &mut Out, batches: &mut B) -> bool {
     match batches.go_on() {
         Ok(advance) => write_advance(alloc, out, batches, &advance),
@@ -193,7 +193,7 @@ fn write_step<B: Batches>(alloc: Global, out: &mut Out, batches: &mut B) -> bool
     }
 }
 
-/// Writes all batches, and how the log ends, which the reader says twice.
+/// Writes all batches, and the ending twice.
 fn write_batches<B: Batches>(alloc: Global, out: &mut Out, batches: &mut B, most: usize) {
     write_current(out, batches);
     for _ in 0..=most {
@@ -205,7 +205,7 @@ fn write_batches<B: Batches>(alloc: Global, out: &mut Out, batches: &mut B, most
     out.refuse();
 }
 
-/// A log in pieces of a size; the first has what is left.
+/// Returns a log in pieces of `size` bytes. The first has the remainder.
 fn in_pieces(alloc: Global, log: &[u8], size: usize) -> Result<Pieces, AllocError> {
     let mut pieces = Pieces::new(alloc);
     for piece in log.rchunks(size.max(1)) {
@@ -214,19 +214,19 @@ fn in_pieces(alloc: Global, log: &[u8], size: usize) -> Result<Pieces, AllocErro
     Ok(pieces)
 }
 
-/// A log: its batches.
+/// Writes the batches of a log.
 fn read_whole(alloc: Global, log: &[u8], out: &mut Out) {
     let mut reader = BatchReader::new(alloc, log);
     write_batches(alloc, out, &mut reader, log.len());
 }
 
-/// A log in pieces: its batches, at most this many.
+/// Writes the batches of a log in pieces, at most `most`.
 fn read_pieces(alloc: Global, pieces: Pieces, most: usize, out: &mut Out) {
     let mut reader = PieceReader::new(alloc, pieces);
     write_batches(alloc, out, &mut reader, most);
 }
 
-/// The size of pieces, or 0 for one piece, and a log: its batches.
+/// Reads the size of pieces, or 0 for one piece, and a log. Writes the log's batches.
 fn read_in(alloc: Global, call: &mut Input<'_>, out: &mut Out) {
     let (size, log) = (call.place(), call.bytes());
     if size == 0 {
@@ -238,7 +238,7 @@ fn read_in(alloc: Global, call: &mut Input<'_>, out: &mut Out) {
     }
 }
 
-/// Takes the first bytes of pieces.
+/// Removes the first bytes of pieces, and writes them.
 fn split(alloc: Global, pieces: &mut Pieces, size: usize, out: &mut Out) {
     if pieces.len() < size {
         out.refuse();
@@ -252,7 +252,7 @@ fn push_front(alloc: Global, pieces: &mut Pieces, bytes: &[u8]) -> Result<(), Al
     pieces.push_front(Vec::from_slice(alloc, bytes)?)
 }
 
-/// A step with pieces: 0 adds bytes at the front, 1 at the back, 2 takes a number out.
+/// Reads a step. 0 adds bytes to the front of pieces, 1 to the back, and 2 removes a number of bytes.
 fn change(alloc: Global, pieces: &mut Pieces, call: &mut Input<'_>, out: &mut Out) {
     match call.number() {
         0 => out.done(push_front(alloc, pieces, call.bytes())),
@@ -261,7 +261,7 @@ fn change(alloc: Global, pieces: &mut Pieces, call: &mut Input<'_>, out: &mut Ou
     }
 }
 
-/// A number of steps with pieces, and these.
+/// Reads the number of steps, and the steps.
 fn change_all(alloc: Global, pieces: &mut Pieces, call: &mut Input<'_>, out: &mut Out) {
     for _ in 0..call.number() {
         if call.is_short() {
@@ -271,14 +271,14 @@ fn change_all(alloc: Global, pieces: &mut Pieces, call: &mut Input<'_>, out: &mu
     }
 }
 
-/// Steps with pieces: what they take out, and then all the others.
+/// Reads steps with pieces. Writes the bytes that they remove, and then the remaining bytes.
 fn pieces(alloc: Global, call: &mut Input<'_>, out: &mut Out) {
     let mut pieces = Pieces::new(alloc);
     change_all(alloc, &mut pieces, call, out);
     out.made(pieces.into_vec(alloc));
 }
 
-/// Adds operations to a batch.
+/// Appends operations to a batch.
 fn push_all(batch: &mut WriteBatch, ops: &[Op], out: &mut Out) {
     for op in ops {
         match batch.push(&OpRef::of(op)) {
@@ -289,14 +289,14 @@ fn push_all(batch: &mut WriteBatch, ops: &[Op], out: &mut Out) {
     }
 }
 
-/// Writes the bytes of a batch, how many operations it has, and whether it has none.
+/// Writes the bytes of a batch, the number of its operations, and a flag that is set if it has none.
 fn write_gathered(out: &mut Out, batch: &WriteBatch) {
     out.bytes(batch.as_bytes());
     out.number(u64::from(batch.len()));
     out.flag(batch.is_empty());
 }
 
-/// Writes a batch that gathers operations, after it had them once and was cleared.
+/// Appends operations to a batch, clears it, and appends them again. Writes the cleared batch, and the last.
 fn gather_twice(batch: &mut WriteBatch, ops: &[Op], out: &mut Out) {
     push_all(batch, ops, out);
     batch.clear();
@@ -305,7 +305,7 @@ fn gather_twice(batch: &mut WriteBatch, ops: &[Op], out: &mut Out) {
     write_gathered(out, batch);
 }
 
-/// Operations: a batch that gathers them.
+/// Reads operations, and appends them to a batch.
 fn gather(alloc: Global, call: &mut Input<'_>, out: &mut Out) -> Result<(), AllocError> {
     let ops = said::list::<Op>(alloc, call)?;
     let mut batch = WriteBatch::new(alloc)?;
@@ -313,13 +313,13 @@ fn gather(alloc: Global, call: &mut Input<'_>, out: &mut Out) -> Result<(), Allo
     Ok(())
 }
 
-/// The beginning of a checksum's bytes, and the others: the checksum.
+/// Reads two byte strings. Writes the checksum of both in a row.
 fn sum_up(call: &mut Input<'_>, out: &mut Out) {
     let (front, back) = (call.bytes(), call.bytes());
     out.number(u64::from(extend(crc32c(front), back)));
 }
 
-/// Makes a call, whose kind was read.
+/// Makes a call of the given kind.
 pub(crate) fn play(alloc: Global, kind: u64, call: &mut Input<'_>, out: &mut Out) {
     match kind {
         66 | 67 => {

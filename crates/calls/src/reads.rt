@@ -7,7 +7,7 @@ use uc_run::{Cursor, Run};
 use uc_run_entry::{Fragment, WhatRef};
 use uc_run_points::{PointRef, Points};
 
-/// Writes what a point says: 0 and a value, 1, or 2 and an operand.
+/// Writes a change: 0 and a value for a put, 1 for a delete, or 2 and an operand for a merge.
 fn write_what(out: &mut Out, what: WhatRef<'_>) {
     match what {
         WhatRef::Put(value) => {
@@ -22,7 +22,7 @@ fn write_what(out: &mut Out, what: WhatRef<'_>) {
     }
 }
 
-/// Writes a point: its sequence, key, and what it says.
+/// Writes a point: its sequence number, key and change.
 fn write_point(out: &mut Out, point: &PointRef<'_>) {
     out.number(point.seq());
     out.bytes(point.key());
@@ -38,14 +38,14 @@ fn write_points(out: &mut Out, points: &Points) {
     }
 }
 
-/// Writes a fragment: its sequences and ends.
+/// Writes a fragment: its sequence numbers and ends.
 fn write_fragment(alloc: Global, out: &mut Out, fragment: &Fragment) {
     out.made_numbers(fragment.seqs().to_vec(alloc));
     out.bytes(fragment.begin());
     out.bytes(fragment.end());
 }
 
-/// The run as a whole: the range of its sequences, its numbers of points, blocks and fragments, and its size.
+/// Writes a run's totals: the range of its sequence numbers, its numbers of points, blocks and fragments, and its size.
 pub(crate) fn sum_up(run: &Run, out: &mut Out) {
     out.number(run.low_seq());
     out.number(run.high_seq());
@@ -55,7 +55,7 @@ pub(crate) fn sum_up(run: &Run, out: &mut Out) {
     out.number(run.size());
 }
 
-/// The run as a whole, its points and its fragments.
+/// Writes a run's totals, points and fragments.
 pub(crate) fn show(alloc: Global, run: &Run, out: &mut Out) {
     sum_up(run, out);
     write_points(out, run.entries());
@@ -64,13 +64,13 @@ pub(crate) fn show(alloc: Global, run: &Run, out: &mut Out) {
     }
 }
 
-/// A key and a sequence: what the run's writes do to it.
+/// Reads a key and a sequence number. Writes the effect of the run's writes on the key.
 fn look_up<O: Operator>(alloc: Global, run: &Run, call: &mut Input<'_>, out: &mut Out) {
     let (key, at) = (call.bytes(), call.number());
     out.made_effect(run.effect::<O>(alloc, key, at));
 }
 
-/// A key: the places at or above it, and above it, and the keys there.
+/// Reads a key. Writes the indexes of the first points at or above the key and above it, and the keys there.
 fn seek(run: &Run, call: &mut Input<'_>, out: &mut Out) {
     let key = call.bytes();
     out.number(run.seek(key, false));
@@ -79,7 +79,7 @@ fn seek(run: &Run, call: &mut Input<'_>, out: &mut Out) {
     out.some_bytes(run.next_key(key, true));
 }
 
-/// A place: the point there.
+/// Reads an index. Writes the point there.
 fn point(run: &Run, call: &mut Input<'_>, out: &mut Out) {
     match run.point(call.number()) {
         Some((key, seq, what)) => {
@@ -91,7 +91,7 @@ fn point(run: &Run, call: &mut Input<'_>, out: &mut Out) {
     }
 }
 
-/// A key and a sequence: what a cursor that is before the key finds there, as a lookup does.
+/// Reads a key and a sequence number. Writes the effect that a cursor before the key finds, which is that of a lookup.
 fn look_there<O: Operator>(
     alloc: Global,
     cursor: &Cursor<'_>,
@@ -106,8 +106,8 @@ fn look_there<O: Operator>(
     out.some_bytes(cursor.hidden_to(key, at));
 }
 
-/// A step of a cursor: 0, 1 or 2 and a key, from which on it begins anew, which it seeks or passes; or 3, a key and a sequence, up to
-/// where that is hidden; or 4 and what `look_there` takes. Then the key at which it is.
+/// Reads a step of a cursor. 0, 1 or 2 and a key: starts again at the key, seeks it, or passes it. 3, a key and a sequence number: writes
+/// the key up to which that is hidden. 4 and the arguments of `look_there`: looks up. Then writes the cursor's key.
 fn step<'a, O: Operator>(
     alloc: Global,
     run: &'a Run,
@@ -128,7 +128,7 @@ fn step<'a, O: Operator>(
     out.some_bytes(cursor.key());
 }
 
-/// A number of steps, and these.
+/// Reads the number of steps, and the steps.
 fn walk<O: Operator>(alloc: Global, run: &Run, call: &mut Input<'_>, out: &mut Out) {
     let mut cursor = run.cursor(b"");
     for _ in 0..call.number() {
@@ -139,7 +139,7 @@ fn walk<O: Operator>(alloc: Global, run: &Run, call: &mut Input<'_>, out: &mut O
     }
 }
 
-/// Makes a call, whose kind and run were read.
+/// Makes a call of the given kind and run.
 pub(crate) fn play<O: Operator>(
     alloc: Global,
     run: &Run,

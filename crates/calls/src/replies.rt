@@ -1,4 +1,4 @@
-//! Replies of a store of one owner, as answers have them.
+//! Replies of a store with one owner, in the encoding of answers.
 use crate::asked::write_answers;
 use crate::out::Out;
 use crate::versions::write_stretch;
@@ -7,7 +7,7 @@ use std::fmt::Display;
 use uc_query::{Field, Figure, Reply, Report, RunLine, total_fields};
 use uc_version::ReleaseError;
 
-/// Writes fields: of each its name, how many numbers it has, and these.
+/// Writes the number of fields, and for each its name and numbers.
 fn write_fields(out: &mut Out, fields: &[Field]) {
     out.place(fields.len());
     for (name, figure) in fields {
@@ -19,13 +19,13 @@ fn write_fields(out: &mut Out, fields: &[Field]) {
     }
 }
 
-/// Writes the line of a run: its id, and fields.
+/// Writes the line of a run: its id and fields.
 fn write_line(out: &mut Out, line: &RunLine) {
     out.number(line.id);
     write_fields(out, &line.fields());
 }
 
-/// Writes a report: the lines of runs, the fields of their totals, keeps, and the last sequence.
+/// Writes a report: the lines of runs, the fields of their totals, keeps, and the last sequence number.
 fn write_report(out: &mut Out, report: &Report) {
     let lines = report.lines.as_slice();
     out.place(lines.len());
@@ -37,19 +37,19 @@ fn write_report(out: &mut Out, report: &Report) {
     out.number(report.last);
 }
 
-/// Writes a kind, and a number.
+/// Writes a kind and a number.
 fn write_numbered(out: &mut Out, kind: u64, number: u64) {
     out.number(kind);
     out.number(number);
 }
 
-/// Writes a kind, and the library's own text of an error.
+/// Writes a kind and the library's error message.
 pub(crate) fn write_refused<E: Display>(alloc: Global, out: &mut Out, kind: u64, error: &E) {
     out.number(kind);
     out.text(alloc, error);
 }
 
-/// Writes a reply that tells of queries, feeds or snapshots.
+/// Writes a reply about queries, feeds or snapshots.
 fn write_other(alloc: Global, out: &mut Out, reply: &Reply) {
     match reply {
         Reply::Fed(count) => write_numbered(out, 11, *count),
@@ -69,7 +69,7 @@ fn write_other(alloc: Global, out: &mut Out, reply: &Reply) {
     }
 }
 
-/// Writes a reply: its kind, and what it tells.
+/// Writes a reply: its kind and contents.
 pub(crate) fn write_reply(alloc: Global, out: &mut Out, reply: &Reply) {
     match reply {
         Reply::Claimed(name) => write_numbered(out, 0, u64::from(*name)),
@@ -88,7 +88,7 @@ pub(crate) fn write_reply(alloc: Global, out: &mut Out, reply: &Reply) {
     }
 }
 
-/// Writes replies.
+/// Writes the number of replies, and each reply.
 pub(crate) fn write_replies(alloc: Global, out: &mut Out, replies: &[Reply]) {
     out.place(replies.len());
     for reply in replies {

@@ -4,7 +4,7 @@ use crate::out::Out;
 use std::alloc::{AllocError, Global};
 use uc_rows::{RowBuffer, RowIter, Rows, push_text};
 
-/// A number of keys with values, and these.
+/// Reads the number of rows, and their keys and values.
 fn rows(alloc: Global, call: &mut Input<'_>) -> Result<RowBuffer, AllocError> {
     let mut rows = RowBuffer::new(alloc);
     for _ in 0..call.number() {
@@ -17,7 +17,7 @@ fn rows(alloc: Global, call: &mut Input<'_>) -> Result<RowBuffer, AllocError> {
     Ok(rows)
 }
 
-/// Writes the rows that are ahead.
+/// Writes the number of remaining rows, and the rows.
 fn write_rows(out: &mut Out, ahead: RowIter<'_>) {
     out.place(ahead.len());
     for (key, value) in ahead {
@@ -26,8 +26,8 @@ fn write_rows(out: &mut Out, ahead: RowIter<'_>) {
     }
 }
 
-/// Rows whose keys rise, how many are passed over, and how many bytes may be taken: the row after those that are passed, those
-/// after them, the rows as bytes, and how many fit.
+/// Reads the number of rows to skip, and a size in bytes. Writes the rows after the skipped ones, the first of these again, all rows as
+/// bytes, the rows that fit into the size, and their number.
 fn walk(rows: &Rows, call: &mut Input<'_>, out: &mut Out) {
     let (passed, most) = (call.place(), call.place());
     let mut ahead = rows.iter();
@@ -46,7 +46,7 @@ fn walk(rows: &Rows, call: &mut Input<'_>, out: &mut Out) {
     out.place(count);
 }
 
-/// Rows, and what `walk` takes: their number, whether their keys rise, and what `walk` says then.
+/// Reads rows, and the arguments of `walk`. Writes the number of rows, a flag that is set if their keys ascend, and the answer of `walk`.
 pub(crate) fn gather(alloc: Global, call: &mut Input<'_>, out: &mut Out) {
     match rows(alloc, call) {
         Ok(buffer) => {
@@ -57,7 +57,7 @@ pub(crate) fn gather(alloc: Global, call: &mut Input<'_>, out: &mut Out) {
     }
 }
 
-/// Writes whether keys rise, and what `walk` says then.
+/// Writes a flag that is set if the keys ascend, and the answer of `walk`.
 fn look(buffer: RowBuffer, call: &mut Input<'_>, out: &mut Out) {
     match Rows::of(buffer) {
         Some(rows) => {
@@ -68,14 +68,14 @@ fn look(buffer: RowBuffer, call: &mut Input<'_>, out: &mut Out) {
     }
 }
 
-/// A text: its bytes with its length before it.
+/// Returns a byte string after its length.
 fn spelled(alloc: Global, text: &[u8]) -> Result<Vec<u8>, AllocError> {
     let mut bytes = Vec::new(alloc);
     push_text(&mut bytes, text)?;
     Ok(bytes)
 }
 
-/// A text: its bytes with its length before it.
+/// Reads a byte string. Writes it after its length, as the library encodes it.
 pub(crate) fn spell(alloc: Global, call: &mut Input<'_>, out: &mut Out) {
     out.made(spelled(alloc, call.bytes()));
 }

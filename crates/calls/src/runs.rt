@@ -1,4 +1,4 @@
-//! Calls of a memtable and of runs: where writes are inserted, and the tables that they become.
+//! Calls of a memtable and of runs: inserts of writes, and flushes.
 use crate::built::built;
 use crate::input::Input;
 use crate::out::{Halt, Out};
@@ -9,7 +9,7 @@ use std::sync::Arc;
 use uc_bytes::{MAX_SEQUENCE, Write, WriteRef};
 use uc_run::{Memtable, Run};
 
-/// A memtable, the run that was made last, and runs that are kept at numbers.
+/// A memtable, the last flushed run, and runs that are kept at numbers.
 pub(crate) struct Shelf {
     memtable: Memtable,
     made: Option<Run>,
@@ -27,7 +27,7 @@ impl Drop for Shelf {
 }
 
 impl Shelf {
-    /// An empty memtable, and no runs.
+    /// Returns an empty memtable without runs.
     pub(crate) fn new(alloc: Global) -> Shelf {
         Shelf {
             memtable: Memtable::new(alloc),
@@ -36,18 +36,18 @@ impl Shelf {
         }
     }
 
-    /// The runs that are kept.
+    /// Returns the kept runs.
     pub(crate) fn runs(&self) -> &[Arc<Run>] {
         &self.runs
     }
 
-    /// The memtable's size and last sequence, whether it is empty, and whether a run was made that isn't kept yet.
+    /// Writes the memtable's size, its last sequence number, and flags: whether it is empty, and whether a run isn't kept yet.
     pub(crate) fn look(&self, out: &mut Out) {
         look(&self.memtable, out);
         out.flag(self.made.is_some());
     }
 
-    /// Keeps a run at a number, in the place of the one there.
+    /// Keeps a run at a number, and drops the run that was kept there.
     pub(crate) fn keep(&mut self, number: usize, run: Arc<Run>) -> Result<(), AllocError> {
         match self.runs.get_mut(number) {
             Some(place) => *place = run,
@@ -61,7 +61,7 @@ impl Shelf {
         self.memtable = Memtable::new(alloc);
     }
 
-    /// Makes a run of the memtable, which is empty then.
+    /// Flushes the memtable to a run.
     fn flush(&mut self, alloc: Global, out: &mut Out) {
         if self.memtable.is_empty() {
             return out.refuse();
@@ -76,7 +76,7 @@ impl Shelf {
         }
     }
 
-    /// The number of a run: keeps the one that was made last there.
+    /// Reads a number, and keeps the last flushed run there.
     fn keep_made(&mut self, alloc: Global, call: &mut Input<'_>, out: &mut Out) {
         match mem::replace(&mut self.made, None) {
             Some(run) => out.done(self.keep_shared(alloc, call.place(), run)),
@@ -89,7 +89,7 @@ impl Shelf {
         self.keep(number, Arc::new(alloc, run)?)
     }
 
-    /// Makes this the run that was made last, if it was made.
+    /// Makes this run the last flushed one, unless it failed.
     pub(crate) fn make(&mut self, made: Result<Run, Halt>, out: &mut Out) {
         match made {
             Ok(run) => self.made = Some(run),
@@ -106,7 +106,7 @@ fn insert_next(memtable: &mut Memtable, write: &WriteRef<'_>, out: &mut Out) {
     out.done(memtable.insert_ref(write));
 }
 
-/// Inserts a write of texts that it owns after all others.
+/// Inserts a write that owns its byte strings after all others.
 fn insert_owned(memtable: &mut Memtable, write: &Write, out: &mut Out) {
     if write.seq <= memtable.last() || MAX_SEQUENCE < write.seq {
         return out.refuse();
@@ -114,7 +114,7 @@ fn insert_owned(memtable: &mut Memtable, write: &Write, out: &mut Out) {
     out.done(memtable.insert(write));
 }
 
-/// How a write is inserted: 1 if it owns its texts. Then the write: the memtable's size and last sequence, and whether it is empty.
+/// Reads a flag that is set if the write owns its byte strings, and the write. Inserts it, and writes the answer of `look`.
 fn insert(alloc: Global, memtable: &mut Memtable, call: &mut Input<'_>, out: &mut Out) {
     if call.flag() {
         match Write::read(alloc, call) {
@@ -127,7 +127,7 @@ fn insert(alloc: Global, memtable: &mut Memtable, call: &mut Input<'_>, out: &mu
     look(memtable, out);
 }
 
-/// A number of writes, and these: inserts them all, up to one that is refused.
+/// Reads the number of writes, and the writes. Inserts them until one is refused.
 fn insert_all(memtable: &mut Memtable, call: &mut Input<'_>, out: &mut Out) {
     for _ in 0..call.number() {
         if call.is_short() || out.halt().is_some() {
@@ -137,14 +137,14 @@ fn insert_all(memtable: &mut Memtable, call: &mut Input<'_>, out: &mut Out) {
     }
 }
 
-/// The memtable's size and last sequence, and whether it is empty.
+/// Writes the memtable's size, its last sequence number, and a flag that is set if it is empty.
 fn look(memtable: &Memtable, out: &mut Out) {
     out.number(memtable.size());
     out.number(memtable.last());
     out.flag(memtable.is_empty());
 }
 
-/// Makes a call, whose kind was read.
+/// Makes a call of the given kind.
 pub(crate) fn play(
     alloc: Global,
     shelf: &mut Shelf,

@@ -1,4 +1,4 @@
-//! Changes, writes, effects and points, as calls spell them.
+//! Encodings of changes, writes, effects and points in calls.
 use crate::input::Input;
 use crate::out::Out;
 use std::alloc::{AllocError, Global};
@@ -7,7 +7,7 @@ use uc_bytes::{Bytes, Op, OpRef, Write, WriteRef};
 use uc_oper::Effect;
 use uc_run_entry::WhatRef;
 
-/// A change: a kind, a key or where a range begins, and a value, an operand or where a range ends.
+/// Reads a change: a kind, a key or the begin of a range, and a value, an operand or the end of a range.
 pub(crate) fn op<'a>(call: &mut Input<'a>) -> OpRef<'a> {
     let (kind, first, second) = (call.number(), call.bytes(), call.bytes());
     match kind {
@@ -18,19 +18,19 @@ pub(crate) fn op<'a>(call: &mut Input<'a>) -> OpRef<'a> {
     }
 }
 
-/// A sequence, and a change.
+/// Reads a sequence number and a change.
 pub(crate) fn write<'a>(call: &mut Input<'a>) -> WriteRef<'a> {
     let seq = call.number();
     WriteRef::new(seq, op(call))
 }
 
-/// An element of a list that a call has.
+/// An element of a list in a call.
 pub(crate) trait Spelled: Drop {
-    /// Reads one.
+    /// Reads an element.
     fn read(alloc: Global, call: &mut Input<'_>) -> Result<Self, AllocError>;
 }
 
-/// A number, and as many of these.
+/// Reads the number of elements, and the elements.
 pub(crate) fn list<T: Spelled>(alloc: Global, call: &mut Input<'_>) -> Result<Vec<T>, AllocError> {
     let mut list = Vec::new(alloc);
     for _ in 0..call.number() {
@@ -42,7 +42,7 @@ pub(crate) fn list<T: Spelled>(alloc: Global, call: &mut Input<'_>) -> Result<Ve
     Ok(list)
 }
 
-/// A number of writes that rise, and these. If there are none, there is no answer.
+/// Reads the number of writes, and the writes. Refuses them unless their sequence numbers ascend.
 pub(crate) fn rising(alloc: Global, call: &mut Input<'_>, out: &mut Out) -> Option<Writes> {
     match list::<Write>(alloc, call) {
         Ok(writes) => {
@@ -83,7 +83,7 @@ impl Spelled for Op {
     }
 }
 
-/// The change that a point makes to its key, if it is a put, a delete or a merge.
+/// Returns the change of a point, if it is a put, a delete or a merge.
 pub(crate) fn what<'a>(kind: u64, text: &'a [u8]) -> WhatRef<'a> {
     match kind {
         0 => WhatRef::Put(text),
@@ -92,7 +92,7 @@ pub(crate) fn what<'a>(kind: u64, text: &'a [u8]) -> WhatRef<'a> {
     }
 }
 
-/// Bytes, or none.
+/// Reads an optional byte string.
 pub(crate) fn value(alloc: Global, call: &mut Input<'_>) -> Result<Option<Bytes>, AllocError> {
     match call.some_bytes() {
         Some(value) => Ok(Some(Bytes::from_slice(alloc, value)?)),
@@ -100,7 +100,7 @@ pub(crate) fn value(alloc: Global, call: &mut Input<'_>) -> Result<Option<Bytes>
     }
 }
 
-/// An effect, as an answer has it.
+/// Reads an effect, in the encoding of answers.
 pub(crate) fn effect(alloc: Global, call: &mut Input<'_>) -> Result<Effect, AllocError> {
     match call.number() {
         0 => Ok(Effect::Keep),

@@ -1,4 +1,4 @@
-//! Calls of operators, effects and plain writes. None of them keeps anything.
+//! Calls of operators, effects and plain writes. They are stateless.
 use crate::input::Input;
 use crate::out::Out;
 use crate::said;
@@ -13,18 +13,18 @@ use uc_fold::{Effects, fold_all};
 use uc_model::{effect_at, value_at};
 use uc_oper::{Effect, Operator, merged};
 
-/// The operator's result for both byte strings, in memory of the older one.
+/// Combines two byte strings by the operator, in the older one's memory.
 fn joined<O: Operator>(alloc: Global, older: &[u8], newer: &[u8]) -> Result<Vec<u8>, AllocError> {
     O::join_onto(alloc, Vec::from_slice(alloc, older)?, newer)
 }
 
-/// The operator's result for two operands, in memory of the older one.
+/// Combines two operands by the operator, in the older one's memory.
 fn paired<O: Operator>(alloc: Global, older: &[u8], newer: &[u8]) -> Result<Vec<u8>, AllocError> {
     O::pair_onto(alloc, Vec::from_slice(alloc, older)?, newer)
 }
 
-/// An older text and a newer one: what the operator makes of the newer one alone and of both, in memory of its own and in that of
-/// the older one.
+/// Reads an older byte string and a newer one. Writes the operator's result for the newer one alone and for both, in new memory and in
+/// the older one's.
 fn operate<O: Operator>(alloc: Global, call: &mut Input<'_>, out: &mut Out) {
     let (older, newer) = (call.bytes(), call.bytes());
     out.made(O::first(alloc, newer));
@@ -34,33 +34,33 @@ fn operate<O: Operator>(alloc: Global, call: &mut Input<'_>, out: &mut Out) {
     out.made(paired::<O>(alloc, older, newer));
 }
 
-/// A value and an operand: the value with it.
+/// Reads a value and an operand. Writes the value after the merge.
 fn merge<O: Operator>(alloc: Global, call: &mut Input<'_>) -> Result<Vec<u8>, AllocError> {
     let value = said::value(alloc, call)?;
     Ok(merged::<O>(alloc, value, call.bytes())?.into_vec())
 }
 
-/// Two effects: both in turn.
+/// Reads two effects. Writes their composition.
 fn then<O: Operator>(alloc: Global, call: &mut Input<'_>) -> Result<Effect, AllocError> {
     let older = said::effect(alloc, call)?;
     let newer = said::effect(alloc, call)?;
     older.then::<O>(alloc, newer)
 }
 
-/// An effect and an operand: both in turn.
+/// Reads an effect and an operand. Writes the effect after the merge.
 fn fold<O: Operator>(alloc: Global, call: &mut Input<'_>) -> Result<Effect, AllocError> {
     let effect = said::effect(alloc, call)?;
     effect.folded::<O>(alloc, call.bytes())
 }
 
-/// An effect and a value: the value after it.
+/// Reads an effect and a value. Writes the value after the effect.
 fn apply<O: Operator>(alloc: Global, call: &mut Input<'_>) -> Result<Option<Bytes>, AllocError> {
     let effect = said::effect(alloc, call)?;
     let value = said::value(alloc, call)?;
     effect.apply::<O>(alloc, value)
 }
 
-/// A number of effects, and these: all in turn, folded in threads.
+/// Reads effects. Writes their composition, computed in threads.
 fn fold_effects<O: Operator + Sync>(
     rt: &(impl Threads + Sync),
     alloc: Global,
@@ -69,7 +69,7 @@ fn fold_effects<O: Operator + Sync>(
     fold_all::<Effects<O>>(rt, alloc, said::list::<Effect>(alloc, call)?)
 }
 
-/// Writes a value that was made.
+/// Writes an optional value, unless allocation failed.
 fn write_value(out: &mut Out, made: Result<Option<Bytes>, AllocError>) {
     match made {
         Ok(Some(value)) => out.some_bytes(Some(value.as_slice())),
@@ -78,14 +78,14 @@ fn write_value(out: &mut Out, made: Result<Option<Bytes>, AllocError>) {
     }
 }
 
-/// Writes, a key and a sequence: the key's value there, and what the writes do to it.
+/// Reads writes, a key and a sequence number. Writes the key's value there, and the effect of the writes on it.
 fn read<O: Operator>(alloc: Global, writes: &[Write], call: &mut Input<'_>, out: &mut Out) {
     let (key, at) = (call.bytes(), call.number());
     write_value(out, value_at::<O>(alloc, writes, key, at));
     out.made_effect(effect_at::<O>(alloc, writes, key, at));
 }
 
-/// Reads the arguments of `read`.
+/// Reads the arguments of `read`, and writes its answer.
 fn read_writes<O: Operator>(alloc: Global, call: &mut Input<'_>, out: &mut Out) {
     match said::list::<Write>(alloc, call) {
         Ok(writes) => read::<O>(alloc, &writes, call, out),
@@ -93,7 +93,7 @@ fn read_writes<O: Operator>(alloc: Global, call: &mut Input<'_>, out: &mut Out) 
     }
 }
 
-/// Makes a call, whose kind was read.
+/// Makes a call of the given kind.
 pub(crate) fn play<O: Operator + Sync>(
     rt: &(impl Threads + Sync),
     alloc: Global,

@@ -1,4 +1,4 @@
-//! [`Shop`]: what calls of a store of one owner work with.
+//! [`Shop`]: the state of calls of a store with one owner.
 use crate::input::Input;
 use crate::installs::Workers;
 use crate::out::Out;
@@ -15,7 +15,7 @@ use uc_oper::Operator;
 use uc_version::{CompactError, OpenError, Owned};
 use uc_version_compact::ClaimError;
 
-/// A store, its claims, and who works for it.
+/// A store, its claims, and its workers.
 struct Shop<O: Operator> {
     store: Option<Owned<O>>,
     claims: Vec<Held<O>>,
@@ -32,7 +32,7 @@ impl<O: Operator> Drop for Shop<O> {
     }
 }
 
-/// Who works for a store.
+/// Reads the kind of workers.
 pub(crate) fn workers(call: &mut Input<'_>) -> Workers {
     match call.number() {
         0 => Workers::Alone,
@@ -42,7 +42,7 @@ pub(crate) fn workers(call: &mut Input<'_>) -> Workers {
 }
 
 impl<O: Operator> Shop<O> {
-    /// It has another store, with no claims.
+    /// Replaces the store. The new one has no claims.
     fn renew(&mut self, store: Owned<O>, workers: Workers) {
         self.store = Some(store);
         self.claims.clear();
@@ -50,7 +50,7 @@ impl<O: Operator> Shop<O> {
     }
 }
 
-/// Who works for a store, and what it is opened from. Writes whether it is opened, or why it isn't.
+/// Reads the kind of workers, and the beginning of a store. Opens the store. Writes true, or the reason why it isn't opened.
 fn open<O: Operator>(
     rt: &(impl Threads + Clock + Sync),
     alloc: Global,
@@ -72,7 +72,7 @@ fn open<O: Operator>(
     }
 }
 
-/// The texts of errors that no store comes to.
+/// Writes the messages of errors that no call can cause.
 fn write_errors(alloc: Global, out: &mut Out) {
     out.text(alloc, &OpenError::BadCount);
     out.text(alloc, &OpenError::Memory);
@@ -131,7 +131,7 @@ fn play_at<O: Operator + Sync>(
     Ok(())
 }
 
-/// Makes all calls.
+/// Makes all calls, beginning without a store.
 pub(crate) fn play_all<O: Operator + Sync>(
     rt: &(impl Threads + Clock + Sync + Print),
     alloc: Global,

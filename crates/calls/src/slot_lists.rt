@@ -1,10 +1,10 @@
-//! Lists of slots, and what may be asked of a table: slots that are distinct and below its number of slots, and, to give them back, held.
+//! Conditions on lists of slots: distinct, below the table's number of slots and, before they are returned, held.
 ghost use Rattle.std.specs.Prelude.{◌<◌, IsTrue, All, Contains};
 ghost use Rattle.uc_claims.specs.Holding.{AreDistinct};
 
 use uc_claims::HeldSlots;
 
-/// Whether no slot is in the list twice.
+/// Returns true if no slot is listed twice.
 pub(crate) fn are_distinct(slots: &[usize]) -> bool
     ensures { IsTrue result → AreDistinct slots.now }
 {
@@ -14,14 +14,14 @@ pub(crate) fn are_distinct(slots: &[usize]) -> bool
     }
 }
 
-/// Whether all these slots are below the bound.
+/// Returns true if all slots are below `bound`.
 pub(crate) fn are_below(slots: &[usize], bound: usize) -> bool
     ensures { IsTrue result → All (λ slot. slot < bound) slots.now }
 {
     slots.iter().all(|slot| *slot < bound)
 }
 
-/// Whether a seat holds all these slots.
+/// Returns true if a seat holds all slots.
 pub(crate) fn holds_all(held: &HeldSlots, slots: &[usize]) -> bool
     ensures { IsTrue result → All (Contains held.now.slots) slots.now }
 {

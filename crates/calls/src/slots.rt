@@ -1,4 +1,4 @@
-//! Calls of a table of slots, which two seats claim and give back.
+//! Calls of a table of slots, which two seats claim and return.
 ghost use Rattle.std.specs.Prelude.{◌≡◌, IfOk};
 
 use crate::input::Input;
@@ -11,7 +11,7 @@ use std::io;
 use std::time::Clock;
 use uc_claims::{ClaimTable, HeldSlots, MOST_SLOTS};
 
-/// Slots: takes them, or says which one is taken, by its number and in the library's own text.
+/// Takes slots. Writes true, or the number of a slot that is taken and the library's error message.
 fn take(
     alloc: Global,
     table: &ClaimTable,
@@ -37,7 +37,7 @@ fn take(
     }
 }
 
-/// Slots that are held: gives them back.
+/// Returns held slots to the table.
 fn give(table: &ClaimTable, held: &mut HeldSlots, slots: &[usize], out: &mut Out)
     requires table { held.old.table ≡ table.now.table }
     ensures { held.new.table ≡ table.now.table }
@@ -48,14 +48,14 @@ fn give(table: &ClaimTable, held: &mut HeldSlots, slots: &[usize], out: &mut Out
     table.give_some_in_place(held, slots);
 }
 
-/// Writes which slots a seat holds, and one more than there are.
+/// Writes a flag for each slot that is set if the seat holds it, and one for the number after the last slot.
 fn look(held: &HeldSlots, count: usize, out: &mut Out) {
     for slot in 0..=count {
         out.flag(held.has(slot));
     }
 }
 
-/// A kind and slots: 0 takes them, 1 gives them back, 2 says which are held.
+/// Makes a call of one seat: kind 0 takes slots, 1 returns them, and 2 writes which are held.
 fn play(
     alloc: Global,
     table: &ClaimTable,
@@ -76,7 +76,7 @@ fn play(
     }
 }
 
-/// Makes a call. It begins with a kind, and 1 if the second seat makes it, and has slots then.
+/// Reads a kind, a flag that is set for the second seat, and slots. Makes that seat's call.
 fn play_one(
     alloc: Global,
     table: &ClaimTable,
@@ -131,8 +131,8 @@ fn play_at(
     Ok(())
 }
 
-/// Drops the first seat with its slots, and gives back what the second holds. Writes which slots are taken as that seat sees it, and
-/// then those of the table as it ends.
+/// Drops the first seat with its slots, and returns the second seat's slots. Writes which slots are taken: as this seat sees them, and
+/// as the table has them in the end.
 fn close(table: ClaimTable, one: HeldSlots, other: HeldSlots, count: usize, out: &mut Out)
     requires one { one.table ≡ table.table }
     requires other { other.table ≡ table.table }
@@ -148,7 +148,7 @@ fn close(table: ClaimTable, one: HeldSlots, other: HeldSlots, count: usize, out:
     }
 }
 
-/// Makes all calls by two seats of a table, and closes it.
+/// Makes all calls by two seats of a table, and closes the table.
 fn play_table(
     rt: &(impl Clock + Print),
     alloc: Global,
@@ -170,7 +170,7 @@ fn play_table(
     played
 }
 
-/// A table, and two seats of it that hold nothing.
+/// Returns a table, and two seats that hold no slots.
 fn open(alloc: Global, count: usize) -> Result<(ClaimTable, HeldSlots, HeldSlots), Halt>
     ensures one { IfOk result (λ r. r.1.table ≡ r.0.table) }
     ensures other { IfOk result (λ r. r.2.table ≡ r.0.table) }
@@ -187,7 +187,7 @@ fn open(alloc: Global, count: usize) -> Result<(ClaimTable, HeldSlots, HeldSlots
     }
 }
 
-/// Makes all calls. The first is a number of slots, which a table then has.
+/// Makes all calls. The first reads the number of slots, and opens the table.
 pub(crate) fn play_all(
     rt: &(impl Clock + Print),
     alloc: Global,

@@ -1,4 +1,4 @@
-//! Calls of a store of one owner.
+//! Calls of a store with one owner.
 use crate::input::Input;
 use crate::installs::{Workers, compact, install, make, make_under, settle};
 use crate::lists::{self, name};
@@ -31,7 +31,7 @@ fn fed<O: Operator>(
     }
 }
 
-/// The reply to a feed.
+/// Returns the reply to a feed.
 fn reply_to(fed: Result<u64, FeedError>) -> Result<Reply, Halt> {
     match fed {
         Ok(count) => Ok(Reply::Fed(count)),
@@ -40,7 +40,7 @@ fn reply_to(fed: Result<u64, FeedError>) -> Result<Reply, Halt> {
     }
 }
 
-/// Feeds writes. The feeding alone is clocked.
+/// Reads writes, and feeds them. Clocks only the feeding.
 fn feed<O: Operator>(
     rt: &(impl Threads + Clock + Sync),
     alloc: Global,
@@ -65,7 +65,7 @@ fn release<O: Operator>(store: &mut Owned<O>, seq: u64) -> Reply {
     }
 }
 
-/// Writes a reply, if there is one.
+/// Writes a reply, or records the reason why there is none.
 fn say(alloc: Global, out: &mut Out, reply: &Result<Reply, Halt>) {
     match reply {
         Ok(reply) => write_reply(alloc, out, reply),
@@ -73,7 +73,7 @@ fn say(alloc: Global, out: &mut Out, reply: &Result<Reply, Halt>) {
     }
 }
 
-/// Makes a call whose answer is a reply.
+/// Makes a call and returns the reply.
 fn reply<O: Operator + Sync>(
     rt: &(impl Threads + Sync),
     alloc: Global,
@@ -95,7 +95,7 @@ fn reply<O: Operator + Sync>(
     }
 }
 
-/// All that a store tells of itself: its version, which slots are claimed, and the numbers of claims.
+/// Writes the state of a store: its version, the claimed slots, and its claims.
 fn look<O: Operator>(store: &Owned<O>, claims: &[Held<O>], out: &mut Out) {
     versions::write_version(out, store.version());
     for slot in 0..MOST_SLOTS {
@@ -108,7 +108,7 @@ fn look<O: Operator>(store: &Owned<O>, claims: &[Held<O>], out: &mut Out) {
     }
 }
 
-/// How runs are compacted: 0 and for the store's snapshots, or 1, for these, and as the oldest runs or not.
+/// Reads the terms of a compaction: 0 for the store's snapshots; or 1, keeps, and a flag that is set for the oldest runs. Compacts.
 fn make_one<O: Operator + Sync>(
     rt: &(impl Threads + Sync),
     alloc: Global,
@@ -124,8 +124,8 @@ fn make_one<O: Operator + Sync>(
     make_under(rt, alloc, store, held, (&keeps, call.flag()))
 }
 
-/// A name: makes a call of the claim that is held under it. Its runs are compacted (4), or it says its number (16), or is compared
-/// from a claim of another store (17).
+/// Reads a name, and makes a call of the claim with that name: compacts its runs (4), writes its number (16), or compares it with a claim
+/// of another store (17).
 fn play_claim<O: Operator + Sync>(
     rt: &(impl Threads + Clock + Sync),
     alloc: Global,
@@ -145,7 +145,7 @@ fn play_claim<O: Operator + Sync>(
     }
 }
 
-/// Whether the run with a slot is claimed.
+/// Writes a flag that is set if the run in a slot is claimed.
 fn busy<O: Operator>(store: &Owned<O>, slot: usize, out: &mut Out) {
     if slot < MOST_SLOTS {
         out.flag(store.busy(slot));
@@ -154,7 +154,7 @@ fn busy<O: Operator>(store: &Owned<O>, slot: usize, out: &mut Out) {
     }
 }
 
-/// Writes how many compactions there were.
+/// Writes the number of compactions.
 fn write_settled(out: &mut Out, settled: Result<u64, Halt>) {
     match settled {
         Ok(count) => out.number(count),
@@ -162,7 +162,7 @@ fn write_settled(out: &mut Out, settled: Result<u64, Halt>) {
     }
 }
 
-/// Makes a call whose answer is a reply, and writes that.
+/// Makes a call and writes the reply.
 fn play_reply<O: Operator + Sync>(
     rt: &(impl Threads + Sync),
     alloc: Global,

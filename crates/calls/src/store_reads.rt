@@ -1,4 +1,4 @@
-//! Calls that read a store of one owner, and such as make another run or store beside it.
+//! Calls that read a store with one owner, and calls that make another run or store from it.
 use crate::asked::{made_answer, write_answers};
 use crate::input::Input;
 use crate::lists::write_stopped;
@@ -17,7 +17,7 @@ use uc_query_read::{Answer, Query, answer_last, answer_one, get, get_last, rows_
 use uc_query_workers::{AskError, answer_plain};
 use uc_version::{OpenError, Owned, OwnedClaim, Stretch, Version};
 
-/// Writes answers, or why there are none.
+/// Writes answers, or the reason why there are none.
 fn write_answered(alloc: Global, out: &mut Out, answered: &Result<Vec<Answer>, AskError>) {
     match answered {
         Ok(answers) => {
@@ -28,7 +28,7 @@ fn write_answered(alloc: Global, out: &mut Out, answered: &Result<Vec<Answer>, A
     }
 }
 
-/// The number of workers, of queries in a piece, and queries: their answers. The answering alone is clocked.
+/// Reads the number of workers, the number of queries in a piece, and queries. Writes the answers. Clocks only the answering.
 pub(crate) fn ask<O: Operator + Sync>(
     rt: &(impl Threads + Clock + Sync),
     alloc: Global,
@@ -48,7 +48,7 @@ pub(crate) fn ask<O: Operator + Sync>(
     }
 }
 
-/// The answer to a query that needs no list of snapshots.
+/// Returns the answer to a query, by the function that doesn't check the snapshots.
 fn unasked<O: Operator>(
     alloc: Global,
     version: &Version,
@@ -68,7 +68,7 @@ fn unasked<O: Operator>(
     }
 }
 
-/// The answer to a query at the last sequence.
+/// Returns the answer to a query at the last sequence number.
 fn last<O: Operator>(
     alloc: Global,
     version: &Version,
@@ -80,7 +80,7 @@ fn last<O: Operator>(
     }
 }
 
-/// A query: its answer, what is answered without a look at snapshots, and what a read at the last sequence is answered.
+/// Reads a query. Writes its answer, the answer without a check of the snapshots, and the answer at the last sequence number.
 pub(crate) fn answer<O: Operator>(
     alloc: Global,
     version: &Version,
@@ -97,7 +97,7 @@ pub(crate) fn answer<O: Operator>(
     }
 }
 
-/// A stretch, keeps, and whether it has the oldest run: what it becomes.
+/// Reads a stretch, keeps, and a flag that is set if it has the oldest run. Returns its compaction.
 fn merged<O: Operator + Sync>(
     rt: &(impl Threads + Sync),
     alloc: Global,
@@ -109,7 +109,7 @@ fn merged<O: Operator + Sync>(
     made_by_parts::<O>(rt, alloc, version.runs(), stretch, (&keeps, call.flag()))
 }
 
-/// Reads the arguments of `merged`: the run that the stretch becomes, with its points and fragments.
+/// Reads the arguments of `merged`. Writes the compacted run, with its points and fragments.
 pub(crate) fn merge<O: Operator + Sync>(
     rt: &(impl Threads + Sync),
     alloc: Global,
@@ -123,7 +123,7 @@ pub(crate) fn merge<O: Operator + Sync>(
     }
 }
 
-/// The numbers of a claim and of one of another store, and which store holds which: each its own, and each the other's.
+/// Writes the numbers of a claim and of another store's claim. Then flags: whether each store holds its own, and each the other's.
 fn tell_apart<O: Operator>(
     here: &Owned<O>,
     claim: &OwnedClaim,
@@ -139,7 +139,7 @@ fn tell_apart<O: Operator>(
     out.flag(there.holds(claim));
 }
 
-/// Tells a claim apart from one of another store.
+/// Claims runs in another store, and compares that claim with one of this store.
 fn apart_from<O: Operator>(here: &Owned<O>, claim: &OwnedClaim, there: Owned<O>, out: &mut Out) {
     let mut there = there;
     match there.claim(Stretch { first: 0, count: 2 }) {
@@ -148,7 +148,7 @@ fn apart_from<O: Operator>(here: &Owned<O>, claim: &OwnedClaim, there: Owned<O>,
     }
 }
 
-/// Reads the beginning of another store: tells a claim apart from one of its claims.
+/// Reads the beginning of another store. Compares a claim with one of that store.
 pub(crate) fn apart<O: Operator>(
     rt: &(impl Threads + Clock + Sync),
     alloc: Global,

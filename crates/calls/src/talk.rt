@@ -1,4 +1,4 @@
-//! [`Talk`]: the calls that are to be made, and the answers to them.
+//! [`Talk`]: the list of calls, and the answers to them.
 use crate::input::Input;
 use crate::marks;
 use crate::out::{Halt, Out};
@@ -6,22 +6,22 @@ use std::alloc::{AllocError, Global};
 use std::io::{self, Write};
 use std::time::Clock;
 
-/// The most requests that are refused of one call.
+/// Largest number of requests for memory that are refused in one call.
 const MOST: usize = 100_000;
 
-/// How the call is made that is made now.
+/// The way in which the current call is made.
 #[derive(Clone, Copy)]
 enum Way {
     Once,
-    /// It is marked, and the request with this number is refused.
+    /// Marked: the request for memory with this number is refused.
     Marked(usize),
-    /// It looks at what the last marked call, of which this request was refused, may not have changed.
+    /// Looks at the state after the marked call in which this request was refused. The call must not have changed it.
     Looks(usize),
-    /// It is clocked, and made this many times.
+    /// Clocked: made this number of times.
     Clocked(u64),
 }
 
-/// How a call ended: 0 if it was made, 1 if memory ran out, 2 if it was refused.
+/// Returns the status of a call: 0 if it was made, 1 if allocation failed, 2 if it was refused.
 fn status_of(answer: &Out, call: Input<'_>) -> u64 {
     match answer.halt() {
         Some(Halt::Memory) => 1,
@@ -30,7 +30,7 @@ fn status_of(answer: &Out, call: Input<'_>) -> u64 {
     }
 }
 
-/// Prints a status, and an answer with its length and a line feed.
+/// Prints a status, and an answer after its length and before a line feed.
 fn print(rt: &impl Print, head: &mut Out, status: u64, answer: &[u8]) -> io::Result<()> {
     head.clear();
     head.number(status);
@@ -41,16 +41,20 @@ fn print(rt: &impl Print, head: &mut Out, status: u64, answer: &[u8]) -> io::Res
     writer.write_all(b"\n")
 }
 
-/// The calls that are left, and the answer to the one that is made.
+/// The remaining calls, and the answer to the current one.
 ///
-/// Each call is bytes that begin with the number of a way: 0 is made once. 1 is made once too, and looks at what there is. 2 is
-/// marked: a number follows, and the request for memory with that number is refused in it. If memory ran out then, the last call
-/// that looks, if there was one, is made again, and the marked one with the next number, until it has an answer. 3 is clocked: a
-/// number follows, it is made that many times, and after its last answer the nanoseconds of them all are an answer of their own.
+/// A call is bytes that begin with the number of its way:
+///
+/// - 0: made once.
+/// - 1: made once. It looks at the state.
+/// - 2: marked. It begins with a number, and the request for memory with that number is refused. If allocation fails then, the last call
+///   that looks is made again, if there is one. Then the marked call is made with the next number, until it has an answer.
+/// - 3: clocked. It begins with a number, and is made that number of times. After its last answer, the nanoseconds of all these calls
+///   together are printed as another answer.
 pub(crate) struct Talk<'a> {
     calls: Input<'a>,
     look: Option<Input<'a>>,
-    /// The last call that is marked or clocked.
+    /// The last marked or clocked call.
     again: Input<'a>,
     way: Way,
     was_refused: bool,
@@ -73,7 +77,7 @@ impl<'a> Drop for Talk<'a> {
 }
 
 impl<'a> Talk<'a> {
-    /// All calls.
+    /// Returns the list of all calls.
     pub(crate) fn new(alloc: Global, calls: Input<'a>) -> Result<Talk<'a>, AllocError> {
         Ok(Talk {
             calls,
@@ -86,7 +90,7 @@ impl<'a> Talk<'a> {
         })
     }
 
-    /// The next call in the list.
+    /// Returns the next call of the list.
     fn read(&mut self) -> Option<Input<'a>> {
         if self.calls.is_empty() {
             return None;
@@ -108,13 +112,13 @@ impl<'a> Talk<'a> {
         Some(call)
     }
 
-    /// The marked call, of which the request after this one is refused next.
+    /// Returns the marked call, in which the request after this one will be refused.
     fn mark(&mut self, request: usize) -> Input<'a> {
         self.way = Way::Marked(request.saturating_add(1));
         self.again
     }
 
-    /// The last call that looks, or the marked call if there is none.
+    /// Returns the last call that looks, or else the marked call.
     fn look_or_mark(&mut self, request: usize) -> Input<'a> {
         match self.look {
             Some(look) => {
@@ -125,7 +129,7 @@ impl<'a> Talk<'a> {
         }
     }
 
-    /// The call that is made now; `None` once all are made.
+    /// Returns the next call to make, or `None` after the last.
     pub(crate) fn next(&mut self, clock: &impl Clock, alloc: Global) -> Option<Input<'a>> {
         let call = match self.way {
             Way::Marked(request) if self.was_refused && request < MOST => self.look_or_mark(
@@ -147,12 +151,12 @@ impl<'a> Talk<'a> {
         Some(call)
     }
 
-    /// The answer to the call that is made now.
+    /// Returns the answer to the current call.
     pub(crate) fn answer(&mut self) -> &mut Out {
         &mut self.answer
     }
 
-    /// Prints how long the clocked call took, all times that it was made.
+    /// Prints the time of the clocked call: the nanoseconds of all its repetitions.
     fn print_time(&mut self, rt: &impl Print) -> io::Result<()> {
         let nanoseconds = self.answer.watch.take();
         self.answer.clear();
@@ -160,8 +164,7 @@ impl<'a> Talk<'a> {
         print(rt, &mut self.head, 0, self.answer.as_slice())
     }
 
-    /// Prints how a call ended, and its answer: 0 if it was made, 1 if memory ran out, 2 if it was refused. Of a clocked call that
-    /// is made again it prints nothing.
+    /// Prints the status of a call and its answer. Prints nothing for a clocked call that will be repeated.
     pub(crate) fn end(
         &mut self,
         rt: &(impl Clock + Print),

@@ -1,4 +1,4 @@
-//! Versions of a store, and what is asked of one, as calls spell them.
+//! Versions of a store, and calls that read one.
 use crate::input::Input;
 use crate::out::{Halt, Out};
 use crate::reads;
@@ -9,12 +9,12 @@ use uc_compact::keeps_rise;
 use uc_run::Run;
 use uc_version_state::{Candidate, Install, Options, Placed, Stretch, Version, pick_among};
 
-/// A number of 32 bits, or the greatest one.
+/// Reads a number of 32 bits. A larger one becomes the greatest.
 fn narrow(call: &mut Input<'_>) -> u32 {
     u32::try_from(call.number()).unwrap_or(u32::MAX)
 }
 
-/// The options of a store, in the order of their fields.
+/// Reads the options of a store, in the order of their fields.
 pub(crate) fn options(call: &mut Input<'_>) -> Options {
     Options {
         memtable: call.number(),
@@ -27,7 +27,7 @@ pub(crate) fn options(call: &mut Input<'_>) -> Options {
     }
 }
 
-/// The place of a stretch's newest run, and how many runs it has.
+/// Reads a stretch: the index of its newest run, and the number of its runs.
 pub(crate) fn stretch(call: &mut Input<'_>) -> Stretch {
     Stretch {
         first: call.place(),
@@ -35,7 +35,7 @@ pub(crate) fn stretch(call: &mut Input<'_>) -> Stretch {
     }
 }
 
-/// Writes a stretch, if there is one.
+/// Writes an optional stretch.
 pub(crate) fn write_stretch(out: &mut Out, stretch: Option<Stretch>) {
     out.flag(stretch.is_some());
     if let Some(Stretch { first, count }) = stretch {
@@ -44,14 +44,14 @@ pub(crate) fn write_stretch(out: &mut Out, stretch: Option<Stretch>) {
     }
 }
 
-/// Writes a run's id and slot, and the run as a whole.
+/// Writes a run's id, slot and totals.
 fn write_placed(out: &mut Out, placed: &Placed) {
     out.number(placed.id());
     out.place(placed.slot());
     reads::sum_up(placed.run(), out);
 }
 
-/// Writes a version: its runs, keeps, last sequence, next id, and the size of its memtables.
+/// Writes a version: its runs, keeps, last sequence number, next id, and the size limit of its memtables.
 pub(crate) fn write_version(out: &mut Out, version: &Version) {
     out.place(version.runs().len());
     for placed in version.runs() {
@@ -63,7 +63,7 @@ pub(crate) fn write_version(out: &mut Out, version: &Version) {
     out.number(version.limit());
 }
 
-/// A place: the run there, its points and fragments.
+/// Reads the index of a run. Writes the run, with its points and fragments.
 pub(crate) fn show(alloc: Global, version: &Version, call: &mut Input<'_>, out: &mut Out) {
     match version.runs().get(call.place()) {
         Some(placed) => reads::show(alloc, placed.run(), out),
@@ -71,13 +71,13 @@ pub(crate) fn show(alloc: Global, version: &Version, call: &mut Input<'_>, out: 
     }
 }
 
-/// Writes a place, if there is one.
+/// Writes an optional index.
 fn write_place(out: &mut Out, place: Option<usize>) {
     out.flag(place.is_some());
     out.place(place.unwrap_or(0));
 }
 
-/// Ids: where runs with these stand as neighbours.
+/// Reads ids. Writes the index at which runs with these ids are adjacent.
 pub(crate) fn place(alloc: Global, version: &Version, call: &mut Input<'_>, out: &mut Out) {
     match call.numbers(alloc) {
         Ok(ids) => write_place(out, version.place_of(&ids)),
@@ -85,7 +85,7 @@ pub(crate) fn place(alloc: Global, version: &Version, call: &mut Input<'_>, out:
     }
 }
 
-/// A share of the run at a place.
+/// Returns a share of the run at an index.
 fn run_at(runs: &[Placed], place: usize) -> Result<Arc<Run>, Halt> {
     match runs.get(place) {
         Some(placed) => Ok(placed.run().clone()?),
@@ -93,7 +93,7 @@ fn run_at(runs: &[Placed], place: usize) -> Result<Arc<Run>, Halt> {
     }
 }
 
-/// Ids, keeps, the place of a run, and whether it is the oldest: that it replaces those with the ids.
+/// Reads ids, keeps, the index of a run, and a flag that is set for the oldest. Returns the install of that run for those with the ids.
 fn install(alloc: Global, version: &Version, call: &mut Input<'_>) -> Result<Install, Halt> {
     let ids = call.numbers(alloc)?;
     let keeps = call.numbers(alloc)?;
@@ -104,7 +104,7 @@ fn install(alloc: Global, version: &Version, call: &mut Input<'_>) -> Result<Ins
     Ok(Install::new(ids, keeps, call.flag(), output))
 }
 
-/// Writes the library's own name of why an install is refused; nothing if it isn't.
+/// Writes the library's name of the reason why an install is refused, or nothing if it isn't.
 fn write_refusal(alloc: Global, version: &Version, install: &Install, out: &mut Out) {
     match version.refusal(install) {
         Some(refusal) => out.name(alloc, &refusal),
@@ -112,7 +112,7 @@ fn write_refusal(alloc: Global, version: &Version, install: &Install, out: &mut 
     }
 }
 
-/// Why an `install` is refused.
+/// Reads the arguments of `install`. Writes the reason why that is refused.
 pub(crate) fn refuse(alloc: Global, version: &Version, call: &mut Input<'_>, out: &mut Out) {
     match install(alloc, version, call) {
         Ok(install) => write_refusal(alloc, version, &install, out),
@@ -121,7 +121,7 @@ pub(crate) fn refuse(alloc: Global, version: &Version, call: &mut Input<'_>, out
 }
 
 impl Spelled for Candidate {
-    /// The size of a run, and whether it is claimed.
+    /// Reads the size of a run, and a flag that is set if it is claimed.
     fn read(_: Global, call: &mut Input<'_>) -> Result<Candidate, AllocError> {
         Ok(Candidate {
             size: call.number(),
@@ -130,7 +130,7 @@ impl Spelled for Candidate {
     }
 }
 
-/// Writes which stretch of runs is compacted next.
+/// Writes the stretch of runs to compact next.
 fn write_pick(out: &mut Out, options: &Options, candidates: &[Candidate]) {
     if options.are_good() && candidates.len() <= 65_536 {
         write_stretch(out, pick_among(options, candidates));
@@ -139,7 +139,7 @@ fn write_pick(out: &mut Out, options: &Options, candidates: &[Candidate]) {
     }
 }
 
-/// Options, and sizes of runs: which stretch is compacted next.
+/// Reads options, and the sizes of runs. Writes the stretch to compact next.
 pub(crate) fn pick(alloc: Global, call: &mut Input<'_>, out: &mut Out) {
     let options = options(call);
     match said::list::<Candidate>(alloc, call) {

@@ -1,7 +1,6 @@
-//! [`Actor`]: who feeds, compacts, keeps or asks in a store, in a thread of its own.
+//! [`Actor`]: a thread that feeds, compacts, keeps or queries in a store.
 //!
-//! The write at a sequence is drawn by its number, so the feeders race for the next sequence, and it is the same writes whoever is
-//! faster.
+//! Feeders race for the next sequence number. It determines the write, so the result is the same for any winner.
 ghost use Rattle.std.specs.Prelude.{◌≡◌, All};
 
 use crate::dice::Dice;
@@ -15,40 +14,40 @@ use std::thread::{Threads, map_vec, yield_now};
 use uc_oper::Operator;
 use uc_share::{Compactor, Name, Pin, Reader, Seat, Store, Stretch};
 
-/// The number of times that the last sequence is kept.
+/// Number of times that the last sequence number is kept.
 const KEEPS: u64 = 25;
 
-/// The number of times that each of those who ask does so.
+/// Number of times that each querying actor queries.
 const ASKS: u64 = 30;
 
-/// The number of times that one who keeps tries to feed the first write, which others may be in the way of.
+/// Number of times that the keeper tries to feed the first write, since other feeders may be faster.
 const TRIES: u64 = 1_000_000;
 
-/// An actor: one that does something to a store.
+/// A thread's role in a store.
 #[derive(Drop)]
 pub enum Actor<O: Operator, N: Name> {
-    /// Feeds drawn writes.
+    /// Feeds random writes.
     Feeder(Reader<O, N>),
-    /// Takes turns.
+    /// Takes a compactor's turns.
     Turns(Compactor<O, N>),
-    /// Claims what is picked or a drawn stretch, and installs it or gives it back.
+    /// Claims the pick or a random stretch. Installs its compaction, or returns the claim.
     Draws(Reader<O, N>, Place<N>),
-    /// Keeps the last sequence, and releases what was kept before.
+    /// Keeps the last sequence number, and releases the one that it kept before.
     Keeper(Reader<O, N>),
-    /// Asks what is pinned.
+    /// Queries a pin.
     Pins(Reader<O, N>),
-    /// Asks by batches.
+    /// Queries in batches.
     Batches(Vec<Reader<O, N>>),
-    /// Waits for a piece at the gate, and installs two runs of what it has pinned before.
+    /// Waits until a worker reaches a piece at the gate. Then compacts and installs two runs of an older pin.
     Racer(Reader<O, N>, Place<N>, Option<Pin<O, N>>, usize),
-    /// Asks by workers, one piece each time, through the gate.
+    /// Queries by workers, one query in each piece, through the gate.
     Gated(Vec<Reader<O, N>>),
 }
 
-/// The work of an actor, and what it draws.
+/// An actor, and its source of random numbers.
 pub type Job<O, N> = (Actor<O, N>, Dice);
 
-/// Adds a compactor with the next seat, if there is one. Every second one draws, if that is the plan.
+/// Adds a compactor with the next seat, if there is one. With `draws` it claims random stretches.
 pub fn push_compactor<O: Operator, N: Name, W: Wait + Drop>(
     jobs: &mut Vec<Job<O, N>>,
     store: &Store<O, N, W>,
@@ -73,7 +72,7 @@ pub fn push_compactor<O: Operator, N: Name, W: Wait + Drop>(
     jobs.push((actor, dice)).ok()
 }
 
-/// Adds one that installs two runs, from a place on of what is shown now, if there is a seat.
+/// Adds an actor that installs two runs, from an index of the shown version on, if there is a seat.
 pub fn push_racer<O: Operator, N: Name>(
     jobs: &mut Vec<Job<O, N>>,
     readers: &mut Vec<Reader<O, N>>,
@@ -92,7 +91,7 @@ pub fn push_racer<O: Operator, N: Name>(
     jobs.push((actor, Dice::new(0))).ok()
 }
 
-/// Puts a sequence into the lock. Returns what was there.
+/// Stores a sequence number under the lock `kept`. Returns the previous one.
 fn replaced(rt: &impl Wait, kept: &RwLock<u64>, seq: u64) -> u64 {
     let mut kept = kept.write(rt);
     let before = *kept;
@@ -100,7 +99,7 @@ fn replaced(rt: &impl Wait, kept: &RwLock<u64>, seq: u64) -> u64 {
     before
 }
 
-/// The number of events that the reader has seen that has seen most.
+/// Returns the largest number of events that one of the readers has seen.
 fn most_seen<O: Operator, N: Name>(readers: &[Reader<O, N>]) -> u64 {
     let mut most = 0_u64;
     for reader in readers {
@@ -116,7 +115,7 @@ where
     W: Wait + Drop,
     R: Threads + Wait + Sync,
 {
-    /// Claims what is picked or a drawn stretch, and installs it or gives it back. No install is refused.
+    /// Claims the pick or a random stretch. Installs its compaction, which must not be refused, or returns the claim.
     fn claim_drawn(
         &self,
         reader: &mut Reader<O, N>,
@@ -135,7 +134,7 @@ where
         self.compact_pin(reader, place, pin, claimed, done)
     }
 
-    /// Feeds a write, unless there are some after the opening's already.
+    /// Feeds a write, unless there are already writes after those of the opening.
     fn feed_first(&self, reader: &mut Reader<O, N>, done: &mut Done) -> Option<()> {
         for _ in 0..TRIES {
             if last_shown(reader)? > self.start.last {
@@ -147,7 +146,7 @@ where
         None
     }
 
-    /// Keeps the last sequence, lets the others ask at it, and releases what was kept before, at which nobody asks then.
+    /// Keeps the last sequence number, publishes it in `kept`, and releases the previous one, at which no other thread queries any more.
     fn keep_and_release(&self, reader: &mut Reader<O, N>, done: &mut Done) -> Option<()> {
         self.feed_first(reader, done)?;
         let seq = self.keep(reader, done)?;
@@ -157,7 +156,7 @@ where
         Some(())
     }
 
-    /// Asks drawn queries of what is pinned. Returns whether it answers as the plain writes do.
+    /// Queries a new pin. Returns true if the answers equal those of the plain writes.
     pub fn ask_pin(
         &self,
         reader: &mut Reader<O, N>,
@@ -169,7 +168,7 @@ where
         self.answers_pinned(reader, queries.as_slice(), kept)
     }
 
-    /// Asks a drawn batch, by a drawn number of workers. Returns whether it is answered as the plain writes do.
+    /// Queries in a random batch, by a random number of workers. Returns true if the answers equal those of the plain writes.
     fn ask_batch(
         &self,
         readers: &mut Vec<Reader<O, N>>,
@@ -184,20 +183,20 @@ where
         Some(self.answers_all(readers, queries.as_slice(), kept, workers, piece))
     }
 
-    /// Asks what is pinned, at what is kept, which isn't released meanwhile.
+    /// Queries a new pin at the kept sequence number. Acquires `kept`, so that the sequence number isn't released meanwhile.
     fn ask_kept_pin(&self, reader: &mut Reader<O, N>, dice: &mut Dice) -> Option<bool> {
         let count = 1 + dice.roll(12);
         let kept = self.kept.read(self.rt);
         self.ask_pin(reader, dice, *kept, count)
     }
 
-    /// Asks a batch, at what is kept, which isn't released meanwhile.
+    /// Queries in a batch at the kept sequence number. Acquires `kept`, so that the sequence number isn't released meanwhile.
     fn ask_kept_batch(&self, readers: &mut Vec<Reader<O, N>>, dice: &mut Dice) -> Option<bool> {
         let kept = self.kept.read(self.rt);
         self.ask_batch(readers, dice, *kept)
     }
 
-    /// Installs two runs of what was pinned, once a piece has come to the gate.
+    /// Waits until a worker has reached a piece at the gate. Then compacts and installs two runs of an older pin.
     fn race(
         &self,
         reader: &mut Reader<O, N>,
@@ -220,7 +219,8 @@ where
         came
     }
 
-    /// Asks by a worker for each reader, one query at a time, through the gate. Tells how many events they have seen then.
+    /// Queries with a worker for each reader, one query in each piece, through the gate. Records the number of events that the workers
+    /// have seen.
     fn ask_at_gate(&self, readers: &mut Vec<Reader<O, N>>, done: &mut Done) -> Option<bool> {
         let workers = readers.len();
         let are_right = self.answers_all(readers, self.queries, self.start.last, workers, 1);
@@ -228,7 +228,7 @@ where
         Some(are_right)
     }
 
-    /// An actor's step. Nothing is said if something was refused, and false if an answer was another than the plain writes'.
+    /// Makes an actor's step. Returns `None` if a call was refused, and false if an answer differs from that of the plain writes.
     fn step(&self, actor: &mut Actor<O, N>, dice: &mut Dice, done: &mut Done) -> Option<bool> {
         match actor {
             Actor::Feeder(reader) => self.feed(reader, 1 + dice.roll(MOST_FED), done)?,
@@ -243,7 +243,7 @@ where
         Some(true)
     }
 
-    /// The number of steps of an actor.
+    /// Returns the number of an actor's steps.
     fn steps_of(&self, actor: &Actor<O, N>) -> u64 {
         match actor {
             Actor::Feeder(_) => self.plan.feeds,
@@ -254,7 +254,7 @@ where
         }
     }
 
-    /// The work of an actor, which ends where something doesn't come right.
+    /// Runs an actor until its last step, or until one fails.
     fn act(&self, mut actor: Actor<O, N>, mut dice: Dice) -> Done {
         let mut done = Done::nothing();
         for _ in 0..self.steps_of(&actor) {
@@ -267,7 +267,7 @@ where
     }
 }
 
-/// The sum of what all did.
+/// Returns the sum of the counts.
 fn all_done(done: &[Done]) -> Done {
     let mut all = Done::nothing();
     for one in done {
@@ -283,7 +283,7 @@ where
     W: Wait + Drop + Send,
     R: Threads + Wait + Sync,
 {
-    /// All at once. Nothing is said if all didn't come right.
+    /// Runs all actors concurrently. Returns the sum of their counts, or `None` if one failed.
     pub fn act_at_once(&self, jobs: Vec<Job<O, N>>) -> Option<Done> {
         let work = |job: Job<O, N>| -> Done {
             let (actor, dice) = job;

@@ -1,4 +1,4 @@
-//! Four threads that take and give lists of slots of one table.
+//! Four threads that take and return slots of one table.
 ghost use Rattle.std.specs.Prelude.{◌≡◌};
 
 use crate::dice::Dice;
@@ -13,7 +13,7 @@ const COUNT: usize = MOST_SLOTS;
 
 const ROUNDS: u32 = 10_000;
 
-// Eight slots, two of each group of 64, in some order.
+// Returns the first and the last slot of each group of 64, in random order.
 fn shuffled(draws: &mut Dice) -> [usize; 8] {
     let mut slots = [0, 63, 64, 127, 128, 191, 192, 255];
     for place in 0..8 {
@@ -22,17 +22,17 @@ fn shuffled(draws: &mut Dice) -> [usize; 8] {
     slots
 }
 
-// Raises each slot's counter. Returns whether each was 0.
+// Increments the counters of slots. Returns true if each was 0.
 fn enter(counters: &[AtomicU64; COUNT], slots: &[usize]) -> bool {
     slots.iter().all(|slot| counters[*slot % COUNT].fetch_add(1, Ordering::SeqCst) == 0)
 }
 
-// Lowers them again. Returns whether each was 1.
+// Decrements the counters of slots. Returns true if each was 1.
 fn leave(counters: &[AtomicU64; COUNT], slots: &[usize]) -> bool {
     slots.iter().all(|slot| counters[*slot % COUNT].fetch_sub(1, Ordering::SeqCst) == 1)
 }
 
-// The work of one thread. Returns whether it was alone with each slot that it had.
+// Takes and returns random slots. Returns true if no other thread had a slot at the same time.
 fn work(
     table: &ClaimTable,
     mut seat: Seat,
@@ -63,7 +63,7 @@ fn work(
     (seat, alone)
 }
 
-// Two threads at once, and their seats joined.
+// Runs two threads, and joins their seats.
 fn work_twice<R: Threads + Sync>(
     rt: &R,
     table: &ClaimTable,
@@ -90,7 +90,7 @@ fn work_twice<R: Threads + Sync>(
     (table.join(a, b), first && second)
 }
 
-// Four threads at once, and their seats joined.
+// Runs four threads, and joins their seats.
 fn work_four_times<R: Threads + Sync>(
     rt: &R,
     table: &ClaimTable,

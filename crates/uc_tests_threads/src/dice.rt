@@ -1,10 +1,10 @@
-//! [`Dice`]: drawn numbers, keys and writes.
+//! [`Dice`]: random numbers, keys and writes.
 ghost use Rattle.std.specs.Prelude.{◌<◌};
 
 use std::alloc::Global;
 use uc_bytes::{OpRef, Write, WriteRef};
 
-/// The keys that are drawn.
+/// The keys to choose from.
 const KEYS: [&[u8]; 4] = [b"a", b"b", b"bb", b"c"];
 
 /// A linear congruential generator, with the constants of Knuth's MMIX.
@@ -13,7 +13,7 @@ pub struct Dice {
     state: u64,
 }
 
-/// A change of a kind: 0 is a put, 1 a delete, 2 and 3 are range deletions, and all others merges.
+/// Returns a change of a kind: 0 is a put, 1 a delete, 2 and 3 are range deletions, and all others merges.
 pub fn change_of<'a>(kind: u64, key: &'a [u8], other: &'a [u8]) -> OpRef<'a> {
     match kind {
         0 => OpRef::put(key, other),
@@ -24,12 +24,12 @@ pub fn change_of<'a>(kind: u64, key: &'a [u8], other: &'a [u8]) -> OpRef<'a> {
 }
 
 impl Dice {
-    /// A row of numbers that begins with a seed.
+    /// Returns the generator with a seed.
     pub fn new(seed: u64) -> Dice {
         Dice { state: seed }
     }
 
-    /// A number below `sides`, or 0.
+    /// Returns a number below `sides`, or 0 if `sides` is 0.
     pub fn roll(&mut self, sides: u64) -> u64
         ensures { 0 < sides → result < sides }
     {
@@ -43,12 +43,12 @@ impl Dice {
         (self.state >> 33) % sides
     }
 
-    /// One of the keys.
+    /// Returns a random key.
     pub fn key(&mut self) -> &'static [u8] {
         KEYS[self.roll(4) as usize]
     }
 
-    /// A write with a sequence: of eight a put, a delete, two range deletions and four merges of a letter.
+    /// Returns a random write with a sequence number. Of eight, one is a put, one a delete, two are range deletions, and four merges.
     pub fn write(&mut self, alloc: Global, seq: u64) -> Option<Write> {
         let (kind, key) = (self.roll(8), self.key());
         let letter = [b'a' + self.roll(26) as u8];

@@ -1,22 +1,22 @@
-//! [`Done`]: what was done to a store.
+//! [`Done`]: counts of the changes to a store.
 
-/// The counts of what was done to a store, and whether all came right: nothing was refused, and each answer was the plain writes'.
+/// Counts of the changes to a store. `is_right` is true if no call was refused and each answer equals that of the plain writes.
 #[derive(Clone, Copy)]
 pub struct Done {
     pub is_right: bool,
-    /// The number of writes that were fed, and of the runs that these became.
+    /// Number of writes that were fed, and number of runs that they became.
     pub writes: u64,
     pub runs: u64,
-    /// The number of events: feeds, installs, keeps and releases.
+    /// Number of events: feeds, installs, keeps and releases.
     pub events: u64,
-    /// The number of compactions that were installed.
+    /// Number of installed compactions.
     pub installs: u64,
-    /// The most events that a reader had seen who answered at a gate.
+    /// Largest number of events that a reader had seen after the answers at a gate.
     pub seen: u64,
 }
 
 impl Done {
-    /// Nothing yet.
+    /// Returns counts of zero.
     pub fn nothing() -> Done {
         Done {
             is_right: true,
@@ -28,25 +28,25 @@ impl Done {
         }
     }
 
-    /// A keep or a release.
+    /// Counts a keep or a release.
     pub fn event(&mut self) {
         self.events = self.events.saturating_add(1);
     }
 
-    /// A feed.
+    /// Counts a feed.
     pub fn feed(&mut self, writes: u64, runs: u64) {
         self.writes = self.writes.saturating_add(writes);
         self.runs = self.runs.saturating_add(runs);
         self.event();
     }
 
-    /// An install.
+    /// Counts an install.
     pub fn install(&mut self) {
         self.installs = self.installs.saturating_add(1);
         self.event();
     }
 
-    /// Adds what another did.
+    /// Adds the counts of another actor.
     pub fn add(&mut self, other: Done) {
         self.is_right = self.is_right && other.is_right;
         self.writes = self.writes.saturating_add(other.writes);

@@ -1,18 +1,18 @@
-//! Writes that are drawn by their number alone, and drawn queries.
+//! Random writes that their sequence numbers determine, and random queries.
 use crate::dice::Dice;
 use std::alloc::Global;
 use uc_batch::Writes;
 use uc_bytes::{Bytes, Write};
 use uc_query_read::Query;
 
-/// The write with this sequence. Whoever feeds it, it is the same.
+/// Returns the write with a sequence number, which is the same for all feeders.
 fn write_at(alloc: Global, seq: u64) -> Option<Write> {
     let mut dice = Dice::new(seq);
     dice.roll(2);
     dice.write(alloc, seq)
 }
 
-/// This many writes after a sequence. Of four sequences one has none.
+/// Returns the next `count` writes after a sequence number. One of four sequence numbers has no write.
 pub fn writes_behind(alloc: Global, last: u64, count: u64) -> Option<Writes> {
     let mut writes = Vec::new(alloc);
     let mut seq = last;
@@ -24,7 +24,7 @@ pub fn writes_behind(alloc: Global, last: u64, count: u64) -> Option<Writes> {
     Writes::of(writes)
 }
 
-/// A scan from a key on, up to another one or to the end.
+/// Returns a scan from a key, inclusive, to another, exclusive. If that is empty, the scan has no end.
 pub fn scan(alloc: Global, low: &[u8], high: &[u8], at: u64, limit: u64) -> Option<Query> {
     let low = Bytes::from_slice(alloc, low).ok()?;
     if high.is_empty() {
@@ -43,13 +43,13 @@ pub fn scan(alloc: Global, low: &[u8], high: &[u8], at: u64, limit: u64) -> Opti
     })
 }
 
-/// A lookup.
+/// Returns a lookup.
 pub fn get(alloc: Global, key: &[u8], at: u64) -> Option<Query> {
     let key = Bytes::from_slice(alloc, key).ok()?;
     Some(Query::Get { key, at })
 }
 
-/// A drawn query: of three two lookups, and a scan of at most seven rows that has an end or none.
+/// Returns a random query. Two of three are lookups. The others are scans of at most seven rows, with or without an end.
 fn drawn_query(alloc: Global, dice: &mut Dice, at: u64) -> Option<Query> {
     let key = dice.key();
     if dice.roll(3) > 0 {
@@ -59,7 +59,7 @@ fn drawn_query(alloc: Global, dice: &mut Dice, at: u64) -> Option<Query> {
     scan(alloc, key, high, at, dice.roll(8))
 }
 
-/// A sequence to ask at: mostly the last of three that are kept, and now and then any up to the second.
+/// Returns a sequence number to query at: mostly the last of the three that are kept, sometimes any up to the second.
 fn drawn_sequence(dice: &mut Dice, keeps: [u64; 3]) -> u64 {
     let [first, second, last] = keeps;
     match dice.roll(8) {
@@ -70,7 +70,7 @@ fn drawn_sequence(dice: &mut Dice, keeps: [u64; 3]) -> u64 {
     }
 }
 
-/// This many drawn queries at sequences of which these are kept.
+/// Returns `count` random queries at sequence numbers, of which `keeps` are kept.
 pub fn drawn_queries(
     alloc: Global,
     dice: &mut Dice,

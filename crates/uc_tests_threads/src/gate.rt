@@ -1,13 +1,13 @@
-//! [`Holding`]: a gate that holds a worker up until something else has come.
+//! [`Holding`]: a gate that holds a worker until installs have happened.
 use std::sync::atomic::{AtomicBool, AtomicU64, Ordering};
 use std::thread::yield_now;
 use uc_query_shared::Gate;
 
-/// The number of times that a thread looks before it gives up.
+/// Number of times that a thread looks before it gives up.
 const LOOKS: u32 = 100_000_000;
 
-/// A gate that tells when one piece has come, and holds one, which may be the same, until as many compactors have installed as it
-/// waits for.
+/// A gate that reports when a worker reaches one piece, and holds the worker at a piece until a number of compactors have installed. Both
+/// pieces may be the same.
 #[derive(Drop)]
 pub struct Holding {
     told: usize,
@@ -19,7 +19,7 @@ pub struct Holding {
 }
 
 impl Holding {
-    /// A gate that tells of one piece and holds one, until this many have installed.
+    /// Returns a gate that reports the piece `told`, and holds `held` until `awaited` compactors have installed.
     pub fn new(told: usize, held: usize, awaited: u64) -> Holding {
         Holding {
             told,
@@ -31,14 +31,14 @@ impl Holding {
         }
     }
 
-    /// A gate that holds nobody.
+    /// Returns a gate that holds no worker.
     pub fn open() -> Holding {
         let gate = Holding::new(usize::MAX, usize::MAX, 0);
         gate.come.store(1, Ordering::SeqCst);
         gate
     }
 
-    /// Looks until a number is so high, or for too long, which it notes.
+    /// Waits until `number` is at least `awaited`. Gives up after `LOOKS` tries, and records that.
     fn wait(&self, number: &AtomicU64, awaited: u64) {
         for _ in 0..LOOKS {
             if number.load(Ordering::SeqCst) >= awaited {
@@ -49,17 +49,17 @@ impl Holding {
         self.late.store(true, Ordering::SeqCst);
     }
 
-    /// Waits until the one piece has come.
+    /// Waits until a worker has reached the reported piece.
     pub fn wait_for_piece(&self) {
         self.wait(&self.come, 1);
     }
 
-    /// A compactor has installed.
+    /// Counts a compactor's install.
     pub fn install(&self) {
         self.installed.fetch_add(1, Ordering::SeqCst);
     }
 
-    /// Whether the piece has come, and nobody gave up waiting.
+    /// Returns true if a worker has reached the reported piece, and no thread gave up.
     pub fn is_passed(&self) -> bool {
         self.come.load(Ordering::SeqCst) > 0 && !self.late.load(Ordering::SeqCst)
     }

@@ -6,7 +6,7 @@ use uc_batch::Writes;
 use uc_bytes::WriteRef;
 use uc_query_read::Query;
 
-/// A kind, and the texts of a change (`change_of`).
+/// A change: its kind and its byte strings (`change_of`).
 type Change = (u64, &'static [u8], &'static [u8]);
 
 /// A put and three merges.
@@ -17,7 +17,7 @@ static FOUR: [Change; 4] = [
     (4, b"k", b"b"),
 ];
 
-/// A put and a merge of `k`, a put of `l`, a range deletion from `k` to below `l`, and a merge of `k`.
+/// A put and a merge of `k`, a put of `l`, a range deletion from `k` to `l`, and a merge of `k`.
 static FIVE: [Change; 5] = [
     (0, b"k", b"a"),
     (4, b"k", b"b"),
@@ -26,10 +26,10 @@ static FIVE: [Change; 5] = [
     (4, b"k", b"c"),
 ];
 
-/// Whether it is a scan; a key, the end, a sequence and the most rows.
+/// A query: true for a scan, the key, the end, the sequence number, and the largest number of rows.
 type Asked = (bool, &'static [u8], &'static [u8], u64, u64);
 
-/// Queries of five writes. A snapshot keeps the second one, and the third isn't protected.
+/// Queries of the five writes. A snapshot keeps sequence number 2, and 3 isn't protected.
 static QUERIES: [Asked; 7] = [
     (false, b"k", b"", 5, 0),
     (false, b"k", b"", 2, 0),
@@ -40,12 +40,12 @@ static QUERIES: [Asked; 7] = [
     (true, b"k", b"l", 2, 10),
 ];
 
-/// The changes of four writes or of five.
+/// Returns the changes of the five writes, or of the four.
 fn changes(are_five: bool) -> &'static [Change] {
     if are_five { &FIVE } else { &FOUR }
 }
 
-/// Four writes or five, numbered from 1.
+/// Returns the five writes, or the four, numbered from 1.
 pub fn writes_of(alloc: Global, are_five: bool) -> Option<Writes> {
     let mut writes = Vec::new(alloc);
     let mut seq = 0_u64;
@@ -57,12 +57,12 @@ pub fn writes_of(alloc: Global, are_five: bool) -> Option<Writes> {
     Writes::of(writes)
 }
 
-/// All queries.
+/// Returns all queries.
 fn asked() -> &'static [Asked] {
     &QUERIES
 }
 
-/// The first queries, this many of them.
+/// Returns the first `count` queries.
 pub fn queries_of(alloc: Global, count: usize) -> Option<Vec<Query>> {
     let mut queries = Vec::new(alloc);
     for (is_scan, key, end, at, limit) in asked().iter().take(count) {

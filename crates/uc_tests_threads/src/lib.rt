@@ -1,13 +1,13 @@
-//! Threads that share a store, all at once.
+//! Threads that share a store and run concurrently.
 //!
-//! `soak.rt` has feeders, compactors, one who keeps and two who ask (`actors.rt`), over stores that are drawn by plans (`plan.rt`,
-//! `drawn.rt`, `dice.rt`). `races.rt` has two compactors who race, and workers who are held up at a gate (`gate.rt`), over the writes
-//! and queries of `given.rt`. `pieces.rt` has two threads that draw pieces. `claimants.rt` has four threads with a seat each of a table
-//! of slots (`slots.rt`).
+//! `soak.rt` runs feeders, compactors, a keeper and two threads that query (`actors.rt`), over random stores that plans describe
+//! (`plan.rt`, `drawn.rt`, `dice.rt`). `races.rt` runs two compactors that race, and workers that wait at a gate (`gate.rt`), over the
+//! writes and queries of `given.rt`. `pieces.rt` has two threads that draw pieces. `claimants.rt` has four threads, each with a seat of
+//! one table of slots (`slots.rt`).
 //!
-//! `scene.rt` has a store and what all who work there know, `place.rt` a seat that knows by its type which store it is of.
-//! `plain.rt` compares answers with those of plain writes, and `done.rt` counts what was done. What several do one after the other
-//! stands in `tests/shared.py`.
+//! `scene.rt` has a store and the state that its threads share, and `place.rt` a seat whose type names its store. `plain.rt` compares
+//! answers with those of plain writes, and `done.rt` counts changes. Calls that several actors make in turn are tested by
+//! `tests/shared.py`.
 #![tactic(auto)]
 
 #[cfg(test)]

@@ -1,4 +1,4 @@
-//! Pieces drawn by a lone seat, and by two threads with a seat each.
+//! Pieces drawn by one seat, and by two threads with a seat each.
 ghost use Rattle.std.specs.Prelude.{◌≡◌, ◌<◌, [], true};
 ghost use Rattle.uc_query_workers.specs.Draws.{past};
 
@@ -35,7 +35,7 @@ fn no_pieces(rt: HostRuntime) -> Result<(), Fail> {
     Ok(())
 }
 
-/// Draws to the end, and raises the counter of each piece. Whether the end was met.
+/// Draws until no piece is left, and increments the counter of each piece. Returns true if no piece was left.
 fn work(
     counter: &PieceCounter,
     mut seat: PieceSeat,
@@ -58,7 +58,7 @@ fn work(
     (seat, false)
 }
 
-/// Two threads at once, each with a seat of its own. Whether both met the end.
+/// Draws in two threads, each with its own seat. Returns true if no piece was left for either.
 fn work_twice<R: Threads + Sync>(
     rt: &R,
     counter: &PieceCounter,

@@ -1,11 +1,11 @@
-//! [`Place`]: a seat of the store that a name says.
+//! [`Place`]: a seat of the store `N`.
 ghost use Rattle.std.specs.Prelude.{◌≡◌, IfSome};
 ghost use Rattle.std.proofs.Props.{props};
 
 use std::marker::PhantomData;
 use uc_share::{Name, Seat};
 
-/// A seat of the store that a name says, unless a claim has it.
+/// A seat of the store `N`, which may be in use by a claim.
 pub struct Place<N: Name> {
     seat: Option<Seat>,
     of: PhantomData<N>,
@@ -19,7 +19,7 @@ impl<N: Name> Drop for Place<N> {
 }
 
 impl<N: Name> Place<N> {
-    /// A free seat.
+    /// Returns a free seat.
     pub fn of(seat: Seat) -> Place<N>
         requires { seat.table ≡ N.table }
     {
@@ -29,14 +29,14 @@ impl<N: Name> Place<N> {
         }
     }
 
-    /// The seat, if it is free.
+    /// Takes the seat, if it is free.
     pub fn take(&mut self) -> Option<Seat>
         ensures { IfSome result (λ seat. seat.table ≡ N.table) }
     {
         self.seat.take()
     }
 
-    /// The seat is free again.
+    /// Puts the seat back.
     pub fn put(&mut self, seat: Seat)
         requires { seat.table ≡ N.table }
     {

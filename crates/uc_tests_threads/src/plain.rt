@@ -1,4 +1,4 @@
-//! [`Plain`]: what plain writes answer.
+//! [`Plain`]: the answers of plain writes.
 use std::alloc::Global;
 use uc_batch::Writes;
 use uc_oper::Operator;
@@ -6,7 +6,7 @@ use uc_query_read::{Answer, Query, answer_one, answer_writes};
 use uc_query_shared::AskError;
 use uc_share::Version;
 
-/// Plain writes, and the sequences that are kept.
+/// Plain writes, and the sequence numbers that are kept.
 #[derive(Clone, Copy)]
 pub struct Plain<'a> {
     pub writes: &'a Writes,
@@ -14,7 +14,7 @@ pub struct Plain<'a> {
 }
 
 impl Plain<'_> {
-    /// Whether plain writes give this answer.
+    /// Returns true if plain writes give this answer.
     fn gives<O: Operator>(self, alloc: Global, query: &Query, answer: &Answer) -> bool {
         match answer_writes::<O>(alloc, self.writes, &self.keeps, query) {
             Ok(plain) => *answer == plain,
@@ -22,7 +22,7 @@ impl Plain<'_> {
         }
     }
 
-    /// Whether plain writes give these answers.
+    /// Returns true if plain writes give these answers.
     fn gives_each<O: Operator>(self, alloc: Global, queries: &[Query], answers: &[Answer]) -> bool {
         for (query, answer) in queries.iter().zip(answers) {
             if !self.gives::<O>(alloc, query, answer) {
@@ -32,7 +32,7 @@ impl Plain<'_> {
         queries.len() == answers.len()
     }
 
-    /// Whether a batch was answered as plain writes answer.
+    /// Returns true if a batch succeeded, and plain writes give its answers.
     pub fn gives_all<O: Operator>(
         self,
         alloc: Global,
@@ -45,7 +45,7 @@ impl Plain<'_> {
         }
     }
 
-    /// Whether a version gives the answer that plain writes give.
+    /// Returns true if a version answers a query as plain writes do.
     fn is_given<O: Operator>(self, alloc: Global, version: &Version, query: &Query) -> bool {
         match answer_one::<O>(alloc, version, query) {
             Ok(answer) => self.gives::<O>(alloc, query, &answer),
@@ -53,7 +53,7 @@ impl Plain<'_> {
         }
     }
 
-    /// Whether a version answers all queries as plain writes do.
+    /// Returns true if a version answers all queries as plain writes do.
     pub fn are_given<O: Operator>(
         self,
         alloc: Global,

@@ -1,31 +1,31 @@
-//! [`Plan`]: how stores are drawn, and what is done to them.
+//! [`Plan`]: the parameters of random stores and of the work on them.
 use uc_share::Options;
 
-/// The most writes that are fed at once.
+/// Largest number of writes in one feed.
 pub const MOST_FED: u64 = 3;
 
-/// A plan of how stores are drawn, and what is done to them.
+/// Parameters of random stores, and of the work on them.
 #[derive(Clone, Copy)]
 pub struct Plan {
-    /// The number of stores.
+    /// Number of stores.
     pub stores: u64,
-    /// With how many runs a store opens.
+    /// Bounds of the number of runs with which a store opens.
     pub fewest: u64,
     pub most: u64,
-    /// The number of runs that are picked at a time, and the percentage of the oldest run from which on all are.
+    /// Largest number of runs in a pick, and the percentage of the oldest run's size at which all runs are picked.
     pub greatest: u32,
     pub percent: u32,
-    /// The number of turns of each of four compactors, and whether two of them claim drawn stretches, and give some back.
+    /// Number of turns of each of four compactors. If `draws` is true, two of them claim random stretches, and return some.
     pub turns: u64,
     pub draws: bool,
-    /// The number of times that each of two feeders tries to feed. If it is 0, nobody keeps or releases either.
+    /// Number of feeds that each of two feeders tries. If it is 0, no thread keeps or releases.
     pub feeds: u64,
-    /// The least number of installs, of all stores.
+    /// Least number of installs in all stores together.
     pub installs: u64,
 }
 
-/// The plans for each operator: stores of a few runs, which are fed more than they open with; stores of some runs, of which any
-/// number is picked; and stores that nobody feeds, where nobody keeps or releases.
+/// The plans for each operator: stores of a few runs, which are fed more than they open with; stores of more runs, with picks of any size;
+/// and stores without feeds, keeps and releases.
 static SMALL: [Plan; 3] = [
     Plan {
         stores: 5,
@@ -62,9 +62,8 @@ static SMALL: [Plan; 3] = [
     },
 ];
 
-/// The plans for one operator: stores that have few slots left, or none, and of which at most eight runs are picked, so that there are
-/// many for a while; a store with a run for each slot, of which two are picked at a time, so that there are many installs; and one that
-/// has room, and is fed for long.
+/// The plans for one operator. Stores with few free slots or none, and picks of at most eight runs, so that many runs remain for a while. A
+/// store with a run in each slot, and picks of two runs, so that there are many installs. A store with free slots, which is fed for long.
 static LARGE: [Plan; 3] = [
     Plan {
         stores: 6,
@@ -101,17 +100,17 @@ static LARGE: [Plan; 3] = [
     },
 ];
 
-/// The plans for each operator.
+/// Returns the plans for each operator.
 pub fn small() -> &'static [Plan] {
     &SMALL
 }
 
-/// The plans for one operator.
+/// Returns the plans for one operator.
 pub fn large() -> &'static [Plan] {
     &LARGE
 }
 
-/// Options under which each write is a run and two runs are compacted.
+/// Options under which each write becomes a run, and two runs are compacted.
 pub fn small_runs() -> Options {
     Options {
         memtable: 1,
@@ -122,7 +121,7 @@ pub fn small_runs() -> Options {
 }
 
 impl Plan {
-    /// The options of a store.
+    /// Returns the options of a store.
     pub fn options(self) -> Options {
         Options {
             greatest: self.greatest,
@@ -131,7 +130,7 @@ impl Plan {
         }
     }
 
-    /// The most writes: the opening's, those of both feeders, and one before the first keep.
+    /// Returns the largest number of writes: those of the opening and of both feeders, and one before the first keep.
     pub fn writes(self) -> u64 {
         let fed = self.feeds.saturating_mul(2 * MOST_FED);
         self.most.saturating_add(fed).saturating_add(1)

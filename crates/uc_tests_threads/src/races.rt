@@ -1,4 +1,4 @@
-//! Compactors that race, and workers who are held up at a gate while something is installed.
+//! Compactors that race, and workers that wait at a gate while a compaction is installed.
 ghost use Rattle.std.specs.Prelude.{◌≡◌, All, false};
 ghost use Rattle.uc_share.specs.Stores.{IsNamed};
 
@@ -18,23 +18,23 @@ use uc_oper::Append;
 use uc_query_read::Query;
 use uc_share::{Name, Opening, Reader, Seat, Store, Version};
 
-/// The operator: texts joined by a comma.
+/// The operator: joins operands with a comma.
 type Commas = Append<0x2C>;
 
-/// A trial with compactors who install at once, and workers who answer.
+/// A trial of compactors that install concurrently, and of workers that answer.
 #[derive(Clone, Copy)]
 struct Trial {
-    /// The number of compactors: one with the two newest runs, and one with the two after them.
+    /// Number of compactors: the first has the two newest runs, and the second the next two.
     racers: usize,
-    /// The number of workers, who see all installs, and of their queries.
+    /// Number of workers, which see all installs, and number of their queries.
     workers: usize,
     asked: usize,
-    /// The piece that compactors wait for, and the one that is held until they have installed.
+    /// Piece that compactors wait for, and piece that is held until they have installed.
     told: usize,
     held: usize,
 }
 
-/// Both install at once. Nobody asks.
+/// Two compactors install concurrently. There are no workers.
 static RACE: Trial = Trial {
     racers: 2,
     workers: 0,
@@ -43,8 +43,8 @@ static RACE: Trial = Trial {
     held: 0,
 };
 
-/// Two workers answer. The first piece is held until the second has come, and then both compactors have installed. Or one answers
-/// pieces up to a last one, which is held until a compaction is installed.
+/// Two workers answer: the first piece is held until a worker has reached the second, and then until both compactors have installed. Then
+/// one worker answers: its last piece is held until a compaction is installed.
 static TRIALS: [Trial; 8] = [
     Trial {
         racers: 2,
@@ -104,18 +104,18 @@ static TRIALS: [Trial; 8] = [
     },
 ];
 
-/// The trial of compactors alone.
+/// Returns the trial without workers.
 fn race() -> Trial {
     RACE
 }
 
-/// The trials with workers.
+/// Returns the trials with workers.
 fn trials() -> &'static [Trial] {
     &TRIALS
 }
 
 impl Trial {
-    /// Its gate.
+    /// Returns the gate of the trial.
     fn gate(self) -> Holding {
         if self.workers == 0 {
             Holding::open()
@@ -124,14 +124,14 @@ impl Trial {
         }
     }
 
-    /// Whether all have installed, and workers have seen that.
+    /// Returns true if all compactors have installed, and the workers have seen that.
     fn is_done(self, done: Done) -> bool {
         let racers = self.racers as u64;
         done.installs == racers && (self.workers == 0 || done.seen == racers)
     }
 }
 
-/// Whether a version of two runs has the ids of two installs, with sequences 3 and 4 in the newer run and 1 and 2 in the older one.
+/// Returns true if the version has two runs with the ids of the two installs: sequence numbers 3 and 4 in the newer, 1 and 2 in the older.
 fn has_both(version: &Version) -> bool {
     let [newer, older] = version.runs() else {
         return false;
@@ -142,13 +142,13 @@ fn has_both(version: &Version) -> bool {
     ids && newest && oldest
 }
 
-/// Whether two compactors have installed four runs, and nothing else is shown then.
+/// Returns true if two compactors have installed the four runs, and nothing else is shown.
 fn shows_both<N: Name>(reader: &mut Reader<Commas, N>) -> Option<bool> {
     let pin = reader.pin().ok()?;
     Some(has_both(pin.version()))
 }
 
-/// Adds the compactors of a trial, and its workers.
+/// Adds the compactors and the workers of a trial.
 fn push_all<N: Name>(
     jobs: &mut Vec<Job<Commas, N>>,
     readers: &mut Vec<Reader<Commas, N>>,
@@ -169,7 +169,7 @@ fn push_all<N: Name>(
     Some(())
 }
 
-/// Whether a trial comes right in a store.
+/// Runs a trial in a store. Returns true if it succeeds.
 fn comes_right_in<N, W, R>(
     rt: &R,
     alloc: Global,
@@ -213,7 +213,7 @@ where
     Some(is_right && (trial.workers > 0 || shows_both(&mut late)?))
 }
 
-/// Whether a trial comes right in a store that gets its name here.
+/// Names a store, and runs a trial there. Returns true if it succeeds.
 fn comes_right_named<N, W, R>(
     rt: &R,
     handle: W,
@@ -243,7 +243,7 @@ where
     )
 }
 
-/// Whether a trial comes right, in a store of four writes, or of five where workers ask.
+/// Runs a trial in a store of four writes, or of five if there are workers. Returns true if it succeeds.
 fn comes_right<R: Threads + Wait + Sync>(rt: &R, alloc: Global, trial: Trial) -> Option<bool> {
     let writes = writes_of(alloc, trial.workers > 0)?;
     let queries = queries_of(alloc, trial.asked)?;

@@ -1,4 +1,4 @@
-//! [`Scene`]: a store that threads share, and what all know who work there.
+//! [`Scene`]: a store that threads share, and the state of these threads.
 ghost use Rattle.std.specs.Prelude.{◌≡◌};
 
 use crate::dice::Dice;
@@ -19,45 +19,45 @@ use uc_query_read::Query;
 use uc_query_shared::answer_all;
 use uc_share::{Compactor, FeedError, Held, Name, Pin, Reader, Seat, Store, Stretch, Turn};
 
-/// The numbers with which a store opened.
+/// Numbers with which a store opened.
 #[derive(Clone, Copy)]
 pub struct Start {
-    /// The number of writes, and the id that the next run gets.
+    /// Number of writes, and id of the next run.
     pub count: u64,
     pub first_id: u64,
-    /// Two sequences that it keeps since then: one, and the last one.
+    /// Sequence numbers that are kept from the opening on: a random one, and the last.
     pub first_keep: u64,
     pub last: u64,
 }
 
-/// How runs are claimed.
+/// The claim that a compactor makes.
 #[derive(Clone, Copy)]
 pub struct Claimed {
-    /// The stretch that is claimed if nothing is picked, and whether a pick is claimed.
+    /// Stretch to claim, and true if a pick is claimed instead, should there be one.
     pub stretch: Stretch,
     pub picks: bool,
-    /// Whether the claim is given back.
+    /// True if the claim is returned.
     pub gives_back: bool,
 }
 
-/// The last sequence that is shown.
+/// Returns the last sequence number that the store shows.
 pub fn last_shown<O: Operator, N: Name>(reader: &mut Reader<O, N>) -> Option<u64> {
     let pin = reader.pin().ok()?;
     Some(pin.version().last())
 }
 
-/// A store, and what all know who work there. Contracts see whether its snapshots stay, which they don't.
+/// A store, and the state that its threads share. A contract sees whether its snapshots stay, which is false.
 pub struct Scene<'a, O: Operator, N: Name, W: Wait + Drop, R> {
     pub rt: &'a R,
     pub alloc: Global,
     pub store: &'a Store<O, N, W>,
     pub plan: Plan,
     pub start: Start,
-    /// All writes that may be fed, after those that it opened with.
+    /// All writes that can be fed. They begin with those of the opening.
     pub writes: &'a Writes,
-    /// The sequence that is kept last. Who asks reads it and asks under the lock, so nobody asks at what is released.
+    /// The last kept sequence number. A querying thread holds the read lock while it queries there, so no thread releases it meanwhile.
     pub kept: RwLock<u64>,
-    /// The queries that are asked at the gate.
+    /// Queries at the gate.
     pub queries: &'a [Query],
     pub gate: Holding,
 }
@@ -116,7 +116,7 @@ where
         Some(())
     }
 
-    /// Claims a stretch of a pin, and installs what it is compacted to, or gives it back. Nothing is done if the claim is refused.
+    /// Claims a stretch of a pin, and installs its compaction or returns the claim. Does nothing if the claim is refused.
     fn compact_stretch(
         &self,
         reader: &mut Reader<O, N>,
@@ -136,7 +136,7 @@ where
         Some(())
     }
 
-    /// Claims a stretch of a pin, or what is picked of it.
+    /// Claims a stretch of a pin, or its pick.
     pub fn compact_pin(
         &self,
         reader: &mut Reader<O, N>,
@@ -156,7 +156,7 @@ where
         self.compact_stretch(reader, place, seat, pin, claimed, done)
     }
 
-    /// Takes a compactor's turn. It isn't refused.
+    /// Takes a compactor's turn, which must not be refused.
     pub fn take_turn(&self, compactor: &mut Compactor<O, N>, done: &mut Done) -> Option<()> {
         match self.store.turn(self.rt, self.alloc, compactor).ok()? {
             Turn::Installed => done.install(),
@@ -165,7 +165,7 @@ where
         Some(())
     }
 
-    /// Feeds this many writes after the last sequence that is shown, unless another is faster, or too many runs wait for compactors.
+    /// Feeds the `count` writes after the last one that is shown. Does nothing if another feeder was faster, or if there are too many runs.
     pub fn feed(&self, reader: &mut Reader<O, N>, count: u64, done: &mut Done) -> Option<()> {
         let last = last_shown(reader)?;
         let writes = writes_behind(self.alloc, last, count)?;
@@ -178,14 +178,14 @@ where
         Some(())
     }
 
-    /// Keeps the last sequence. Returns it.
+    /// Keeps the last sequence number, and returns it.
     pub fn keep(&self, reader: &mut Reader<O, N>, done: &mut Done) -> Option<u64> {
         let seq = self.store.keep(self.rt, self.alloc, reader).ok()?;
         done.event();
         Some(seq)
     }
 
-    /// Releases a sequence that was kept. What the store was opened with stays, and so does what is kept now.
+    /// Releases a sequence number, unless the store was opened with it or it is the one kept now.
     pub fn release(
         &self,
         reader: &mut Reader<O, N>,
@@ -202,7 +202,7 @@ where
         Some(())
     }
 
-    /// The answer of the plain writes where this sequence is kept beside those of the opening.
+    /// Returns the plain writes, with this sequence number kept besides those of the opening.
     fn plain(&self, kept: u64) -> Plain<'_> {
         Plain {
             writes: self.writes,
@@ -210,13 +210,13 @@ where
         }
     }
 
-    /// This many drawn queries, where this sequence is kept beside those of the opening.
+    /// Returns random queries, for a store that keeps this sequence number besides those of the opening.
     pub fn drawn(&self, dice: &mut Dice, kept: u64, count: u64) -> Option<Vec<Query>> {
         let keeps = [self.start.first_keep, self.start.last, kept];
         drawn_queries(self.alloc, dice, keeps, count)
     }
 
-    /// Whether what is shown answers these queries as the plain writes do, where this sequence is kept.
+    /// Returns true if a new pin answers the queries as the plain writes do, with this sequence number kept.
     pub fn answers_pinned(
         &self,
         reader: &mut Reader<O, N>,
@@ -228,7 +228,7 @@ where
         Some(plain.are_given::<O>(self.alloc, pin.version(), queries))
     }
 
-    /// Whether workers answer these queries as the plain writes do, where this sequence is kept.
+    /// Returns true if workers answer the queries as the plain writes do, with this sequence number kept.
     pub fn answers_all(
         &self,
         readers: &mut Vec<Reader<O, N>>,

@@ -1,8 +1,8 @@
-//! Requests that a table accepts: slots that are distinct and below its number of slots.
+//! Conditions on the slots that a table takes: distinct, and below its number of slots.
 ghost use Rattle.std.specs.Prelude.{◌<◌, IsTrue, All};
 ghost use Rattle.uc_claims.specs.Holding.{AreDistinct};
 
-/// Whether no slot is in the list twice.
+/// Returns true if no slot is listed twice.
 pub(crate) fn are_distinct(slots: &[usize]) -> bool
     ensures { IsTrue result → AreDistinct slots.now }
 {
@@ -12,7 +12,7 @@ pub(crate) fn are_distinct(slots: &[usize]) -> bool
     }
 }
 
-/// Whether all these slots are below the bound.
+/// Returns true if all slots are below `bound`.
 pub(crate) fn are_below(slots: &[usize], bound: usize) -> bool
     ensures { IsTrue result → All (λ slot. slot < bound) slots.now }
 {

@@ -1,6 +1,6 @@
-//! Two feeders, four compactors, one who keeps and releases and two who ask, all at once, over many drawn stores: whoever feeds and
-//! whatever is compacted meanwhile, what is kept is answered as the plain writes answer it, no install is refused, and nothing is
-//! lost. Some stores are only compacted and asked.
+//! Two feeders, four compactors, a keeper and two threads that query, over many random stores, concurrently. Whatever is fed and compacted
+//! meanwhile, queries at kept sequence numbers are answered as the plain writes answer them, no install is refused, and nothing is lost.
+//! Some stores are only compacted and queried.
 ghost use Rattle.std.specs.Prelude.{◌≡◌, All, false};
 ghost use Rattle.uc_share.specs.Stores.{IsNamed};
 
@@ -20,13 +20,13 @@ use uc_batch::Writes;
 use uc_oper::{Append, Counter, Maximum, Operator, Tail};
 use uc_share::{Name, Opening, Reader, Seat, Store, Version};
 
-/// The number of readers of a store, of which at least four are for batches.
+/// Number of readers of a store. At least four of them answer batches.
 const READERS: usize = 13;
 
-/// The number of queries that are asked in the end.
+/// Number of queries at the end.
 const LAST_QUERIES: u64 = 40;
 
-/// Adds an actor for the last reader.
+/// Adds an actor with the last reader.
 fn push_reader<O: Operator, N: Name>(
     jobs: &mut Vec<Job<O, N>>,
     readers: &mut Vec<Reader<O, N>>,
@@ -74,7 +74,7 @@ fn push_compactors<O: Operator, N: Name, W: Wait + Drop>(
     push_compactor(jobs, store, readers, seats, false, Dice::new(0))
 }
 
-/// Adds those who feed and keep, if that is the plan, and those who ask.
+/// Adds the feeders and the keeper, if the plan has any, and the threads that query.
 fn push_readers<O: Operator, N: Name>(
     jobs: &mut Vec<Job<O, N>>,
     readers: &mut Vec<Reader<O, N>>,
@@ -97,7 +97,7 @@ where
     W: Wait + Drop + Send,
     R: Threads + Wait + Sync,
 {
-    /// Whether a version is after all writes that were fed, and each of their runs and of the installs gave an id.
+    /// Returns true if a version has all writes that were fed, and an id was used for each of their runs and for each install.
     fn leads_to(&self, version: &Version, done: Done) -> bool {
         let count = self.start.count.saturating_add(done.writes) as usize;
         let last = match self.writes.list().get(count.saturating_sub(1)) {
@@ -108,13 +108,13 @@ where
         last && ids == done.runs.saturating_add(done.installs)
     }
 
-    /// Whether a pin shows all that was done, with an event for each.
+    /// Returns true if a pin shows all changes, with an event for each.
     fn shows(&self, reader: &mut Reader<O, N>, done: Done) -> Option<bool> {
         let pin = reader.pin().ok()?;
         Some(pin.front().len() == done.events && self.leads_to(pin.version(), done))
     }
 
-    /// Whether the store shows all that was done, and answers at the last sequence, which is kept here.
+    /// Keeps the last sequence number. Returns true if the store shows all changes and answers correctly there.
     fn shows_all(&self, reader: &mut Reader<O, N>, done: Done) -> Option<bool> {
         let mut done = done;
         let last = self.keep(reader, &mut done)?;
@@ -123,7 +123,7 @@ where
     }
 }
 
-/// Does the work of a store, where all comes right and nothing is lost.
+/// Runs the actors of a store. Returns their counts if all is correct and nothing is lost.
 fn soak_in<O, N, W, R>(
     rt: &R,
     alloc: Global,
@@ -163,7 +163,7 @@ where
     scene.shows_all(&mut late, done)?.then_some(done)
 }
 
-/// Does the work of a store that gets its name here.
+/// Names a store, and runs its actors.
 fn soak_named<O, N, W, R>(
     rt: &R,
     handle: W,
@@ -196,7 +196,7 @@ where
     )
 }
 
-/// A drawn store, and what it opened with.
+/// Returns a random store, and the numbers with which it opened.
 fn drawn_store<O: Operator>(
     alloc: Global,
     plan: Plan,
@@ -216,7 +216,7 @@ fn drawn_store<O: Operator>(
     Some((opening, start))
 }
 
-/// Does the work of a drawn store.
+/// Runs the actors of a random store.
 fn soak<O: Operator + Send + Sync, R: Threads + Wait + Sync>(
     rt: &R,
     alloc: Global,
@@ -228,7 +228,7 @@ fn soak<O: Operator + Send + Sync, R: Threads + Wait + Sync>(
     soak_named::<O, Brand, &R, R>(rt, rt, alloc, opening, plan, start, writes, dice)
 }
 
-/// Whether drawn stores are as they should be, and enough was done to them that it means something.
+/// Returns true if all stores of a plan are correct, and enough was fed and installed to make that meaningful.
 fn is_right<O: Operator + Send + Sync, R: Threads + Wait + Sync>(
     rt: &R,
     alloc: Global,
@@ -244,7 +244,7 @@ fn is_right<O: Operator + Send + Sync, R: Threads + Wait + Sync>(
     Some(done.installs >= plan.installs && fed)
 }
 
-/// Whether the stores of all these plans are so.
+/// Returns true if that holds for all plans.
 fn are_right<O: Operator + Send + Sync, R: Threads + Wait + Sync>(
     rt: &R,
     alloc: Global,

@@ -1,4 +1,4 @@
-//! What compactors install and a feeder feeds beside the answers.
+//! Compactors that install, and a feeder that feeds, while queries are answered.
 use crate::logs::{answers_of, input_of};
 use crate::meeting::{Meeting, Page, Waits};
 use std::alloc::Global;
@@ -10,35 +10,35 @@ use uc_tool_ask::{Beside, ask_through, is_plan};
 use uc_tool_io::Done;
 use uc_version_state::Options;
 
-/// Merges join texts by commas.
+/// The operator: joins operands with commas.
 type Texts = Append<b','>;
 
 /// A run of `ask`.
 #[derive(Clone, Copy)]
 struct Row {
-    /// The number of changes in the log, and of those that come later.
+    /// Number of changes in the log, and number of changes that are fed later.
     changes: u64,
     later: u64,
-    /// As many neighbours are compacted as a compaction may have, as long as there are as many runs as the trigger. Each change is a
-    /// run.
+    /// Number of runs at which compaction starts, and largest number of runs in a compaction. A compaction takes as many adjacent runs
+    /// as it can. Each change is a run.
     trigger: u32,
     greatest: u32,
     workers: usize,
     compactors: usize,
     waits: Waits,
-    /// The number of installs, or `ANY`.
+    /// Number of installs, or `ANY`.
     installs: u64,
 }
 
-/// Any number of installs, since some come before a feed and some after it.
+/// Any number of installs, since some happen before a feed and some after it.
 const ANY: u64 = u64::MAX;
 
-/// A row in short: the trigger and the most runs of a compaction, the numbers of workers and compactors, what these wait for, and the
-/// installs.
+/// A row in short: the trigger and the largest number of runs in a compaction, the numbers of workers and compactors, the event that
+/// compactors wait for, and the installs.
 type Short = ((u32, u32), (usize, usize), Waits, u64);
 
-/// One compactor makes of 20 runs what a report makes (`crates/ucstore/cases/reports.txt`): compactions of two runs each until one
-/// is left, of three until two are left and then of these, and of three until two are left. Without a compactor nothing is installed.
+/// One compactor compacts 20 runs as a report does (`crates/ucstore/cases/reports.txt`): two runs at a time until one is left; three at a
+/// time until two are left, and then these; and three at a time until two are left. Without a compactor nothing is installed.
 static ALONE: [Short; 4] = [
     ((2, 2), (1, 1), Waits::Never, 19),
     ((2, 3), (1, 1), Waits::Never, 10),
@@ -46,7 +46,7 @@ static ALONE: [Short; 4] = [
     ((2, 2), (1, 0), Waits::Never, 0),
 ];
 
-/// Any crew leaves nothing to be picked.
+/// Any number of compactors leaves no runs to compact.
 static CREWS: [Short; 5] = [
     ((2, 2), (2, 1), Waits::Never, 19),
     ((2, 2), (2, 2), Waits::Never, 19),
@@ -55,7 +55,7 @@ static CREWS: [Short; 5] = [
     ((2, 2), (2, 16), Waits::Never, 19),
 ];
 
-/// Who finds what it picked claimed by another, or compacted by another, picks again.
+/// A compactor picks again if another has claimed or compacted the runs that it picked.
 static PICKS: [Short; 2] = [
     ((2, 2), (1, 2), Waits::Claims, 19),
     ((2, 2), (1, 2), Waits::Moves, 19),
@@ -67,7 +67,7 @@ static PRINTS: [Short; 2] = [
     ((2, 2), (1, 2), Waits::Prints, 19),
 ];
 
-/// How many writes come later.
+/// Numbers of writes that are fed later.
 static LATER: [u64; 5] = [0, 1, 3, 7, u64::MAX];
 
 fn alone() -> &'static [Short] {
@@ -91,7 +91,7 @@ fn later_writes() -> &'static [u64] {
 }
 
 impl Row {
-    /// A run over twenty changes.
+    /// Returns a run over twenty changes.
     fn of_short(short: Short) -> Row {
         let ((trigger, greatest), (workers, compactors), waits, installs) = short;
         Row {
@@ -106,7 +106,7 @@ impl Row {
         }
     }
 
-    /// A run over three changes, of which some come later.
+    /// Returns a run over three changes, the last `later` of which are fed later.
     fn of_later(later: u64) -> Row {
         Row {
             changes: 3,
@@ -120,12 +120,12 @@ impl Row {
         }
     }
 
-    /// The number of writes that are fed, which are no more than there are.
+    /// Returns the number of writes that are fed, at most all of them.
     fn fed(self) -> u64 {
         self.later.min(self.changes)
     }
 
-    /// Its options.
+    /// Returns the options of the run.
     fn options(self) -> Options {
         Options {
             memtable: 1,
@@ -137,14 +137,14 @@ impl Row {
         }
     }
 
-    /// Whether this is what it should come to: each write is fed, as nothing is against it.
+    /// Returns true if the run succeeded with the expected installs and fed all later writes.
     fn is_done(self, done: Done, beside: Beside) -> bool {
         let installs = self.installs == ANY || beside.installs == self.installs;
         done == Done::Fine && installs && beside.fed == self.fed() && beside.left == 0
     }
 }
 
-/// Whether a run ends as it should.
+/// Runs `ask`. Returns true if it ends as expected.
 fn ends_well(
     rt: &(impl Threads + Wait + Sync),
     alloc: Global,
@@ -172,7 +172,7 @@ fn ends_well(
     row.is_done(outcome.done, beside)
 }
 
-/// Whether a run ends as it should and prints the answers, and nobody waited for too long.
+/// Runs `ask`. Returns true if it ends as expected and prints the answers, and no thread waited too long.
 fn comes_right(rt: &(impl Threads + Wait + Sync), alloc: Global, row: Row) -> Option<bool> {
     let input = input_of(alloc, row.changes)?;
     let meeting = Meeting::new(row.waits);
@@ -185,7 +185,7 @@ fn comes_right(rt: &(impl Threads + Wait + Sync), alloc: Global, row: Row) -> Op
     Some(ends && page.text.as_slice() == answers_of(opened) && meeting.is_in_time())
 }
 
-/// Whether all of these runs come right.
+/// Returns true if all these runs succeed.
 fn come_right(rt: &(impl Threads + Wait + Sync), alloc: Global, rows: &[Short]) -> bool {
     for short in rows {
         if comes_right(rt, alloc, Row::of_short(*short)) != Some(true) {
@@ -215,7 +215,7 @@ fn answers_are_printed_beside_compactors(rt: HostRuntime) {
     assert!(rt; come_right(&rt, rt.alloc(), prints()));
 }
 
-/// The program says only how many later writes were left.
+/// The program prints only the number of later writes that were left over.
 #[test]
 fn later_writes_are_fed(rt: HostRuntime) {
     for later in later_writes() {

@@ -1,8 +1,8 @@
-//! Tests of what the program `ucstore` can't be asked: what compactors install, what a feeder feeds, and the lines of replies
-//! that no script comes to. All else of it is tried by scripts over the built program (`crates/ucstore/cases`).
+//! Tests of properties that the program `ucstore` can't show: the installs of compactors, the feeds of a feeder, and replies that no script
+//! causes. Scripts over the built program test all other properties (`crates/ucstore/cases`).
 //!
-//! `asks.rt` has runs of `ask` over logs (`logs.rt`) by rows of numbers, `meeting.rt` what compactors wait for meanwhile.
-//! `reply_lines.rt` has the lines of replies.
+//! `asks.rt` has runs of `ask` over logs (`logs.rt`), each described by a row of numbers, and `meeting.rt` the points at which compactors
+//! wait meanwhile. `reply_lines.rt` has the lines of replies.
 #![tactic(auto)]
 
 #[cfg(test)]

@@ -5,10 +5,10 @@ use uc_batch::{fits_batch, write_batch};
 use uc_bytes::OpRef;
 use uc_logrec::LogWriter;
 
-/// Queries about all keys.
+/// Queries of all keys.
 const HEAD: &[u8] = b"get 6b last\nget 6c last\nget 6d last\nlog\n";
 
-/// A change of the log, by its number.
+/// Returns a change of the log, by its number.
 fn change(number: u64) -> OpRef<'static> {
     match number % 3 {
         1 => OpRef::put(b"k", b"a"),
@@ -17,7 +17,7 @@ fn change(number: u64) -> OpRef<'static> {
     }
 }
 
-/// Adds the change with a number to a log, as a batch.
+/// Appends the batch of a change to a log.
 fn add_change(alloc: Global, log: &mut LogWriter, number: u64) -> Option<()> {
     let op = change(number).to_op(alloc).ok()?;
     if !fits_batch(number, slice::from_ref(&op)) {
@@ -27,7 +27,7 @@ fn add_change(alloc: Global, log: &mut LogWriter, number: u64) -> Option<()> {
     log.add(payload.as_slice()).ok()
 }
 
-/// A log of this many changes, numbered from 1.
+/// Returns a log of changes, numbered from 1.
 fn log_of(alloc: Global, changes: u64) -> Option<Vec<u8>> {
     let mut log = LogWriter::new(alloc);
     for number in 0..changes {
@@ -36,7 +36,7 @@ fn log_of(alloc: Global, changes: u64) -> Option<Vec<u8>> {
     Some(log.finish())
 }
 
-/// The queries, and a log of this many changes.
+/// Returns the queries, and then a log of changes.
 pub(crate) fn input_of(alloc: Global, changes: u64) -> Option<Vec<u8>> {
     let log = log_of(alloc, changes)?;
     let mut input = Vec::from_slice(alloc, HEAD).ok()?;
@@ -44,7 +44,7 @@ pub(crate) fn input_of(alloc: Global, changes: u64) -> Option<Vec<u8>> {
     Some(input)
 }
 
-/// The answers from a log of no, of three or of twenty changes.
+/// Returns the answers from a log of no, three or twenty changes.
 pub(crate) fn answers_of(changes: u64) -> &'static [u8] {
     match changes {
         0 => b"none\nnone\nnone\n",

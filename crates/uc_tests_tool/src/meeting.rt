@@ -1,14 +1,14 @@
-//! [`Meeting`]: where compactors wait for one another and for who prints.
+//! [`Meeting`]: the points at which compactors wait for one another and for output.
 use std::io;
 use std::io::{ErrorKind, Write};
 use std::sync::atomic::{AtomicBool, AtomicU64, Ordering};
 use std::thread::yield_now;
 use uc_tool_ask::TurnGate;
 
-/// The number of times that a thread looks before it gives up.
+/// Number of times that a thread looks before it gives up.
 const LOOKS: u32 = 100_000_000;
 
-/// A number that threads raise, and wait for.
+/// A count that threads increment and wait for.
 #[derive(Drop)]
 struct Count {
     number: AtomicU64,
@@ -16,7 +16,7 @@ struct Count {
 }
 
 impl Count {
-    /// None yet.
+    /// Returns a count of zero.
     fn new() -> Count {
         Count {
             number: AtomicU64::new(0),
@@ -24,12 +24,12 @@ impl Count {
         }
     }
 
-    /// One more: the number that it is now.
+    /// Increments the count, and returns it.
     fn raise(&self) -> u64 {
         self.number.fetch_add(1, Ordering::SeqCst).saturating_add(1)
     }
 
-    /// Looks until the number is so high, or for too long, which it notes.
+    /// Waits until the count is at least `number`. Gives up after `LOOKS` tries, and records that.
     fn wait_for(&self, number: u64) {
         for _ in 0..LOOKS {
             if self.number.load(Ordering::SeqCst) >= number {
@@ -40,7 +40,7 @@ impl Count {
         self.late.store(true, Ordering::SeqCst);
     }
 
-    /// Whether nobody gave up waiting.
+    /// Returns true if no thread gave up.
     fn is_in_time(&self) -> bool {
         !self.late.load(Ordering::SeqCst)
     }
@@ -49,18 +49,19 @@ impl Count {
 /// The event that compactors wait for.
 #[derive(Clone, Copy)]
 pub(crate) enum Waits {
-    /// Nothing.
+    /// No event.
     Never,
-    /// Two pick before one claims, so that they pick the same runs. Who claims them holds them until the other has picked once more.
+    /// Two compactors pick before either claims, so that both pick the same runs. The one that claims them waits until the other picks
+    /// again.
     Claims,
-    /// Of two the first to pick is held until the other has installed and picks once more, which is held then until the first has
-    /// picked once more.
+    /// The compactor that picks first waits until the other has installed and picks again. Then the other waits until the first picks
+    /// again.
     Moves,
-    /// Runs are claimed before anything is printed, and whoever claims some holds them until something is printed.
+    /// Nothing is printed before runs are claimed, and a compactor that has claimed runs waits until something is printed.
     Prints,
 }
 
-/// Where compactors and who prints meet.
+/// Counts of picks, claims and prints, for which compactors and the printing thread wait.
 #[derive(Drop)]
 pub(crate) struct Meeting {
     waits: Waits,
@@ -70,7 +71,7 @@ pub(crate) struct Meeting {
 }
 
 impl Meeting {
-    /// Nobody has come yet.
+    /// Returns a meeting with counts of zero.
     pub(crate) fn new(waits: Waits) -> Meeting {
         Meeting {
             waits,
@@ -80,7 +81,7 @@ impl Meeting {
         }
     }
 
-    /// Something is printed.
+    /// Counts a print, after it waited for a claim if it must.
     fn print(&self) {
         if let Waits::Prints = self.waits {
             self.claims.wait_for(1);
@@ -88,7 +89,7 @@ impl Meeting {
         let _ = self.prints.raise();
     }
 
-    /// Whether nobody gave up waiting for the others.
+    /// Returns true if no thread gave up.
     pub(crate) fn is_in_time(&self) -> bool {
         self.picks.is_in_time() && self.claims.is_in_time() && self.prints.is_in_time()
     }
@@ -114,7 +115,7 @@ impl TurnGate for Meeting {
     }
 }
 
-/// Takes what is printed at a meeting.
+/// Output that a meeting counts.
 #[derive(Drop)]
 pub(crate) struct Page<'a> {
     pub(crate) text: Vec<u8>,

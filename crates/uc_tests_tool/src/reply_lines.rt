@@ -1,5 +1,5 @@
-//! The lines of replies that no script comes to: a script's claims are looked at and installed one at a time, its writes are numbered
-//! in order, and no option of the program sets the first id of runs.
+//! Lines of replies that no script causes: in a script, claims are made and installed one at a time, writes are numbered in order, and no
+//! option sets the first id of runs.
 use std::alloc::Global;
 use uc_bytes::Items;
 use uc_query::{Reply, Report, Totals};
@@ -7,10 +7,10 @@ use uc_tool_opening::reply_lines;
 use uc_version::{ClaimError, InstallError};
 use uc_version_state::FeedError;
 
-/// The last sequence once a reply was given.
+/// The last sequence number after a reply.
 const LAST: u64 = 70;
 
-/// The reply with a number, and its line.
+/// Returns the reply with a number, and its line.
 fn reply_at(number: usize) -> (Reply, &'static [u8]) {
     match number {
         0 => (Reply::Refused(ClaimError::Moved), b"refused moved\n"),
@@ -36,10 +36,10 @@ fn reply_at(number: usize) -> (Reply, &'static [u8]) {
     }
 }
 
-/// The number of these replies.
+/// Number of these replies.
 const REPLIES: usize = 8;
 
-/// Whether a reply has these lines.
+/// Returns true if a reply has these lines.
 fn has_lines(alloc: Global, reply: &Reply, lines: &[u8]) -> bool {
     match reply_lines(alloc, LAST, reply) {
         Ok(text) => text.as_slice() == lines,
@@ -55,7 +55,7 @@ fn replies_have_their_lines(rt: HostRuntime) {
     }
 }
 
-/// Of no store: the totals of no run, which aren't zero, and no keep.
+/// Returns a report of no runs, with totals other than zero, and no keeps.
 fn no_runs(alloc: Global) -> Reply {
     Reply::Reported(Report {
         lines: Items::from(Vec::new(alloc)),
