@@ -10,8 +10,8 @@
 #
 # Each language runs its examples, the cases of bindings/cases, a million puts in a row, and drawn calls beside a plain
 # dictionary: OPERATIONS (50000) for each of the four operators in C. `refused` refuses each allocation of CALLS (1000) drawn
-# calls, and tries what promises.c counts. SEED (1) is the seed of what C draws, and of cases of the operator `mixed`: 500, or with LONG=1
-# 3,000, which is what the player for C has memory for.
+# calls, and tries what promises.c counts. SEED (1) is the seed of what C draws, and of cases of the operator `mixed`: 500, with some 2,300
+# lists of operands, or with LONG=1 eight times 3,000, with more than 100,000.
 set -euo pipefail
 here=$(cd "$(dirname "${BASH_SOURCE[0]}")" && pwd)
 work=$(mktemp -d)
@@ -22,6 +22,7 @@ export PATH=$PATH:${CARGO_HOME:-$HOME/.cargo}/bin
 operations=${OPERATIONS:-50000}
 calls=${CALLS:-1000}
 seed=${SEED:-1}
+files_drawn=${LONG:+8}
 cases_drawn=${LONG:+3000}
 read -ra cc <<< "${CC:-cc}"
 read -ra cxx <<< "${CXX:-c++}"
@@ -57,7 +58,16 @@ install_all() {
     check_versions
     check_names -D "$work/usr/lib/libucstore.so"
     check_names -g "$work/usr/lib/libucstore.a"
-    python3 "$here/python/tests/draw_cases.py" "$seed" "${cases_drawn:-500}" mixed > "$work/drawn.txt"
+    draw_cases
+}
+
+# Files of cases of the operator `mixed`, as long as the player for C has memory for.
+draw_cases() {
+    local place
+    mkdir "$work/drawn"
+    for ((place = 0; place < ${files_drawn:-1}; place++)); do
+        python3 "$here/python/tests/draw_cases.py" $((seed + place)) "${cases_drawn:-500}" mixed > "$work/drawn/drawn-$place.txt"
+    done
 }
 
 # All packages have the version of the header.
@@ -137,7 +147,7 @@ try_pages() {
 }
 
 try_c() {
-    local name
+    local name drawn
     for name in first logged worked operands test play million; do
         compile_c "$name"
         compile_cpp "$name"
@@ -150,8 +160,12 @@ try_c() {
     "$work/worked_cpp"
     "$work/operands"
     "$work/operands_cpp"
-    "$work/play" "$here"/cases/*.txt "$work/drawn.txt"
-    "$work/play_cpp" "$here"/cases/*.txt "$work/drawn.txt"
+    "$work/play" "$here"/cases/*.txt
+    "$work/play_cpp" "$here"/cases/*.txt
+    for drawn in "$work"/drawn/*.txt; do
+        "$work/play" "$drawn"
+        "$work/play_cpp" "$drawn"
+    done
     "$work/million"
     "$work/test" "$operations" "$seed"
     "$work/test_cpp" $((operations / 10)) $((seed + 1))
@@ -215,7 +229,7 @@ check_declarations() {
 try_rust() {
     check_declarations
     cp -r "$here/rust" "$here/cases" "$work"
-    cp "$work/drawn.txt" "$work/cases"
+    cp "$work"/drawn/*.txt "$work/cases"
     rm -rf "$work/rust/target"
     (cd "$work/rust" && cargo test --offline --quiet -j 1 -p ucstore)
     expect first.rs "$first" "$(cd "$work/rust" && cargo run --offline --quiet -j 1 -p ucstore --example first)"
@@ -238,7 +252,7 @@ find_python() {
 }
 
 try_python() {
-    local python library tests
+    local python library tests drawn
     python=$(find_python)
     cp -r "$here/python" "$work/python"
     (cd "$work/python" && "$python" -m pip --quiet --disable-pip-version-check install --no-index --no-build-isolation \
@@ -252,8 +266,9 @@ try_python() {
         "$(env -u LD_LIBRARY_PATH UCSTORE_LIBRARY="$library" "$python" "$work/first.py")"
     cp "$library" "$(dirname "$("$python" -c 'import ucstore; print(ucstore.__file__)')")"
     expect 'first.py, beside its library' "$first" "$(env -u LD_LIBRARY_PATH "$python" "$work/first.py")"
+    drawn=$(printf '%s:' "$work"/drawn/*.txt)
     for tests in test_ucstore test_mixed test_cases; do
-        (cd "$work" && UCSTORE_DRAWN_CASES=$work/drawn.txt "$python" "$here/python/tests/$tests.py" --quiet)
+        (cd "$work" && UCSTORE_DRAWN_CASES=$drawn "$python" "$here/python/tests/$tests.py" --quiet)
     done
 }
 

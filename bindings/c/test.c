@@ -1149,6 +1149,20 @@ static size_t read_file(struct ucstore_view *view, size_t place, size_t piece, u
     return length;
 }
 
+/* Reads a file piece by piece. Its run has a range of sequence numbers. */
+static void read_pieces(struct ucstore_run_file *file, const uint8_t *bytes, size_t length, uint64_t low, uint64_t high) {
+    uint64_t least = 0, greatest = 0;
+    size_t offset = 99;
+    file->at = NULL;
+    CHECK(ucstore_run_file_open(file, (size_t)draw(2) * length) == UCSTORE_OK);
+    for (size_t begin = 0, end; begin < length; begin = end) {
+        size_t most = (size_t)(1 + draw(70000));
+        end = length - begin < most ? length : begin + most;
+        CHECK(ucstore_run_file_append(file, bytes + begin, end - begin) == UCSTORE_OK);
+    }
+    CHECK(ucstore_run_file_read(file, &least, &greatest, &offset) == UCSTORE_OK && least == low && greatest == high && offset == 99);
+}
+
 /* Opens a store from the files of the runs of a view, the oldest first. */
 static void open_runs(struct ucstore_view *view, uint64_t runs, struct ucstore *opened) {
     static uint8_t file[RUN_FILE];
@@ -1160,7 +1174,14 @@ static void open_runs(struct ucstore_view *view, uint64_t runs, struct ucstore *
         uint64_t id = 0, low = 0, high = 0, given = 0, last = 0;
         size_t length = read_file(view, (size_t)place, (size_t)(1 + draw(70000)), file, sizeof file), offset = 99;
         CHECK(ucstore_view_run(view, (size_t)place, &id, &low, &high) == UCSTORE_OK && before < low && low <= high);
-        CHECK(ucstore_add_run(opened, file, length, &given, &offset) == UCSTORE_OK && given == runs - place && offset == 99);
+        if (draw(2) == 0) {
+            struct ucstore_run_file pieces;
+            read_pieces(&pieces, file, length, low, high);
+            CHECK(ucstore_add_run_file(opened, &pieces, &given) == UCSTORE_OK && pieces.at == NULL);
+        } else {
+            CHECK(ucstore_add_run(opened, file, length, &given, &offset) == UCSTORE_OK);
+        }
+        CHECK(given == runs - place && offset == 99);
         CHECK(ucstore_last(opened, &last) == UCSTORE_OK && last == high);
         before = high;
     }
@@ -1477,6 +1498,37 @@ static void damaged_files(uint8_t *file, size_t length) {
     CHECK(ucstore_close(&opened) == UCSTORE_OK);
 }
 
+/* The file of a run that is read piece by piece: what has no file, is read too early or twice, is damaged, or doesn't fit. */
+static void pieces_of_a_file(const uint8_t *bytes, size_t length, uint64_t low, uint64_t high) {
+    struct ucstore opened, nothing;
+    struct ucstore_run_file file;
+    struct ucstore_options options;
+    uint64_t id = 7, least = 7, greatest = 7;
+    size_t offset = 7;
+    opened.at = nothing.at = file.at = NULL;
+    CHECK(ucstore_options_init(&options) == UCSTORE_OK && ucstore_create(&opened, UCSTORE_APPEND, &options) == UCSTORE_OK);
+    CHECK(ucstore_run_file_append(&file, bytes, 1) == UCSTORE_BAD_RUN && ucstore_run_file_close(&file) == UCSTORE_BAD_RUN);
+    CHECK(ucstore_run_file_read(&file, &least, &greatest, &offset) == UCSTORE_BAD_RUN);
+    CHECK(ucstore_add_run_file(&opened, &file, &id) == UCSTORE_BAD_RUN && file.at == NULL);
+    CHECK(ucstore_run_file_open(&file, 0) == UCSTORE_OK && file.at != NULL && ucstore_run_file_append(&file, NULL, 0) == UCSTORE_OK);
+    CHECK(ucstore_add_run_file(&opened, &file, &id) == UCSTORE_BAD_RUN && file.at != NULL);
+    CHECK(ucstore_run_file_append(&file, bytes, length - 1) == UCSTORE_OK);
+    CHECK(ucstore_run_file_read(&file, &least, &greatest, &offset) == UCSTORE_RUN_DAMAGED && offset == length - 1 && file.at == NULL);
+    CHECK(least == 7 && greatest == 7 && id == 7);
+    read_pieces(&file, bytes, length, low, high);
+    CHECK(ucstore_run_file_append(&file, bytes, 1) == UCSTORE_BAD_RUN);
+    offset = 7;
+    CHECK(ucstore_run_file_read(&file, &least, &greatest, &offset) == UCSTORE_BAD_RUN && least == 7 && greatest == 7 && offset == 7);
+    CHECK(ucstore_add_run_file(&nothing, &file, &id) == UCSTORE_NO_STORE && file.at != NULL && id == 7);
+    CHECK(ucstore_add_run_file(&opened, &file, &id) == UCSTORE_OK && file.at == NULL && id == 1);
+    read_pieces(&file, bytes, length, low, high);
+    CHECK(ucstore_add_run_file(&opened, &file, &id) == UCSTORE_BAD_RUN && file.at == NULL && id == 1);
+    read_pieces(&file, bytes, length, low, high);
+    CHECK(ucstore_run_file_open(&file, 1) == UCSTORE_OK && ucstore_run_file_close(&file) == UCSTORE_OK && file.at == NULL);
+    read_pieces(&file, bytes, length, low, high);
+    CHECK(ucstore_run_file_close(&file) == UCSTORE_OK && file.at == NULL && ucstore_close(&opened) == UCSTORE_OK);
+}
+
 /* Two runs as files: in order, out of order, and added to a store that has writes of its own. */
 static void run_files(void) {
     static uint8_t older[RUN_FILE], newer[RUN_FILE];
@@ -1504,6 +1556,7 @@ static void run_files(void) {
     older_length = read_file(&view, 1, RUN_FILE, older, sizeof older);
     CHECK(ucstore_view_close(&view) == UCSTORE_OK);
     damaged_files(newer, newer_length);
+    pieces_of_a_file(newer, newer_length, 3, 4);
     CHECK(ucstore_create(&opened, UCSTORE_APPEND, &options) == UCSTORE_OK);
     CHECK(ucstore_add_run(&opened, older, older_length, &id, &offset) == UCSTORE_OK && id == 1);
     CHECK(ucstore_add_run(&opened, older, older_length, &id, &offset) == UCSTORE_BAD_RUN);

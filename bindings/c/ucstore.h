@@ -34,6 +34,7 @@
  * A run of a view is written to a file once, since no run changes, and read back into an empty store:
  *
  *     struct ucstore_run run = {0};
+ *     struct ucstore_run_file file = {0};
  *
  * A job is a flush or a compaction that runs outside its store:
  *
@@ -106,6 +107,11 @@ struct ucstore_checkpoint {
 
 /* The bytes of a run's file. All zeros: no run. */
 struct ucstore_run {
+    void *at;
+};
+
+/* The file of a run that is read. All zeros: no file. */
+struct ucstore_run_file {
     void *at;
 };
 
@@ -694,6 +700,30 @@ int32_t ucstore_run_close(struct ucstore_run *run);
  * prepared batch, jobs, 256 runs, or no run ID left.
  * UCSTORE_NO_STORE, UCSTORE_OUT_OF_MEMORY. */
 int32_t ucstore_add_run(struct ucstore *store, const uint8_t *file, size_t file_length, uint64_t *id, size_t *offset);
+
+/* Opens the file of a run, and allocates memory for `size` bytes; it may get more or fewer. Closes the file that `file` has first. No
+ * function of files but the last needs a store, so several threads can each read one.
+ * UCSTORE_OUT_OF_MEMORY: `file` is closed then. */
+int32_t ucstore_run_file_open(struct ucstore_run_file *file, size_t size);
+
+/* Appends the next bytes of the file.
+ * UCSTORE_BAD_RUN: the file was read already, or is not open. UCSTORE_OUT_OF_MEMORY. */
+int32_t ucstore_run_file_append(struct ucstore_run_file *file, const uint8_t *piece, size_t piece_length);
+
+/* Reads the run of the file's bytes, and stores the least and the greatest sequence number of its writes. The bytes become the run's: none is
+ * copied.
+ * UCSTORE_RUN_DAMAGED: as `ucstore_add_run`. `file` is closed then. UCSTORE_OUT_OF_MEMORY: the same.
+ * UCSTORE_BAD_RUN: the file was read already, or is not open. */
+int32_t ucstore_run_file_read(struct ucstore_run_file *file, uint64_t *low, uint64_t *high, size_t *offset);
+
+/* Adds the run of a file that was read to a store, as `ucstore_add_run` does, and closes the file.
+ * UCSTORE_BAD_RUN: as `ucstore_add_run`, and `file` is closed; or the file was not read, and stays open.
+ * UCSTORE_NO_STORE: the file stays open. UCSTORE_OUT_OF_MEMORY: `file` is closed. */
+int32_t ucstore_add_run_file(struct ucstore *store, struct ucstore_run_file *file, uint64_t *id);
+
+/* Frees a file.
+ * UCSTORE_BAD_RUN. */
+int32_t ucstore_run_file_close(struct ucstore_run_file *file);
 
 /* Does the next compaction that is due, and stores in `compacted` whether there was one. Optional if the store compacts automatically.
  * UCSTORE_NO_STORE, UCSTORE_IDS_SPENT, UCSTORE_OUT_OF_MEMORY. */

@@ -25,3 +25,4 @@ pub mod Folders
 pub mod Transactions
 pub mod RunFolders
 pub mod Runs
+pub mod RunFiles

@@ -55,6 +55,7 @@ mod reading;
 mod reads;
 mod replaying;
 mod room;
+mod run_files;
 mod run_folder;
 mod runs;
 mod scanning;

@@ -135,7 +135,7 @@ pub extern "C" fn ucstore_run_close(alloc: Global, run: &mut RunHandle) -> i32
 }
 
 /// The offset of a fault in a file of this size.
-fn fault_offset(size: usize, fault: RunFault) -> usize
+pub fn fault_offset(size: usize, fault: RunFault) -> usize
     ensures { result ≡ files.fault_offset size fault }
 {
     match fault {
@@ -147,7 +147,7 @@ fn fault_offset(size: usize, fault: RunFault) -> usize
 }
 
 /// The status for a run that doesn't fit.
-fn add_status(error: AddRunError) -> i32
+pub fn add_status(error: AddRunError) -> i32
     ensures { AddSays error result }
 {
     match error {

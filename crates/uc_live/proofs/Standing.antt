@@ -1,7 +1,7 @@
 -- Stores that stand for writes: what happens to them, and what they answer.
-use Rattle.std.proofs.Common.{◌≡◌, ℕ, ◌≤◌, true, false, Bool, List, [], ◌∷◌, ◌++◌, Contains, inl, inr, ⊎_elim, fold, refl, sym, ap, ◌∙◌, subst, append_assoc, arith}
+use Rattle.std.proofs.Common.{◌≡◌, ℕ, ◌+◌, ◌≤◌, length, true, false, Bool, List, [], ◌∷◌, ◌++◌, Contains, inl, inr, ⊎_elim, fold, refl, sym, ap, ◌∙◌, subst, append_assoc, arith}
 use Rattle.std.specs.Prelude.{None, Option, if◌then◌else◌}
-use Rattle.std.specs.List.{flat_map}
+use Rattle.std.specs.List.{AllByRecursion, flat_map}
 use Rattle.std.proofs.lemmas.List.{append-nil}
 use Rattle.uc_oper.specs.Operation.{Operation, IsLawful}
 use Rattle.uc_oper.specs.Composition.{applied}
@@ -31,6 +31,19 @@ use Rattle.uc_live.specs.Going.{GoesOn}
 use Rattle.uc_live.specs.Snapshots.{TakesSnapshot, with_snapshot, without_one, is_among, without_snapshot}
 use Rattle.uc_live.specs.Coming.{HasTaken}
 use Rattle.uc_live.specs.Standing.{ReadsAs, StandsFor}
+
+-- rising writes are no more than the sequence numbers that they span
+rising_span : (last : ℕ) (ws : List Write) → IsRising last ws → last + length ws ≤ last_of last ws
+rising_span last [] rising = omega (arith)
+rising_span last (w ∷ ws) rising = let up = rising_span w.seq ws rising.2 in let above = rising.0 in omega (arith, up, above)
+
+-- no sequence number is between the newest run and memtables that have as many writes as there are sequence numbers above the run
+pub newest_ends : (v : Stored) (newest : Contents) (older : List Contents) (gathered : List Write) → IsVersion v → IsRising v.last gathered →
+    contents_of v.runs ≡ newest ∷ older → newest.high + length gathered ≡ last_of v.last gathered → newest.high ≡ v.last
+newest_ends v newest older gathered version rising runs span =
+    let below = (subst (λ (cs : List Contents). AllByRecursion (λ (r : Contents). r.high ≤ v.last) cs) runs version.below).0 in
+    let up = rising_span v.last gathered rising in
+    omega (arith, below, up, span)
 
 last_brought : (v : Stored) (e : Event) → (after v e).last ≡ last_of v.last (writes_brought e)
 last_brought v (Installed i) = refl
@@ -62,9 +75,10 @@ module _ (m : Operation) where
   no_keep keeps last at none read =
       ⊎_elim (λ (there : Contains [] at). absurd (contains_nothing at there)) (λ (le : last ≤ at). le) (subst (λ (ks : List ℕ). IsReadAt ks last at) none read)
 
-  pub stands_opened : (l new : Live) (ws : List Write) → StandsFor m l ws → l.gathered ≡ [] → IsVersion new.version → new.version.keeps ≡ [] → new.gathered ≡ [] →
-      contents_of new.version.runs ≡ contents_of l.version.runs → new.version.last ≡ l.version.last → StandsFor m new ws
-  stands_opened l new ws stands none version keeps none_new runs last = record {
+  -- the older writes of a store, by its runs alone
+  pub stands_older : (l new : Live) (ws : List Write) (stands : StandsFor m l ws) → IsVersion new.version → new.version.keeps ≡ [] → new.gathered ≡ [] →
+      contents_of new.version.runs ≡ contents_of l.version.runs → new.version.last ≡ l.version.last → StandsFor m new stands.older
+  stands_older l new ws stands version keeps none_new runs last = record {
     older = stands.older;
     reads = record {
       version = version;
@@ -73,8 +87,15 @@ module _ (m : Operation) where
           ap (λ (cs : List Contents). value_of m (writes_of cs) key at) runs
           ∙ stands.reads.values key at (inr (subst (λ n. n ≤ at) last (no_keep new.version.keeps new.version.last at keeps read)));
     };
-    writes = ap (λ (us : List Write). stands.older ++ us) (none_new ∙ sym none) ∙ stands.writes;
+    writes = ap (λ (us : List Write). stands.older ++ us) none_new ∙ append-nil stands.older;
   }
+
+  pub stands_opened : (l new : Live) (ws : List Write) → StandsFor m l ws → l.gathered ≡ [] → IsVersion new.version → new.version.keeps ≡ [] → new.gathered ≡ [] →
+      contents_of new.version.runs ≡ contents_of l.version.runs → new.version.last ≡ l.version.last → StandsFor m new ws
+  stands_opened l new ws stands none version keeps none_new runs last =
+      subst (λ (us : List Write). StandsFor m new us)
+      (sym (append-nil stands.older) ∙ ap (λ (us : List Write). stands.older ++ us) (sym none) ∙ stands.writes)
+      (stands_older l new ws stands version keeps none_new runs last)
 
   -- ---- what happens to them
 

@@ -89,8 +89,8 @@ pub use recorded_laws::{
 pub use room_error::RoomError;
 pub use source_laws::sources_tell_what_values_come_of;
 pub use standing_laws::{
-    runs_carry_what_is_read, standing_stores_answer_as_their_writes, standing_stores_go_on,
-    stores_stand_for_their_writes,
+    newest_run_ends_below_memtables, runs_carry_what_is_read, runs_stand_for_older_writes,
+    standing_stores_answer_as_their_writes, standing_stores_go_on, stores_stand_for_their_writes,
 };
 pub use store_id::StoreId;
 pub use transaction_error::TransactionError;

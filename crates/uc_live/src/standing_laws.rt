@@ -1,11 +1,11 @@
 //! Laws about stores that are opened from the runs of a view.
-ghost use Rattle.std.specs.Prelude.{◌≡◌, ◌++◌, ◌∷◌, ℕ, List, [], Option, Contains};
+ghost use Rattle.std.specs.Prelude.{◌≡◌, ◌+◌, ◌++◌, ◌∷◌, length, ℕ, List, [], Option, Contains};
 ghost use Rattle.uc_bytes.specs.declared.write.Write.{Write};
 ghost use Rattle.uc_batch.specs.Rising.{IsRising, last_of};
 ghost use Rattle.uc_model.specs.Meaning.{value_of};
 ghost use Rattle.uc_run_entry.specs.Run.{Contents};
 ghost use Rattle.uc_query_read.specs.Answers.{first_rows, named_keys};
-ghost use Rattle.uc_version_state.specs.Versions.{IsVersion, contents_of};
+ghost use Rattle.uc_version_state.specs.Versions.{IsVersion, Stored, contents_of};
 ghost use Rattle.uc_live.specs.Lives as lives;
 ghost use Rattle.uc_live.specs.Lives.{Live};
 ghost use Rattle.uc_live.specs.Going.{GoesOn};
@@ -35,6 +35,21 @@ pub fn runs_carry_what_is_read<O: Operator>()
     ensures opened { (l new : Live) (ws : List Write) → StandsFor O.meaning l ws → l.gathered ≡ [] →
         IsVersion new.version → new.version.keeps ≡ [] → new.gathered ≡ [] →
         contents_of new.version.runs ≡ contents_of l.version.runs → new.version.last ≡ l.version.last → StandsFor O.meaning new ws }
+{}
+
+/// The runs of a store stand for its older writes: those that are in no memtable. So a store that has the runs of a view, and takes the writes
+/// that the view has in memtables, stands for all writes of the view.
+pub fn runs_stand_for_older_writes<O: Operator>()
+    ensures { (l new : Live) (ws : List Write) (stands : StandsFor O.meaning l ws) → IsVersion new.version → new.version.keeps ≡ [] →
+        new.gathered ≡ [] → contents_of new.version.runs ≡ contents_of l.version.runs → new.version.last ≡ l.version.last →
+        StandsFor O.meaning new stands.older }
+{}
+
+/// The newest run ends at the last sequence number that is in runs, if as many writes are in memtables as there are sequence numbers above
+/// that run's.
+pub fn newest_run_ends_below_memtables()
+    ensures { (v : Stored) (newest : Contents) (older : List Contents) (gathered : List Write) → IsVersion v → IsRising v.last gathered →
+        contents_of v.runs ≡ newest ∷ older → newest.high + length gathered ≡ last_of v.last gathered → newest.high ≡ v.last }
 {}
 
 /// A store that stands for writes stands for those that it takes since too, whatever it flushes and compacts. A snapshot that is taken or

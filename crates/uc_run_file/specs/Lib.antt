@@ -6,3 +6,4 @@ pub mod Words
 pub mod Judging
 pub mod Files
 pub mod HeldRunBytes
+pub mod HeldRunFiles

@@ -8,7 +8,8 @@
 //!
 //! [`RunBytes`] gives a file's bytes from any offset on, without a copy of the points. [`read_run`] reads a file: it checks the lengths
 //! against the file's before anything else, then the checksums, then the contents. `specs/Files.antt` has both contracts: what is read
-//! has exactly these bytes, and bytes that are refused are no run's. By the law [`file_is_of_one_run`] each file is of one run.
+//! has exactly these bytes, and bytes that are refused are no run's. By the law [`file_is_of_one_run`] each file is of one run. A
+//! [`RunFile`] takes a file's bytes piece by piece, straight into what becomes the arena.
 //! Read `reading.rt` first, then `splitting.rt`, `judging.rt` and `fragment_reader.rt`.
 //!
 //! An `Err(AllocError)`, and an error `Memory`, comes only if an allocation fails.
@@ -26,6 +27,7 @@ mod pieces;
 mod reading;
 mod run_bytes;
 mod run_fault;
+mod run_file;
 mod sequences;
 mod splitting;
 mod strings;
@@ -39,3 +41,4 @@ pub use laws::file_is_of_one_run;
 pub use reading::read_run;
 pub use run_bytes::RunBytes;
 pub use run_fault::{RunFault, RunFileError};
+pub use run_file::RunFile;

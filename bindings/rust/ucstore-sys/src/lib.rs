@@ -145,6 +145,12 @@ pub struct ucstore_run {
     pub at: *mut c_void,
 }
 
+/// The file of a run that is read. All zeros: no file.
+#[repr(C)]
+pub struct ucstore_run_file {
+    pub at: *mut c_void,
+}
+
 /// A handle to a job. All zeros: no job.
 #[repr(C)]
 pub struct ucstore_job {
@@ -602,6 +608,24 @@ extern "C" {
         id: *mut u64,
         offset: *mut usize,
     ) -> i32;
+    pub fn ucstore_run_file_open(file: *mut ucstore_run_file, size: usize) -> i32;
+    pub fn ucstore_run_file_append(
+        file: *mut ucstore_run_file,
+        piece: *const u8,
+        piece_length: usize,
+    ) -> i32;
+    pub fn ucstore_run_file_read(
+        file: *mut ucstore_run_file,
+        low: *mut u64,
+        high: *mut u64,
+        offset: *mut usize,
+    ) -> i32;
+    pub fn ucstore_add_run_file(
+        store: *mut ucstore,
+        file: *mut ucstore_run_file,
+        id: *mut u64,
+    ) -> i32;
+    pub fn ucstore_run_file_close(file: *mut ucstore_run_file) -> i32;
 
     pub fn ucstore_job(store: *mut ucstore, job: *mut ucstore_job, taken: *mut bool) -> i32;
     pub fn ucstore_job_run(job: *mut ucstore_job) -> i32;

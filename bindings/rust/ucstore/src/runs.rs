@@ -1,6 +1,8 @@
 //! [`Runs`]: the runs of a view, each of which [`RunBytes`] reads as the bytes of a file; and [`RunError`].
 
 use crate::error::{check, Error};
+use crate::options::{Operator, Options};
+use crate::store::Store;
 use crate::sys;
 use crate::view::View;
 use std::fmt;
@@ -9,7 +11,7 @@ use std::iter::FusedIterator;
 use std::ops::{Range, RangeInclusive};
 use std::ptr;
 
-/// The runs of a view, the newest first, from [`View::runs`]. [`Store::from_runs`](crate::Store::from_runs) takes them the oldest first,
+/// The runs of a view, the newest first, from [`View::runs`]. [`Store::from_runs`] takes them the oldest first,
 /// as [`rev`](Iterator::rev) returns them.
 #[derive(Clone, Debug)]
 pub struct Runs<'a> {
@@ -223,12 +225,40 @@ impl From<Error> for RunError {
     }
 }
 
+impl Store {
+    /// Opens a store from the files of the runs of a view, the oldest first. It reads at its last sequence number as the view does, if the
+    /// view has no writes in memtables. It has no snapshot. [`replay`](Store::replay) then adds the batches of a log.
+    ///
+    /// The bytes of each file are copied once.
+    ///
+    /// # Errors
+    ///
+    /// [`RunError`] has the place of the file that is damaged or out of order.
+    pub fn from_runs(
+        operator: Operator,
+        options: &Options,
+        files: impl IntoIterator<Item = impl AsRef<[u8]>>,
+    ) -> Result<Store, RunError> {
+        let store = Store::create(operator, options)?;
+        for (place, file) in files.into_iter().enumerate() {
+            add_run(store.handle(), place, file.as_ref())?;
+        }
+        Ok(store)
+    }
+
+    /// Adds the run of a file, whose sequence numbers exceed the last one of the store, and returns its ID. The last sequence number of the
+    /// store becomes that of the run.
+    ///
+    /// # Errors
+    ///
+    /// [`RunError`], with 0 as the place of the file. Nothing is changed.
+    pub fn add_run(&self, file: impl AsRef<[u8]>) -> Result<u64, RunError> {
+        add_run(self.handle(), 0, file.as_ref())
+    }
+}
+
 /// Adds the run of a file to a store, and returns its ID.
-pub(crate) fn add_run(
-    store: *mut sys::ucstore,
-    place: usize,
-    file: &[u8],
-) -> Result<u64, RunError> {
+fn add_run(store: *mut sys::ucstore, place: usize, file: &[u8]) -> Result<u64, RunError> {
     let (mut id, mut offset) = (0, 0);
     let status =
         unsafe { sys::ucstore_add_run(store, file.as_ptr(), file.len(), &mut id, &mut offset) };

@@ -12,7 +12,6 @@ use crate::reads::{Functions, Reads};
 use crate::record::record_by;
 use crate::replay::Replay;
 use crate::report::Report;
-use crate::runs::{add_run, RunError};
 use crate::scan::{end_of_prefix, Scan};
 use crate::snapshot::Snapshot;
 use crate::sys;
@@ -87,36 +86,6 @@ impl Store {
             )
         })?;
         Ok((store, Ended::of(ended)))
-    }
-
-    /// Opens a store from the files of the runs of a view, the oldest first. It reads at its last sequence number as the view does, if the
-    /// view has no writes in memtables. It has no snapshot. [`replay`](Store::replay) then adds the batches of a log.
-    ///
-    /// The bytes of each file are copied once.
-    ///
-    /// # Errors
-    ///
-    /// [`RunError`] has the place of the file that is damaged or out of order.
-    pub fn from_runs(
-        operator: Operator,
-        options: &Options,
-        files: impl IntoIterator<Item = impl AsRef<[u8]>>,
-    ) -> Result<Store, RunError> {
-        let store = Store::create(operator, options)?;
-        for (place, file) in files.into_iter().enumerate() {
-            add_run(store.handle(), place, file.as_ref())?;
-        }
-        Ok(store)
-    }
-
-    /// Adds the run of a file, whose sequence numbers exceed the last one of the store, and returns its ID. The last sequence number of the
-    /// store becomes that of the run.
-    ///
-    /// # Errors
-    ///
-    /// [`RunError`], with 0 as the place of the file. Nothing is changed.
-    pub fn add_run(&self, file: impl AsRef<[u8]>) -> Result<u64, RunError> {
-        add_run(self.handle(), 0, file.as_ref())
     }
 
     /// Replays the batches of a log to the store, one with each call of [`Replay::write_next`]. Use it for a log of several files,
