@@ -8,8 +8,9 @@ use crate::sought_key::SoughtKey;
 use std::alloc::{AllocError, Global};
 use uc_run_points::Points;
 
-/// The least number of points for which reading ahead pays: fewer are mostly in the cache.
-const SOME_POINTS: usize = 512;
+/// The least size in bytes of points for which reading ahead pays: fewer bytes stay in the cache of a processor's core, and reading
+/// ahead costs more than it saves.
+const LEAST_BYTES: usize = 4_194_304;
 
 /// The search of a key by the fences.
 #[derive(Clone, Copy)]
@@ -105,7 +106,7 @@ pub(crate) fn touch_points(
     filter: &Filter,
     keys: &[SoughtKey<'_>],
 ) -> Result<u8, AllocError> {
-    if points.len() < SOME_POINTS {
+    if points.size() < LEAST_BYTES {
         return Ok(0);
     }
     let filtered = touch_filter(filter, keys);
