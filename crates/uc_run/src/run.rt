@@ -332,8 +332,7 @@ impl Run {
     }
 
     /// Reads what lookups of these keys will read of the filter, the fences and the points, for all keys side by side, so that the
-    /// waits for memory overlap. It skips a small run. The result has no meaning; the caller must use it, so that the reads aren't
-    /// removed.
+    /// waits for memory overlap. The result has no meaning; the caller must use it, so that the reads aren't removed.
     pub fn touch(&self, alloc: Global, keys: &[SoughtKey<'_>]) -> Result<u8, AllocError> {
         touch_points(alloc, &self.points, &self.fences, &self.filter, keys)
     }

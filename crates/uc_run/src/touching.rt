@@ -8,9 +8,8 @@ use crate::sought_key::SoughtKey;
 use std::alloc::{AllocError, Global};
 use uc_run_points::Points;
 
-/// The least size in bytes of points for which reading ahead pays: fewer bytes stay in the cache of a processor's core, and reading
-/// ahead costs more than it saves.
-const LEAST_BYTES: usize = 4_194_304;
+/// The least number of points for which reading ahead pays: fewer are mostly in the cache.
+const SOME_POINTS: usize = 512;
 
 /// The search of a key by the fences.
 #[derive(Clone, Copy)]
@@ -106,7 +105,7 @@ pub(crate) fn touch_points(
     filter: &Filter,
     keys: &[SoughtKey<'_>],
 ) -> Result<u8, AllocError> {
-    if points.size() < LEAST_BYTES {
+    if points.len() < SOME_POINTS {
         return Ok(0);
     }
     let filtered = touch_filter(filter, keys);
