@@ -2,17 +2,18 @@
 ghost use Rattle.std.specs.Prelude.{◌≡◌, ◌⊎◌, Some, None, IfOk, if◌then◌else◌};
 ghost use Rattle.uc_query_read.specs.declared.query.Query.TheVariants as queries;
 ghost use Rattle.uc_engine.specs.Engines.{answer_in, last_rows};
-ghost use Rattle.uc_engine.specs.EngineViews.{answer_seen, rows_seen, rows_seen_back};
+ghost use Rattle.uc_engine.specs.EngineViews.{answer_seen};
 ghost use Rattle.uc_c.specs.declared.status.TheConstants.{OK, OUT_OF_MEMORY};
 ghost use Rattle.uc_c.specs.Compacting.{Settles};
 ghost use Rattle.uc_c.specs.Replies.{Answers, Becomes};
-ghost use Rattle.uc_c.specs.Rows.{AreShown, IsScanned, Scanned};
+ghost use Rattle.uc_c.specs.Rows.{AreShown, IsScanned, Scanned, rows_scanned};
+ghost use Rattle.uc_rows.specs.Laying.{AreLaid};
 
 use crate::readable::Readable;
 use crate::room::fill;
 use crate::status::{NO_STORE, NOT_PROTECTED, OK, OUT_OF_MEMORY};
 use std::alloc::{AllocError, Global};
-use uc_engine::{Answer, Bytes, Engine, EngineView, Query, RowBuffer, Rows};
+use uc_engine::{Answer, Bytes, Engine, EngineView, Laid, Query, RowBuffer, Rows};
 use uc_handle::Handle;
 
 /// The most writes in memtables that a scan sorts: if there are more, they are flushed first.
@@ -137,57 +138,49 @@ fn rows_in(
     engine.scan(alloc, low, &high, limit)
 }
 
-/// Copies the rows of a view at the last sequence to the buffer, as `ucstore_view_scan` does.
+/// Copies the rows of a view at the last sequence number to the buffer: the first rows, or the last ones, the greatest key first, if
+/// `is_back` is true.
+fn lay_rows(
+    alloc: Global,
+    view: &EngineView,
+    low: &[u8],
+    high: &Option<Bytes>,
+    is_back: bool,
+    limit: u64,
+    room: &mut [u8],
+) -> Result<Laid, AllocError>
+    ensures { IfOk result (AreLaid (rows_scanned is_back view.now low.now high.now limit) room.old room.new) }
+{
+    if is_back {
+        view.lay_rows_back(alloc, low, high, limit, room)
+    } else {
+        view.lay_rows(alloc, low, high, limit, room)
+    }
+}
+
+/// Copies the rows of a view at the last sequence number to the buffer, as `ucstore_view_scan` does, or if `is_back` is true, as
+/// `ucstore_view_scan_back` does.
 pub fn lay(
     alloc: Global,
     view: &EngineView,
     low: &[u8],
     high: &[u8],
     bounded: bool,
+    is_back: bool,
     limit: u64,
     room: &mut [u8],
     size: &mut usize,
     count: &mut u64,
 ) -> i32
     ensures shown { (result ≡ OUT_OF_MEMORY) ⊎ ((result ≡ OK)
-        × AreShown (rows_seen view.now low.now (if bounded then Some high.now else None) limit)
+        × AreShown (rows_scanned is_back view.now low.now (if bounded then Some high.now else None) limit)
         room.old room.new size.new count.new) }
     ensures untold { (result ≡ OK) ⊎ ((size.new ≡ size.old) × (count.new ≡ count.old)) }
 {
     let Ok(high) = bound(alloc, high, bounded) else {
         return OUT_OF_MEMORY;
     };
-    match view.lay_rows(alloc, low, &high, limit, room) {
-        Ok(laid) => {
-            *size = laid.size;
-            *count = laid.fitting;
-            OK
-        }
-        Err(_) => OUT_OF_MEMORY,
-    }
-}
-
-/// Copies the rows of a view at the last sequence to the buffer against the order of keys, as `ucstore_view_scan_back` does.
-pub fn lay_back(
-    alloc: Global,
-    view: &EngineView,
-    low: &[u8],
-    high: &[u8],
-    bounded: bool,
-    limit: u64,
-    room: &mut [u8],
-    size: &mut usize,
-    count: &mut u64,
-) -> i32
-    ensures shown { (result ≡ OUT_OF_MEMORY) ⊎ ((result ≡ OK)
-        × AreShown (rows_seen_back view.now low.now (if bounded then Some high.now else None) limit)
-        room.old room.new size.new count.new) }
-    ensures untold { (result ≡ OK) ⊎ ((size.new ≡ size.old) × (count.new ≡ count.old)) }
-{
-    let Ok(high) = bound(alloc, high, bounded) else {
-        return OUT_OF_MEMORY;
-    };
-    match view.lay_rows_back(alloc, low, &high, limit, room) {
+    match lay_rows(alloc, view, low, &high, is_back, limit, room) {
         Ok(laid) => {
             *size = laid.size;
             *count = laid.fitting;

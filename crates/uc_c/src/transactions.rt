@@ -9,8 +9,8 @@ ghost use Rattle.uc_c.specs.Writing.{IsTold};
 ghost use Rattle.uc_c.specs.declared.status.TheConstants.{OK, ROOM, READ_CHANGED};
 
 use crate::reads::{put_back, reads_of};
-use crate::room::fill;
-use crate::status::{NO_STORE, NO_VIEW, OK, OUT_OF_MEMORY, READ_CHANGED, ROOM, write_status};
+use crate::status::{NO_STORE, NO_VIEW, OK, OUT_OF_MEMORY, READ_CHANGED, write_status};
+use crate::writing::copy_record;
 use std::alloc::Global;
 use uc_engine::{Engine, EngineView, Read, TransactionError};
 use uc_handle::{Handle, ReadsHandle, ViewHandle};
@@ -36,13 +36,7 @@ fn prepare_if(
     ensures kept { IfErr result (λ _. (room.new ≡ room.old) × (size.new ≡ size.old)) }
 {
     let record = engine.prepare_if(alloc, view, reads, log_length, batch)?;
-    *size = record.len();
-    if record.len() > room.len() {
-        engine.give_up();
-        return Ok(ROOM);
-    }
-    fill(room, record.as_slice());
-    Ok(OK)
+    Ok(copy_record(engine, record.as_slice(), room, size))
 }
 
 /// Prepares the batch of a transaction, given as bytes, as `ucstore_prepare_bytes` does, if each of its reads, which were made in the

@@ -6,11 +6,11 @@ ghost use Rattle.uc_c.specs.declared.status.TheConstants.{OK, OUT_OF_MEMORY, NO_
 ghost use Rattle.uc_c.specs.Many.{FoundMany};
 ghost use Rattle.uc_c.specs.Reading.{Found, FoundAt};
 ghost use Rattle.uc_c.specs.Replies.{IsRead};
-ghost use Rattle.uc_c.specs.Rows.{AreShown, Scanned};
+ghost use Rattle.uc_c.specs.Rows.{AreShown, Scanned, rows_scanned};
 
 use crate::many::look_up_many;
 use crate::reading::{look_up, look_up_at};
-use crate::scanning::{lay, lay_back, scan_at};
+use crate::scanning::{lay, scan_at};
 use crate::status::{NO_VIEW, OUT_OF_MEMORY};
 use std::alloc::Global;
 use uc_handle::ViewHandle;
@@ -84,6 +84,37 @@ pub extern "C" fn ucstore_view_get_many(
     status
 }
 
+/// Scans a view as `ucstore_view_scan` does or, if `is_back` is true, as `ucstore_view_scan_back` does.
+fn scan(
+    alloc: Global,
+    view: &mut ViewHandle,
+    low: &[u8],
+    high: &[u8],
+    bounded: bool,
+    is_back: bool,
+    limit: u64,
+    room: &mut [u8],
+    size: &mut usize,
+    count: &mut u64,
+) -> i32
+    ensures scanned { IsRead NO_VIEW result view.old.held view.new.held (λ v. (result ≡ OUT_OF_MEMORY)
+        ⊎ ((result ≡ OK) × AreShown (rows_scanned is_back v low.now (if bounded then Some high.now else None) limit)
+        room.old room.new size.new count.new)) }
+    ensures untold { (result ≡ OK) ⊎ ((size.new ≡ size.old) × (count.new ≡ count.old)) }
+{
+    let Some(mut held) = view.take(alloc) else {
+        return NO_VIEW;
+    };
+    let status = match held.sort(alloc) {
+        Ok(()) => lay(
+            alloc, &*held, low, high, bounded, is_back, limit, room, size, count,
+        ),
+        Err(_) => OUT_OF_MEMORY,
+    };
+    view.put(held);
+    status
+}
+
 /// Scans a view, as `ucstore_scan` does a store. The first scan of a view sorts the writes in its memtables, for all of its handles
 /// that are made after it. The rows are copied once, into the buffer: if the scan fails, its contents are unspecified.
 #[unsafe(no_mangle)]
@@ -103,15 +134,9 @@ pub extern "C" fn ucstore_view_scan(
         room.old room.new size.new count.new)) }
     ensures untold { (result ≡ OK) ⊎ ((size.new ≡ size.old) × (count.new ≡ count.old)) }
 {
-    let Some(mut held) = view.take(alloc) else {
-        return NO_VIEW;
-    };
-    let status = match held.sort(alloc) {
-        Ok(()) => lay(alloc, &*held, low, high, bounded, limit, room, size, count),
-        Err(_) => OUT_OF_MEMORY,
-    };
-    view.put(held);
-    status
+    scan(
+        alloc, view, low, high, bounded, false, limit, room, size, count,
+    )
 }
 
 /// Scans a view against the order of keys: the last rows, at most `limit`, the greatest key first, written as `ucstore_scan`
@@ -133,15 +158,9 @@ pub extern "C" fn ucstore_view_scan_back(
         room.old room.new size.new count.new)) }
     ensures untold { (result ≡ OK) ⊎ ((size.new ≡ size.old) × (count.new ≡ count.old)) }
 {
-    let Some(mut held) = view.take(alloc) else {
-        return NO_VIEW;
-    };
-    let status = match held.sort(alloc) {
-        Ok(()) => lay_back(alloc, &*held, low, high, bounded, limit, room, size, count),
-        Err(_) => OUT_OF_MEMORY,
-    };
-    view.put(held);
-    status
+    scan(
+        alloc, view, low, high, bounded, true, limit, room, size, count,
+    )
 }
 
 /// Scans a view at a snapshot that was there then, as `ucstore_scan_at` does a store, and sorts as `ucstore_view_scan`

@@ -1,11 +1,12 @@
 //! Writes to the store of a handle.
-ghost use Rattle.std.specs.Prelude.{◌≡◌, ◌⊎◌, Some, IfOk, IfErr, option_map};
+ghost use Rattle.std.specs.Prelude.{◌≡◌, ◌≤◌, ◌<◌, ◌⊎◌, length, Some, IfOk, IfErr, option_map};
 ghost use Rattle.uc_bytes.specs.declared.op.Op.TheVariants as ops;
 ghost use Rattle.uc_live.specs.Lives.{committed, unprepared};
 ghost use Rattle.uc_engine.specs.Engines.{with_live};
 ghost use Rattle.uc_c.specs.declared.status.TheConstants.{OK, ROOM};
 ghost use Rattle.uc_c.specs.Batches.{PreparesOps, TakesOps, TellsOps, WritesOps, ops_held};
 ghost use Rattle.uc_c.specs.Replies.{IfHeld};
+ghost use Rattle.uc_c.specs.Room.{filled};
 ghost use Rattle.uc_c.specs.Writing.{DeclinesBatch, IsTold, PreparesBatch, Writes, WritesBatch};
 
 use crate::batches::{bytes_of, put_back};
@@ -121,6 +122,24 @@ pub extern "C" fn ucstore_delete_range(
     write(alloc, handle, OpRef::delete_range(begin, end))
 }
 
+/// Copies the prepared batch's record, these bytes, to the buffer, and stores its size. If the buffer is too small, discards the batch
+/// instead. Returns the status.
+pub fn copy_record(engine: &mut Engine, bytes: &[u8], room: &mut [u8], size: &mut usize) -> i32
+    ensures size { size.new ≡ length bytes.now }
+    ensures told { ((length bytes.now ≤ length room.old) × (result ≡ OK)
+        × (room.new ≡ filled bytes.now room.old) × (engine.new ≡ engine.old))
+        ⊎ ((length room.old < length bytes.now) × (result ≡ ROOM) × (room.new ≡ room.old)
+        × (engine.new ≡ with_live (unprepared engine.old.live) engine.old)) }
+{
+    *size = bytes.len();
+    if bytes.len() > room.len() {
+        engine.give_up();
+        return ROOM;
+    }
+    fill(room, bytes);
+    OK
+}
+
 /// Prepares a batch, copies the record that it adds to a log of this many bytes, if it fits the buffer, and stores the record's
 /// size. If the buffer is too small, nothing is prepared. Returns the status.
 fn prepare(
@@ -138,13 +157,7 @@ fn prepare(
         DeclinesBatch batch.now engine.old engine.new error × (room.new ≡ room.old) × (size.new ≡ size.old)) }
 {
     let record = engine.prepare_recorded(alloc, log_length, batch)?;
-    *size = record.len();
-    if record.len() > room.len() {
-        engine.give_up();
-        return Ok(ROOM);
-    }
-    fill(room, record.as_slice());
-    Ok(OK)
+    Ok(copy_record(engine, record.as_slice(), room, size))
 }
 
 /// Prepares a batch as [`prepare`] does, and numbers it where it is.
@@ -163,13 +176,7 @@ pub fn prepare_owned(
         DeclinesBatch batch.items engine.old engine.new error × (room.new ≡ room.old) × (size.new ≡ size.old)) }
 {
     let record = engine.prepare_owned(alloc, log_length, batch)?;
-    *size = record.len();
-    if record.len() > room.len() {
-        engine.give_up();
-        return Ok(ROOM);
-    }
-    fill(room, record.as_slice());
-    Ok(OK)
+    Ok(copy_record(engine, record.as_slice(), room, size))
 }
 
 /// Prepares the operations of a batch, so that `ucstore_commit` can take them, with the sequence numbers after the last one, and

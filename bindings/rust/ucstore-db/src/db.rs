@@ -3,9 +3,9 @@
 use crate::disk_folder::DiskFolder;
 use crate::error::Error;
 use crate::folder::Folder;
-use crate::holder::Holder;
 use crate::lock;
 use crate::options::Options;
+use crate::read_source::ReadSource;
 use crate::shared::Shared;
 use crate::snapshot::{Rows, Snapshot};
 use crate::stats::Stats;
@@ -211,7 +211,7 @@ impl Db {
     /// [`Error::Store`] if memory is refused, as for each read.
     pub fn get(&self, key: impl AsRef<[u8]>) -> Result<Option<Vec<u8>>, Error> {
         let key = key.as_ref();
-        self.look_up(key, |holder| holder.get(key))
+        self.look_up(key, |source| source.get(key))
     }
 
     /// Puts the value under a key into a vector, instead of what that has, and tells whether there is one. The vector is empty
@@ -234,7 +234,7 @@ impl Db {
     /// As [`get`](Db::get).
     pub fn get_into(&self, key: impl AsRef<[u8]>, value: &mut Vec<u8>) -> Result<bool, Error> {
         let key = key.as_ref();
-        self.look_up(key, |holder| holder.get_into(key, value))
+        self.look_up(key, |source| source.get_into(key, value))
     }
 
     /// Copies the value of a key into a buffer, as much of it as fits. Returns the size of all of it, if there is
@@ -246,10 +246,10 @@ impl Db {
     pub fn get_to_room(
         &self,
         key: impl AsRef<[u8]>,
-        room: &mut [MaybeUninit<u8>],
+        buf: &mut [MaybeUninit<u8>],
     ) -> Result<Option<usize>, Error> {
         let key = key.as_ref();
-        self.look_up(key, |holder| holder.get_to_room(key, room))
+        self.look_up(key, |source| source.get_to_room(key, buf))
     }
 
     /// For each key its value, if there is one, at one moment. The keys come in any order.
@@ -451,12 +451,12 @@ impl Db {
     fn look_up<T>(
         &self,
         key: &[u8],
-        read: impl FnOnce(Holder<'_>) -> Result<T, ucstore::Error>,
+        read: impl FnOnce(ReadSource<'_>) -> Result<T, ucstore::Error>,
     ) -> Result<T, Error> {
         let shared = self.shared();
-        shared.read(key, |holder| {
-            shared.counts.lookups.add(|| holder.source(key));
-            read(holder)
+        shared.read(key, |source| {
+            shared.counts.lookups.add(|| source.source(key));
+            read(source)
         })
     }
 

@@ -25,15 +25,15 @@ pub(crate) struct Group {
     /// The most bytes that it may have with others.
     most: usize,
     /// There is one once another writer waits for it.
-    outcome: Option<Arc<Outcome>>,
+    outcome: Option<Arc<GroupResult>>,
     /// The transactions among its batches, in their order.
     pub(crate) members: Vec<Member>,
 }
 
-/// The outcome of a group, which its writers wait for.
+/// The result of a group, for which its writers wait.
 #[derive(Default)]
-pub(crate) struct Outcome {
-    told: OnceLock<Result<(), Error>>,
+pub(crate) struct GroupResult {
+    result: OnceLock<Result<(), Error>>,
 }
 
 /// The role of a writer for its batch.
@@ -41,19 +41,19 @@ pub(crate) enum Role {
     /// It writes the group, which others may join until then.
     Leads,
     /// It waits for the leader.
-    Follows(Arc<Outcome>),
+    Follows(Arc<GroupResult>),
     /// The group can't take the batch: the writer waits until it is written, and joins again.
-    Waits(Arc<Outcome>, Vec<u8>),
+    Waits(Arc<GroupResult>, Vec<u8>),
 }
 
 /// The role of a transaction that is to be written.
 pub(crate) enum Turn {
     /// It writes its group, as [`Role::Leads`] says, and has an outcome of its own then.
-    Leads(Arc<Outcome>),
+    Leads(Arc<GroupResult>),
     /// It waits for its outcome.
-    Follows(Arc<Outcome>),
+    Follows(Arc<GroupResult>),
     /// The group can't take it: it waits until that is written, and joins again.
-    Waits(Arc<Outcome>, Candidate),
+    Waits(Arc<GroupResult>, Candidate),
 }
 
 /// The group that writers join now, if there is one. Its leader waits until the one before is written.
@@ -125,7 +125,10 @@ impl Group {
     }
 
     /// A group of one transaction, and the outcome of that.
-    pub(crate) fn of_transaction(candidate: Candidate, is_synced: bool) -> (Group, Arc<Outcome>) {
+    pub(crate) fn of_transaction(
+        candidate: Candidate,
+        is_synced: bool,
+    ) -> (Group, Arc<GroupResult>) {
         let (batch, member) = candidate.into_parts(HEADER_SIZE);
         let mut group = Group::of(batch, is_synced);
         let outcome = group.push_member(member);
@@ -133,17 +136,17 @@ impl Group {
     }
 
     /// Adds a transaction whose operations it has, and returns its outcome.
-    fn push_member(&mut self, member: Member) -> Arc<Outcome> {
+    fn push_member(&mut self, member: Member) -> Arc<GroupResult> {
         let outcome = member.outcome();
         self.members.push(member);
         outcome
     }
 
-    /// Tells the writers that wait what became of it, once it is written or refused.
-    pub(crate) fn tell(self, told: &Result<(), Error>) {
-        self.tell_members(told);
+    /// Publishes the result of the group to the writers that wait, once it is written or failed.
+    pub(crate) fn publish(self, result: &Result<(), Error>) {
+        self.publish_to_members(result);
         if let Some(outcome) = self.outcome {
-            outcome.tell(told.clone());
+            outcome.publish(result.clone());
         }
     }
 
@@ -168,16 +171,16 @@ impl Group {
     }
 }
 
-impl Outcome {
-    /// Waits until it is told.
+impl GroupResult {
+    /// Waits until the result is published.
     pub(crate) fn wait(&self, wait: SpinWait) -> Result<(), Error> {
-        let told = wait.spin_until(|| self.told.get());
-        told.unwrap_or_else(|| self.told.wait()).clone()
+        let result = wait.spin_until(|| self.result.get());
+        result.unwrap_or_else(|| self.result.wait()).clone()
     }
 
-    /// Tells those who wait.
-    pub(crate) fn tell(&self, told: Result<(), Error>) {
-        self.told.set(told).expect("it is told once");
+    /// Publishes the result to the writers that wait.
+    pub(crate) fn publish(&self, result: Result<(), Error>) {
+        self.result.set(result).expect("it is published once");
     }
 }
 

@@ -2,9 +2,9 @@
 
 use crate::conflict::Condition;
 use crate::error::Error;
-use crate::group::{Group, Outcome};
+use crate::group::{Group, GroupResult};
 use crate::header::{count_of, HEADER_SIZE};
-use crate::touched::Keys;
+use crate::last_write_table::Keys;
 use std::ops::Range;
 use std::sync::Arc;
 use ucstore::Store;
@@ -27,7 +27,7 @@ pub(crate) struct Member {
     condition: Condition,
     /// Whether nothing was written since its moment, so that no read of it is to be judged.
     is_unchanged: bool,
-    outcome: Arc<Outcome>,
+    outcome: Arc<GroupResult>,
     /// Why it isn't written with the group.
     conflict: Option<Error>,
 }
@@ -63,7 +63,7 @@ impl Candidate {
 
 impl Member {
     /// The outcome, for the thread of the transaction.
-    pub(crate) fn outcome(&self) -> Arc<Outcome> {
+    pub(crate) fn outcome(&self) -> Arc<GroupResult> {
         Arc::clone(&self.outcome)
     }
 
@@ -72,16 +72,16 @@ impl Member {
         !self.is_unchanged && self.conflict.is_none()
     }
 
-    /// Tells the transaction's thread what became of it, where its group has this outcome.
-    fn tell(&self, told: &Result<(), Error>) {
-        let own = match (&self.conflict, told) {
+    /// Publishes the transaction's result to its thread. `result` is the group's.
+    fn publish(&self, result: &Result<(), Error>) {
+        let own = match (&self.conflict, result) {
             (Some(conflict), Ok(())) => Err(conflict.clone()),
             (_, Err(Error::Store(ucstore::Error::ReadChanged { read }))) => {
                 Err(self.condition.conflict(*read))
             }
-            _ => told.clone(),
+            _ => result.clone(),
         };
-        self.outcome.tell(own);
+        self.outcome.publish(own);
     }
 }
 
@@ -151,10 +151,10 @@ impl Group {
         }
     }
 
-    /// Tells its transactions what became of them, where the group has this outcome.
-    pub(crate) fn tell_members(&self, told: &Result<(), Error>) {
+    /// Publishes the results of the group's transactions. `result` is the group's.
+    pub(crate) fn publish_to_members(&self, result: &Result<(), Error>) {
         for member in &self.members {
-            member.tell(told);
+            member.publish(result);
         }
     }
 }
@@ -227,7 +227,7 @@ mod tests {
         group.leave_out(&lost);
         assert!(!group.is_to_judge() && group.lone_condition().is_none());
         assert_eq!(group.batch, batch(&["usual"]));
-        group.tell(&Ok(()));
+        group.publish(&Ok(()));
         assert!(outcome.wait(crate::spin_wait::SpinWait::Short).is_err());
     }
 
@@ -268,14 +268,14 @@ mod tests {
         group.leave_out(&lost);
         assert_eq!(group.batch, batch(&["usual", "usual", "c", "d", "usual"]));
         assert_eq!(group.batches, 4);
-        group.tell(&Ok(()));
-        let told = outcomes
+        group.publish(&Ok(()));
+        let result = outcomes
             .iter()
             .map(|it| it.wait(crate::spin_wait::SpinWait::Short));
-        let told: Vec<_> = told
-            .map(|told| told.map_err(|error| error.to_string()))
+        let result: Vec<_> = result
+            .map(|result| result.map_err(|error| error.to_string()))
             .collect();
         let lost = |key| Err(format!("conflict: key \"{key}\" has changed"));
-        assert_eq!(told, [lost("r0"), Ok(()), lost("r2")]);
+        assert_eq!(result, [lost("r0"), Ok(()), lost("r2")]);
     }
 }

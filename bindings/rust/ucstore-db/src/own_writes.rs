@@ -98,33 +98,33 @@ impl OwnWrites {
     /// Sets a key to a value.
     pub(crate) fn put(&mut self, key: &[u8], value: &[u8]) -> Result<(), Error> {
         self.batch.put(key, value)?;
-        self.note(Kind::Put, key, value);
+        self.record(Kind::Put, key, value);
         Ok(())
     }
 
     /// Removes a key.
     pub(crate) fn delete(&mut self, key: &[u8]) -> Result<(), Error> {
         self.batch.delete(key)?;
-        self.note(Kind::Delete, key, &[]);
+        self.record(Kind::Delete, key, &[]);
         Ok(())
     }
 
     /// Combines a key with an operand.
     pub(crate) fn merge(&mut self, key: &[u8], operand: &[u8]) -> Result<(), Error> {
         self.batch.merge(key, operand)?;
-        self.note(Kind::Merge, key, operand);
+        self.record(Kind::Merge, key, operand);
         Ok(())
     }
 
     /// Removes each key from `begin` to below `end`.
     pub(crate) fn delete_range(&mut self, begin: &[u8], end: &[u8]) -> Result<(), Error> {
         self.batch.delete_range(begin, end)?;
-        self.note(Kind::DeleteRange, begin, end);
+        self.record(Kind::DeleteRange, begin, end);
         Ok(())
     }
 
-    /// Notes a write that the batch has, for later reads.
-    fn note(&mut self, kind: Kind, key: &[u8], other: &[u8]) {
+    /// Records a write of the batch, for later reads.
+    fn record(&mut self, kind: Kind, key: &[u8], other: &[u8]) {
         match self.index.get_mut() {
             Some(index) => index.apply(kind, key, other),
             None => self.listed.push(kind, key, other),

@@ -8,14 +8,14 @@ use crate::event::{Event, Events};
 use crate::folder::Folder;
 use crate::follower::Follower;
 use crate::group::{Group, Groups, Role};
-use crate::holder::Holder;
 use crate::kept::SetAside;
 use crate::lock;
 use crate::log::{Log, Refusal};
 use crate::mark;
-use crate::newest::Newest;
 use crate::operator_file;
 use crate::options::{Options, Sync};
+use crate::read_source::ReadSource;
+use crate::read_views::ReadViews;
 use crate::recovery::Recovery;
 use crate::spin_wait::SpinWait;
 use std::sync::atomic::{AtomicBool, AtomicU64, Ordering};
@@ -40,7 +40,7 @@ pub(crate) struct Shared {
     pub(crate) follower: Option<Follower>,
     /// The log; none in memory, and once the database is closed.
     pub(crate) log: CachePadded<Mutex<Option<Log>>>,
-    pub(crate) newest: Newest,
+    pub(crate) newest: ReadViews,
     pub(crate) store: CachePadded<Mutex<Store>>,
     /// Notified when there may be a job, or one has ended.
     pub(crate) work: Condvar,
@@ -135,7 +135,7 @@ impl Shared {
             switching: Mutex::default(),
             follower: None,
             log: CachePadded(Mutex::new(log)),
-            newest: Newest::default(),
+            newest: ReadViews::default(),
             gathered: AtomicU64::new(gathered),
             runs: AtomicU64::new(report.runs),
             store: CachePadded(Mutex::new(store)),
@@ -185,12 +185,12 @@ impl Shared {
         let mut log = wait.lock(&self.log);
         self.is_writing.store(true, Ordering::Relaxed);
         let mut group = self.groups.close();
-        let told = self.take(&mut log, &mut group);
+        let result = self.take(&mut log, &mut group);
         self.is_writing.store(false, Ordering::Relaxed);
         drop(log);
-        group.tell(&told);
+        group.publish(&result);
         self.events.tell();
-        told
+        result
     }
 
     /// Whether a group is being written.
@@ -301,7 +301,7 @@ impl Shared {
     pub(crate) fn read<T>(
         &self,
         key: &[u8],
-        read: impl FnOnce(Holder<'_>) -> Result<T, ucstore::Error>,
+        read: impl FnOnce(ReadSource<'_>) -> Result<T, ucstore::Error>,
     ) -> Result<T, Error> {
         self.newest.read(key, &self.store, read)
     }

@@ -2,7 +2,7 @@
 
 use crate::counts::Counts;
 use crate::error::Error;
-use crate::newest::sort;
+use crate::read_views::sort;
 use std::cell::Cell;
 use std::fmt;
 use std::mem::MaybeUninit;
@@ -106,9 +106,9 @@ impl Snapshot {
     pub fn get_to_room(
         &self,
         key: impl AsRef<[u8]>,
-        room: &mut [MaybeUninit<u8>],
+        buf: &mut [MaybeUninit<u8>],
     ) -> Result<Option<usize>, Error> {
-        Ok(self.view_to_read(&key).get_to_room(key, room)?)
+        Ok(self.view_to_read(&key).get_to_room(key, buf)?)
     }
 
     /// For each key its value, if there is one. The keys come in any order.

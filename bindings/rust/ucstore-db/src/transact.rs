@@ -143,9 +143,9 @@ impl Shared {
     ) -> Result<(), Error> {
         let mut log = wait.lock(&self.log);
         let (mut group, outcome) = Group::of_transaction(candidate, is_synced);
-        let told = self.take(&mut log, &mut group);
+        let result = self.take(&mut log, &mut group);
         drop(log);
-        group.tell(&told);
+        group.publish(&result);
         self.events.tell();
         outcome.wait(wait)
     }

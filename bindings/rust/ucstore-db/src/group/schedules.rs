@@ -71,8 +71,8 @@ enum Place {
     Closed(Group),
     /// It has unlocked the log.
     Wrote(Group, Result<(), Error>),
-    Follows(Arc<Outcome>),
-    Waits(Arc<Outcome>, Vec<u8>),
+    Follows(Arc<GroupResult>),
+    Waits(Arc<GroupResult>, Vec<u8>),
     Told(Result<(), Error>),
 }
 
@@ -122,7 +122,7 @@ impl<'a> State<'a> {
     fn is_able(&self, writer: usize) -> bool {
         match &self.places[writer] {
             Place::Leads => !self.is_log_held,
-            Place::Follows(outcome) | Place::Waits(outcome, _) => outcome.told.get().is_some(),
+            Place::Follows(outcome) | Place::Waits(outcome, _) => outcome.result.get().is_some(),
             Place::Told(_) => false,
             _ => true,
         }
@@ -143,9 +143,9 @@ impl<'a> State<'a> {
                 self.is_log_held = false;
                 Place::Wrote(group, outcome)
             }
-            Place::Wrote(group, told) => {
-                group.tell(&told);
-                Place::Told(told)
+            Place::Wrote(group, result) => {
+                group.publish(&result);
+                Place::Told(result)
             }
             Place::Follows(outcome) => Place::Told(outcome.wait(SpinWait::None)),
             Place::Waits(outcome, batch) => {
@@ -155,8 +155,8 @@ impl<'a> State<'a> {
             }
             Place::Told(_) => unreachable!("it isn't able to"),
         };
-        if let Place::Told(told) = &self.places[writer] {
-            self.check_told(writer, told);
+        if let Place::Told(result) = &self.places[writer] {
+            self.check_told(writer, result);
         }
     }
 
@@ -206,10 +206,10 @@ impl<'a> State<'a> {
     }
 
     /// Checks the outcome that a writer gets for its record.
-    fn check_told(&self, writer: usize, told: &Result<(), Error>) {
+    fn check_told(&self, writer: usize, result: &Result<(), Error>) {
         let is_its = |record: &&Record| record.writers.contains(&(writer as u8));
         let record = self.records.iter().find(is_its).expect("its record");
-        assert_eq!(told.is_ok(), record.fate == Fate::Written);
+        assert_eq!(result.is_ok(), record.fate == Fate::Written);
         assert!(record.is_synced || !self.scenario.kinds[writer].is_synced());
     }
 
@@ -243,7 +243,7 @@ impl<'a> State<'a> {
 struct Outline {
     text: String,
     /// Each has the number of its place in the order in which they are met.
-    outcomes: Vec<*const Outcome>,
+    outcomes: Vec<*const GroupResult>,
 }
 
 impl Outline {
@@ -253,13 +253,13 @@ impl Outline {
             Place::Leads => self.text += ", leads",
             Place::Holds => self.text += ", holds",
             Place::Closed(group) => self.add_group("closed", group),
-            Place::Wrote(group, told) => {
+            Place::Wrote(group, result) => {
                 self.add_group("wrote", group);
-                self.add_told(Some(told));
+                self.add_told(Some(result));
             }
             Place::Follows(outcome) => self.add_outcome("follows", outcome),
             Place::Waits(outcome, _) => self.add_outcome("waits", outcome),
-            Place::Told(told) => self.add_told(Some(told)),
+            Place::Told(result) => self.add_told(Some(result)),
         }
     }
 
@@ -271,7 +271,7 @@ impl Outline {
         }
     }
 
-    fn add_outcome(&mut self, name: &str, outcome: &Arc<Outcome>) {
+    fn add_outcome(&mut self, name: &str, outcome: &Arc<GroupResult>) {
         let at = Arc::as_ptr(outcome);
         let met = self.outcomes.iter().position(|it| *it == at);
         let number = met.unwrap_or(self.outcomes.len());
@@ -279,11 +279,11 @@ impl Outline {
             self.outcomes.push(at);
         }
         self.text += &format!(", {name} {number}");
-        self.add_told(outcome.told.get());
+        self.add_told(outcome.result.get());
     }
 
-    fn add_told(&mut self, told: Option<&Result<(), Error>>) {
-        self.text += &format!(" {:?}", told.map(Result::is_ok));
+    fn add_told(&mut self, result: Option<&Result<(), Error>>) {
+        self.text += &format!(" {:?}", result.map(Result::is_ok));
     }
 }
 

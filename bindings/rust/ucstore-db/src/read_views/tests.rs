@@ -11,10 +11,10 @@ use ucstore::Batch;
 /// The number of threads that read: some share a slot.
 const READERS: usize = 24;
 
-impl Newest {
+impl ReadViews {
     /// The number of groups in each view that is held.
     fn held(&self) -> Vec<u64> {
-        let taken = |held: &Option<Shown>| held.as_ref().map(|shown| shown.taken);
+        let taken = |held: &Option<VersionedView>| held.as_ref().map(|shown| shown.taken);
         let slots = self
             .slots
             .iter()
@@ -45,7 +45,7 @@ fn put(shared: &Shared, number: u64) {
 }
 
 fn get(shared: &Shared) -> u64 {
-    let value = shared.read(b"k", |holder| holder.get(b"k")).unwrap();
+    let value = shared.read(b"k", |source| source.get(b"k")).unwrap();
     value.map_or(0, |text| u64::from_le_bytes(text.try_into().unwrap()))
 }
 
@@ -76,7 +76,7 @@ fn a_read_waits_for_no_group_that_came_behind_its_begin() {
     // A writer has taken a group that isn't shown, and has the store still.
     let store = lock(&shared.store);
     shared.newest.note(&batch_of("k", 1));
-    shared.newest.touched.count();
+    shared.newest.last_writes.count();
     shared.newest.taken.0.fetch_add(1, Ordering::Release);
     let view = shared.newest.shown(least, &shared.store).unwrap().view;
     assert_eq!(view.last(), 1);

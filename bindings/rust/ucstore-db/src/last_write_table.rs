@@ -1,4 +1,4 @@
-//! [`Touched`]: which group wrote a key last.
+//! [`LastWriteTable`]: the group that wrote a key last.
 
 use crate::cache_padded::CachePadded;
 use crate::header::HEADER_SIZE;
@@ -25,7 +25,7 @@ const LOG_DATA: u8 = 3;
 ///
 /// One thread at a time notes and counts, the one that writes a group. What it has noted is seen by those who see what it releases
 /// after that.
-pub(crate) struct Touched {
+pub(crate) struct LastWriteTable {
     /// The number of groups taken.
     groups: CachePadded<AtomicU64>,
     /// The last group that has more operations, or other ones, than are noted one by one.
@@ -33,10 +33,10 @@ pub(crate) struct Touched {
     cells: Box<[AtomicU64]>,
 }
 
-impl Default for Touched {
-    fn default() -> Touched {
+impl Default for LastWriteTable {
+    fn default() -> LastWriteTable {
         let cells = std::iter::repeat_with(AtomicU64::default).take(CELLS);
-        Touched {
+        LastWriteTable {
             groups: CachePadded::default(),
             all: AtomicU64::default(),
             cells: cells.collect(),
@@ -44,14 +44,14 @@ impl Default for Touched {
     }
 }
 
-impl Touched {
+impl LastWriteTable {
     /// The number of groups taken. It is asked while the store is locked.
     pub(crate) fn groups(&self) -> u64 {
         self.groups.0.load(Ordering::Relaxed)
     }
 
     /// Notes what the next group writes, before the store takes it. If it isn't taken, the next one has its number.
-    pub(crate) fn note(&self, batch: &[u8]) {
+    pub(crate) fn record(&self, batch: &[u8]) {
         let number = self.groups() + 1;
         let mut keys = Keys::of(batch);
         for _ in 0..MOST_NOTED {
@@ -61,11 +61,11 @@ impl Touched {
                 None => return,
             }
         }
-        self.note_all();
+        self.record_all();
     }
 
     /// Notes that the next group may write each key.
-    pub(crate) fn note_all(&self) {
+    pub(crate) fn record_all(&self) {
         self.all.store(self.groups() + 1, Ordering::Relaxed);
     }
 
@@ -178,16 +178,16 @@ mod tests {
     use ucstore::{Batch, Error};
 
     /// Notes and counts a batch.
-    fn take(touched: &Touched, add: impl FnOnce(&mut Batch) -> Result<&mut Batch, Error>) {
+    fn take(touched: &LastWriteTable, add: impl FnOnce(&mut Batch) -> Result<&mut Batch, Error>) {
         let mut batch = Batch::new();
         add(&mut batch).unwrap();
-        touched.note(&batch.bytes());
+        touched.record(&batch.bytes());
         touched.count();
     }
 
     #[test]
     fn a_key_is_as_of_its_last_write() {
-        let touched = Touched::default();
+        let touched = LastWriteTable::default();
         let long = [b'l'; 300];
         take(&touched, |batch| batch.put("put", long));
         take(&touched, |batch| {
@@ -204,7 +204,7 @@ mod tests {
             assert_eq!(as_of(key), Some(2));
         }
         // A group that isn't taken has the number of the next one.
-        touched.note(&Batch::new().put("put", "").unwrap().bytes());
+        touched.record(&Batch::new().put("put", "").unwrap().bytes());
         assert!(!touched.is_as_of(b"put", 2));
         take(&touched, |batch| batch.put("other", ""));
         assert!(touched.is_as_of(b"put", 3));
@@ -212,7 +212,7 @@ mod tests {
 
     #[test]
     fn what_is_not_noted_one_by_one_may_be_each_key() {
-        let touched = Touched::default();
+        let touched = LastWriteTable::default();
         take(&touched, |batch| batch.delete_range("a", "b"));
         assert!(!touched.is_as_of(b"other", 0));
         take(&touched, |batch| {
@@ -221,7 +221,7 @@ mod tests {
         assert!(!touched.is_as_of(b"other", 1));
         let bytes = Batch::new().put("key", "value").unwrap().bytes();
         for (length, groups) in (HEADER_SIZE + 1..bytes.len()).zip(2..) {
-            touched.note(&bytes[..length]);
+            touched.record(&bytes[..length]);
             touched.count();
             assert!(!touched.is_as_of(b"other", groups), "at {length}");
         }

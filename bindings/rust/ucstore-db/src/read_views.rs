@@ -1,14 +1,14 @@
-//! [`Newest`]: the views that readers share.
+//! [`ReadViews`]: the views that readers share.
 
 use crate::cache_padded::CachePadded;
 use crate::error::Error;
-use crate::front::Front;
-use crate::holder::Holder;
+use crate::last_write_table::LastWriteTable;
 use crate::moment::{LastMoment, MomentReader};
-use crate::shown::Shown;
+use crate::read_source::ReadSource;
 use crate::spin_wait::SpinWait;
 use crate::striped::Striped;
-use crate::touched::Touched;
+use crate::versioned_view::VersionedView;
+use crate::view_cache::ViewCache;
 use crate::{lock, try_lock};
 use std::sync::atomic::{fence, AtomicBool, AtomicU32, AtomicU64, Ordering};
 use std::sync::{Mutex, MutexGuard};
@@ -39,21 +39,21 @@ pub(crate) const MOST_ASKED: u32 = 4;
 ///
 /// Locks are taken in the order of these fields, and the store's before that of `shown`.
 #[derive(Default)]
-pub(crate) struct Newest {
+pub(crate) struct ReadViews {
     /// The number of groups taken, or changes of the runs. It is raised while the store is locked.
     taken: CachePadded<AtomicU64>,
     /// Their number at the last change of the runs.
     changed: CachePadded<AtomicU64>,
     slots: Striped<Mutex<Slot>>,
     /// A view for scans, in which what no run has yet is sorted.
-    sorted: Mutex<Option<Shown>>,
+    sorted: Mutex<Option<VersionedView>>,
     /// It is locked for no longer than a share takes.
-    shown: CachePadded<Mutex<Front>>,
+    shown: CachePadded<Mutex<ViewCache>>,
     /// Whether the shown view was used.
     is_used: CachePadded<AtomicBool>,
     /// The number of scans since then, up to [`MANY_SCANS`].
     scans: CachePadded<AtomicU32>,
-    touched: Touched,
+    last_writes: LastWriteTable,
     /// The moment at which transactions begin. Locked after `store`.
     moment: CachePadded<LastMoment>,
 }
@@ -61,7 +61,7 @@ pub(crate) struct Newest {
 /// The view in which a thread looks keys up.
 #[derive(Default)]
 struct Slot {
-    shown: Option<Shown>,
+    shown: Option<VersionedView>,
     /// The number of times that the store was to be asked instead, at a number of groups.
     asked: u32,
     asked_at: u64,
@@ -78,15 +78,15 @@ impl Slot {
     }
 }
 
-impl Newest {
+impl ReadViews {
     /// Notes the group that the store takes next. Only who writes it calls this.
     pub(crate) fn note(&self, batch: &[u8]) {
-        self.touched.note(batch);
+        self.last_writes.record(batch);
     }
 
-    /// Notes that the store's next group may write each key, as [`note`](Newest::note) does.
+    /// Notes that the store's next group may write each key, as [`note`](ReadViews::note) does.
     pub(crate) fn note_all(&self) {
-        self.touched.note_all();
+        self.last_writes.record_all();
     }
 
     /// The moment now, for a transaction. If the store stays locked, it has a view of its own.
@@ -107,15 +107,15 @@ impl Newest {
 
     /// Tells that the store has taken a group, before it is unlocked. It waits for no reader: one of these shows the view if it can't.
     pub(crate) fn raise(&self, store: &Store) {
-        self.touched.count();
-        self.tell(store, || {
+        self.last_writes.count();
+        self.publish(store, || {
             SpinWait::Short.spin_until(|| try_lock(&self.shown.0))
         });
     }
 
     /// Tells that the store's runs were changed, before it is unlocked. Then the caller releases older views.
     pub(crate) fn change(&self, store: &Store) {
-        self.tell(store, || Some(lock(&self.shown.0)));
+        self.publish(store, || Some(lock(&self.shown.0)));
     }
 
     /// Looks a key up in what has it as each group leaves it that was taken before the call: a view, or the store itself.
@@ -123,22 +123,23 @@ impl Newest {
         &self,
         key: &[u8],
         store: &Mutex<Store>,
-        read: impl FnOnce(Holder<'_>) -> Result<T, ucstore::Error>,
+        read: impl FnOnce(ReadSource<'_>) -> Result<T, ucstore::Error>,
     ) -> Result<T, Error> {
         let least = self.taken();
         let slots = self.slots.own_and_next().into_iter();
         let mut free = slots.filter_map(|slot| Some((slot, try_lock(slot)?)));
         let Some((slot, mut held)) = free.next() else {
-            return Ok(read(Holder::View(&self.shown(least, store)?.view))?);
+            return Ok(read(ReadSource::View(&self.shown(least, store)?.view))?);
         };
-        let has_key =
-            |shown: &Shown| shown.taken >= least || self.touched.is_as_of(key, shown.groups);
+        let has_key = |shown: &VersionedView| {
+            shown.taken >= least || self.last_writes.is_as_of(key, shown.groups)
+        };
         if !held.shown.as_ref().is_some_and(has_key) {
             let ask = || SpinWait::Short.spin_until(|| try_lock(store));
             if let Some(store) = held.may_ask(least).then(ask).flatten() {
                 let old = held.shown.as_ref().map(|shown| shown.taken);
                 drop(held);
-                let value = read(Holder::Store(&store));
+                let value = read(ReadSource::Store(&store));
                 drop(store);
                 // The slot was locked here when others may have released old views.
                 if let Some(taken) = old {
@@ -150,7 +151,7 @@ impl Newest {
             held.shown = Some(self.shown(least, store)?);
         }
         let shown = held.shown.as_ref().expect("it was renewed");
-        let (value, taken) = (read(Holder::View(&shown.view)), shown.taken);
+        let (value, taken) = (read(ReadSource::View(&shown.view)), shown.taken);
         drop(held);
         self.end_use(taken, || self.let_go_of(slot));
         Ok(value?)
@@ -161,7 +162,7 @@ impl Newest {
         Ok(self.shown(self.taken(), store)?.view)
     }
 
-    /// A view as [`view`](Newest::view) gives it, in which what no run has yet is sorted. Scans of it don't sort again. Who comes
+    /// A view as [`view`](ReadViews::view) gives it, in which what no run has yet is sorted. Scans of it don't sort again. Who comes
     /// while it is sorted does so too: to wait takes longer.
     pub(crate) fn sorted_view(&self, store: &Mutex<Store>) -> Result<View, Error> {
         let least = self.taken();
@@ -230,7 +231,7 @@ impl Newest {
     }
 
     /// Takes out a view that misses a change of the runs.
-    fn take_old(&self, held: &mut Option<Shown>) -> Option<Shown> {
+    fn take_old(&self, held: &mut Option<VersionedView>) -> Option<VersionedView> {
         let least = self.changed.0.load(Ordering::Relaxed);
         held.take_if(|shown| shown.taken < least)
     }
@@ -241,7 +242,7 @@ impl Newest {
     }
 
     /// A view that has at least this many groups.
-    fn shown(&self, least: u64, store: &Mutex<Store>) -> Result<Shown, Error> {
+    fn shown(&self, least: u64, store: &Mutex<Store>) -> Result<VersionedView, Error> {
         self.use_shown();
         if let Some(shown) = lock(&self.shown.0).share(least)? {
             return Ok(shown);
@@ -251,10 +252,10 @@ impl Newest {
         if let Some(shown) = lock(&self.shown.0).share(least)? {
             return Ok(shown);
         }
-        let shown = Shown {
+        let shown = VersionedView {
             view: store.view()?,
             taken: self.taken(),
-            groups: self.touched.groups(),
+            groups: self.last_writes.groups(),
             is_sorted: false,
         };
         let old = lock(&self.shown.0).show(shown.again()?);
@@ -285,7 +286,11 @@ impl Newest {
 
     /// Counts what the store has taken, and shows it if the shown view was used. Who reads in the next one finds that it is counted:
     /// so nobody who reads after that sees less.
-    fn tell<'a>(&self, store: &Store, shown: impl FnOnce() -> Option<MutexGuard<'a, Front>>) {
+    fn publish<'a>(
+        &self,
+        store: &Store,
+        shown: impl FnOnce() -> Option<MutexGuard<'a, ViewCache>>,
+    ) {
         let is_scanned = self.scans.0.swap(0, Ordering::Relaxed) >= MANY_SCANS
             && store.report().gathered <= MOST_TO_SORT;
         let is_used = self.is_used.0.swap(false, Ordering::Relaxed) || is_scanned;
@@ -302,12 +307,12 @@ impl Newest {
         }
     }
 
-    /// A view that is told of next.
-    fn next(&self, store: &Store) -> Result<Shown, Error> {
-        Ok(Shown {
+    /// Returns the view to publish next.
+    fn next(&self, store: &Store) -> Result<VersionedView, Error> {
+        Ok(VersionedView {
             view: store.view()?,
             taken: self.taken() + 1,
-            groups: self.touched.groups(),
+            groups: self.last_writes.groups(),
             is_sorted: false,
         })
     }

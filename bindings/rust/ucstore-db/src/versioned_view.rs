@@ -1,11 +1,11 @@
-//! [`Shown`]: a view, and which groups it has.
+//! [`VersionedView`]: a view, and the number of groups in it.
 
 use crate::error::Error;
-use crate::newest::sort;
+use crate::read_views::sort;
 use ucstore::View;
 
-/// A view, and which groups it has.
-pub(crate) struct Shown {
+/// A view, and the number of groups in it.
+pub(crate) struct VersionedView {
     pub(crate) view: View,
     /// The number of groups taken, or changes of the runs.
     pub(crate) taken: u64,
@@ -15,10 +15,10 @@ pub(crate) struct Shown {
     pub(crate) is_sorted: bool,
 }
 
-impl Shown {
+impl VersionedView {
     /// It once more, for another thread.
-    pub(crate) fn again(&self) -> Result<Shown, Error> {
-        Ok(Shown {
+    pub(crate) fn again(&self) -> Result<VersionedView, Error> {
+        Ok(VersionedView {
             view: self.view.again()?,
             taken: self.taken,
             groups: self.groups,
