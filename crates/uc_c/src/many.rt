@@ -12,9 +12,13 @@ use crate::status::{BAD_KEYS, NO_STORE, OK, OUT_OF_MEMORY};
 use std::alloc::{AllocError, Global};
 use uc_engine::ValueRef;
 use uc_handle::Handle;
+use uc_run::SoughtKey;
 
 /// The length that is stored for a key without a value.
 const NO_VALUE: u64 = u64::MAX;
+
+/// The number of keys in each group that is read ahead; the last may have fewer.
+const GROUP_KEYS: usize = 32;
 
 /// The values found for many keys.
 #[derive(Drop)]
@@ -103,6 +107,50 @@ fn add_up(lengths: &[u64], bytes: usize) -> bool
     left == 0
 }
 
+/// Reads ahead for lookups of the first keys of some that are concatenated, at most a group.
+fn touch_group<R: Readable>(
+    alloc: Global,
+    source: &R,
+    keys: &[u8],
+    key_lengths: &[u64],
+) -> Result<u8, AllocError> {
+    let key_lengths = &key_lengths[..GROUP_KEYS.min(key_lengths.len())];
+    let mut group = Vec::with_capacity(alloc, key_lengths.len())?;
+    let mut left = keys;
+    for length in key_lengths {
+        let length = *length as usize;
+        let (Some(key), Some(behind)) = (left.get(..length), left.get(length..)) else {
+            break;
+        };
+        group.push(SoughtKey::new(key))?;
+        left = behind;
+    }
+    source.touch(alloc, &group)
+}
+
+/// If a group of keys begins after those that are done, reads ahead for its lookups, unless it is one key.
+fn read_ahead<R: Readable>(
+    alloc: Global,
+    source: &R,
+    bytes: &mut Vec<u8>,
+    left: &[u8],
+    key_lengths: &[u64],
+    done: usize,
+) -> Result<(), AllocError>
+    ensures { OnOk result (bytes.new.items ≡ bytes.old.items) }
+{
+    if done % GROUP_KEYS != 0 {
+        return Ok(());
+    }
+    let lengths_left = key_lengths.get(done..).unwrap_or(&[]);
+    if lengths_left.len() > 1 {
+        let touched = touch_group(alloc, source, left, lengths_left)?;
+        // This uses the result, so that the reads aren't removed.
+        bytes.reserve(usize::from(touched))?;
+    }
+    Ok(())
+}
+
 /// Looks up keys of lengths that add up to their bytes.
 fn find<R: Readable>(
     alloc: Global,
@@ -120,6 +168,7 @@ fn find<R: Readable>(
     let mut bytes = Vec::new(alloc);
     let mut left = keys;
     for length in key_lengths {
+        read_ahead(alloc, source, &mut bytes, left, key_lengths, lengths.len())?;
         let (key, behind) = left.split_at(*length as usize);
         push_value(&mut lengths, &mut bytes, &source.get_ref(alloc, key)?)?;
         left = behind;

@@ -1,6 +1,7 @@
 //! [`Readable`]: what is read in the same way.
 use std::alloc::{AllocError, Global};
 use uc_engine::{Answer, Engine, EngineView, LookupSource, Query, ValueRef};
+use uc_run::SoughtKey;
 
 /// An engine, or a view of one.
 pub trait Readable {
@@ -15,6 +16,10 @@ pub trait Readable {
     /// The value that a key has at the last sequence, if it has one. One that was put stays where it is.
     fn get_ref(&self, alloc: Global, key: &[u8]) -> Result<Option<ValueRef<'_>>, AllocError>
         ensures { IfOk result (λ value. value ≡ value_seen (viewed self.now) key.now) };
+
+    /// Reads what lookups of these keys will read, for all keys side by side, so that the waits for memory overlap. The result has
+    /// no meaning; the caller must use it, so that the reads aren't removed. Fails only if allocation fails.
+    fn touch(&self, alloc: Global, keys: &[SoughtKey<'_>]) -> Result<u8, AllocError>;
 
     /// Where a lookup of a key at the last sequence is answered.
     fn source(&self, alloc: Global, key: &[u8]) -> Result<LookupSource, AllocError>
@@ -39,6 +44,10 @@ impl Readable for Engine {
         Engine::get_ref(self, alloc, key)
     }
 
+    fn touch(&self, alloc: Global, keys: &[SoughtKey<'_>]) -> Result<u8, AllocError> {
+        Engine::touch(self, alloc, keys)
+    }
+
     fn source(&self, alloc: Global, key: &[u8]) -> Result<LookupSource, AllocError> {
         Engine::source(self, alloc, key)
     }
@@ -57,6 +66,10 @@ impl Readable for EngineView {
 
     fn get_ref(&self, alloc: Global, key: &[u8]) -> Result<Option<ValueRef<'_>>, AllocError> {
         EngineView::get_ref(self, alloc, key)
+    }
+
+    fn touch(&self, alloc: Global, keys: &[SoughtKey<'_>]) -> Result<u8, AllocError> {
+        EngineView::touch(self, alloc, keys)
     }
 
     fn source(&self, alloc: Global, key: &[u8]) -> Result<LookupSource, AllocError> {

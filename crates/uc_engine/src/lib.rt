@@ -6,7 +6,7 @@
 //! [`EngineView`] is a [`View`](uc_live::View) in the same way, an [`EngineJob`] a [`Job`](uc_live::Job), and an
 //! [`EngineCheckpoint`] a [`Checkpoint`](uc_checkpoint::Checkpoint). A [`TakenJob`] is an [`EngineJob`] or a [`FlushJob`].
 //!
-//! Read `specs/Engines.antt` first, then `operator_kind.rt`, `engine.rt`, `opening.rt`, `writing.rt`, `reading.rt`,
+//! Read `specs/Engines.antt` first, then `operator_kind.rt`, `engine.rt`, `opening.rt`, `writing.rt`, `reading.rt`, `touching.rt`,
 //! `snapshots.rt`, `compacting.rt`, `engine_job.rt`, `engine_flush.rt`, `taken_job.rt`, `engine_view.rt`, `runs.rt`, `transactions.rt`
 //! and `engine_checkpoint.rt`.
 //!
@@ -30,6 +30,7 @@ mod runs;
 mod snapshots;
 mod store_job;
 mod taken_job;
+mod touching;
 mod transactions;
 mod writing;
 

@@ -77,10 +77,6 @@ moved keys cs i c own beside is =
 abbrev pub nowhere : Standing
 nowhere = record { run = record { low = 0; high = 0; points = []; fragments = [] }; place = 0 }
 
-pub no_ranges : (ranges : List Bool) (cs : List Standing) (i : ℕ) (b : Bool) → ranges ≡ map has_ranges cs → i < length cs → get_or ranges i b ≡ false → has_ranges (get_or cs i nowhere) ≡ false
-no_ranges ranges cs i b beside lt e =
-    sym (get_or-map has_ranges cs i nowhere b lt) ∙ ap (λ (rs : List Bool). get_or rs i b) (sym beside) ∙ e
-
 abbrev pub KeptLaw : Operation → Type 0
 KeptLaw m = (run : Contents) (key : List ℕ) (next : Option (List ℕ)) (at : ℕ) → IsRun run.low run.high run.points run.fragments → IsNextKey run.points key false next → next ≢ Some key → run.fragments ≡ [] → effect_on m (plain_list run) key at ≡ Keep
 
@@ -204,7 +200,3 @@ module _ (low : List ℕ) (strict : Bool) where
 pub moved_of_runs : (f : Standing → Standing) → ((c : Standing) → IsOfRun c → IsOfRun (f c)) → (cs : List Standing) → AllByRecursion IsOfRun cs → AllByRecursion IsOfRun (map f cs)
 moved_of_runs f keeps [] h = tt
 moved_of_runs f keeps (c ∷ cs) h = (keeps c h.0, moved_of_runs f keeps cs h.1)
-
-pub moved_ranges : (f : Standing → Standing) → ((c : Standing) → has_ranges (f c) ≡ has_ranges c) → (cs : List Standing) → map has_ranges (map f cs) ≡ map has_ranges cs
-moved_ranges f keeps [] = refl
-moved_ranges f keeps (c ∷ cs) = ap (λ (b : Bool). b ∷ map has_ranges (map f cs)) (keeps c) ∙ ap (λ (bs : List Bool). has_ranges c ∷ bs) (moved_ranges f keeps cs)

@@ -1,7 +1,6 @@
 //! Keys after a dead one that have no value either, since a newer run's range deletion hides them.
 ghost use Rattle.std.specs.Prelude.{◌≡◌, ℕ, Bool, List, true, map, option_map, IfSome};
 ghost use Rattle.std.specs.List.{AllByRecursion};
-ghost use Rattle.uc_run.specs.Cursors.{has_ranges};
 ghost use Rattle.uc_run.specs.NextKey.{IsNextKey};
 ghost use Rattle.uc_compact.specs.Inputs.{points_of, writes_of};
 ghost use Rattle.uc_query_read.specs.Walks.{runs_of, StandsAt, IsOfRun};
@@ -24,22 +23,14 @@ fn least_key<'a>(cursors: &[Cursor<'a>]) -> Option<&'a [u8]>
     least
 }
 
-/// The place of the first run that hides a key, and where the hiding ends. Only runs with range deletions can.
-fn hidden_by<'a>(
-    cursors: &[Cursor<'a>],
-    with_ranges: &[bool],
-    key: &[u8],
-    at: u64,
-) -> Option<(usize, &'a [u8])>
+/// The place of the first run that hides a key, and where the hiding ends.
+fn hidden_by<'a>(cursors: &[Cursor<'a>], key: &[u8], at: u64) -> Option<(usize, &'a [u8])>
     requires of_runs { AllByRecursion IsOfRun cursors.now }
-    requires ranges { with_ranges.now ≡ map has_ranges cursors.now }
     ensures { IfSome result (λ r. IsHidden cursors.now key.now at r.0 r.1.now) }
 {
     for place in 0..cursors.len() {
-        if with_ranges[place] {
-            if let Some(end) = cursors[place].hidden_to(key, at) {
-                return Some((place, end));
-            }
+        if let Some(end) = cursors[place].hidden_to(key, at) {
+            return Some((place, end));
         }
     }
     None
@@ -50,18 +41,16 @@ fn hidden_by<'a>(
 /// some.
 pub(crate) fn dead_up_to<'a, O: Operator>(
     cursors: &[Cursor<'a>],
-    with_ranges: &[bool],
     key: &[u8],
     at: u64,
 ) -> Option<&'a [u8]>
     requires stand { AllByRecursion (StandsAt key.now true) cursors.now }
     requires of_runs { AllByRecursion IsOfRun cursors.now }
-    requires ranges { with_ranges.now ≡ map has_ranges cursors.now }
     ensures { IfSome result (λ bound. AreDead O.meaning (writes_of (runs_of cursors.now)) at key.now bound.now) }
 {
     plain_list_does_what_is_found::<O>();
     effects_of_parts_compose::<O>();
     effect_gives_value::<O>();
-    let (place, end) = hidden_by(cursors, with_ranges, key, at)?;
+    let (place, end) = hidden_by(cursors, key, at)?;
     lesser(Some(end), least_key(&cursors[..place + 1]))
 }

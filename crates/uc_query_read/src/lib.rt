@@ -8,7 +8,7 @@
 //! [`answer_one`] returns the same answer from a version's runs. Read `answering.rt` first, then `lookup.rt`, and for
 //! scans `specs/Ahead.antt`, `specs/Walks.antt`, `walkers.rt`, `cursors.rt`, `dead_keys.rt` and `scan.rt`. `behind.rt` reads a
 //! version after newer writes. For scans against the order of keys read `specs/Back.antt`, `back_walk.rt`,
-//! `dead_below.rt` and `back_scan.rt`.
+//! `dead_below.rt` and `back_scan.rt`. [`touch`] reads ahead for lookups of many keys.
 //!
 //! An `Err(AllocError)` comes only if an allocation fails.
 //!
@@ -30,6 +30,7 @@ mod passing;
 mod plain;
 mod query;
 mod scan;
+mod touching;
 mod walkers;
 
 pub use answer::Answer;
@@ -46,4 +47,5 @@ pub use behind::{
 pub use laws::{histories_keep_answers, later_events_leave_answers_alone};
 pub use plain::answer_writes;
 pub use query::Query;
+pub use touching::touch;
 pub use uc_rows::{Laid, RowBuffer, RowIter, Rows};

@@ -104,7 +104,7 @@ pub(crate) fn take_all<'a, O: Operator>(
     requires stand { AllByRecursion (StandsAt head.key.now false) cursors.old }
     requires of_runs { AllByRecursion IsOfRun cursors.old }
     requires heads { heads.old.keys ≡ map next_key (newer_of cursors.old) }
-    requires without { AllByRecursion (λ b. b ≡ false) (map has_ranges cursors.old) }
+    requires plain { AllByRecursion (λ c. has_ranges c ≡ false) cursors.old }
     ensures value { IfSome result (λ value.
         value_of O.meaning (writes_of (runs_of cursors.old)) head.entry.key.now at ≡ Some value.now) }
     ensures cursors { IfSome result (λ value. cursors.new ≡ map (passed head.entry.key.now) cursors.old) }

@@ -42,9 +42,7 @@ pub(crate) struct Walkers<'a> {
     heads: Heads<'a>,
     /// The least of these keys.
     newer: Option<Head<'a>>,
-    /// The runs that have range deletions, as flags. These say something of other keys too.
-    with_ranges: Vec<bool>,
-    /// Whether none has.
+    /// Whether no run has range deletions, which say something of other keys too.
     is_plain: bool,
 }
 
@@ -74,16 +72,6 @@ fn cursors_from<'a>(
         cursors.push(placed.run().cursor(low))?;
     }
     Ok(cursors)
-}
-
-/// The cursors' runs that have range deletions, as flags.
-fn ranges_of(alloc: Global, cursors: &[Cursor<'_>]) -> Result<Vec<bool>, AllocError>
-    ensures { IfOk result (λ ranges. ranges.items ≡ map has_ranges cursors.now) }
-{
-    cursors
-        .iter()
-        .map(|cursor| cursor.has_ranges())
-        .collect(alloc)
 }
 
 /// All cursors but the oldest run's.
@@ -147,7 +135,6 @@ fn effect_of_newer<'a, O: Operator>(
     alloc: Global,
     cursors: &[Cursor<'a>],
     heads: &Heads<'_>,
-    with_ranges: &[bool],
     least: Least<'_>,
     at: u64,
 ) -> Result<EffectRef<'a>, AllocError>
@@ -155,7 +142,6 @@ fn effect_of_newer<'a, O: Operator>(
     requires stand { AllByRecursion (StandsAt least.key.now false) cursors.now }
     requires of_runs { AllByRecursion IsOfRun cursors.now }
     requires heads { heads.now.keys ≡ map next_key cursors.now }
-    requires ranges { with_ranges.now ≡ map has_ranges cursors.now }
     ensures { IfOk result (λ effect. effect ≡
         effect_on O.meaning (writes_of (runs_of cursors.now)) least.entry.key.now at) }
 {
@@ -164,7 +150,7 @@ fn effect_of_newer<'a, O: Operator>(
     keys_at_places_are_next();
     let mut newer = Effect::Keep;
     for place in 0..cursors.len() {
-        if is_there(heads, place, least) || with_ranges[place] {
+        if is_there(heads, place, least) || cursors[place].has_ranges() {
             let older = cursors[place].effect_ref::<O>(alloc, least.key, at)?;
             let both = compose::<O>(alloc, older, newer)?;
             if both.is_set() {
@@ -183,7 +169,6 @@ fn effect_of_all<'a, O: Operator>(
     alloc: Global,
     cursors: &[Cursor<'a>],
     heads: &Heads<'_>,
-    with_ranges: &[bool],
     least: Least<'_>,
     at: u64,
 ) -> Result<EffectRef<'a>, AllocError>
@@ -191,7 +176,6 @@ fn effect_of_all<'a, O: Operator>(
     requires stand { AllByRecursion (StandsAt least.key.now false) cursors.now }
     requires of_runs { AllByRecursion IsOfRun cursors.now }
     requires heads { heads.now.keys ≡ map next_key (newer_of cursors.now) }
-    requires ranges { with_ranges.now ≡ map has_ranges cursors.now }
     ensures { IfOk result (λ effect. effect ≡
         effect_on O.meaning (writes_of (runs_of cursors.now)) least.entry.key.now at) }
 {
@@ -199,9 +183,7 @@ fn effect_of_all<'a, O: Operator>(
     let Some(oldest) = cursors.last() else {
         return Ok(EffectRef::own(Effect::Keep));
     };
-    let newer = newer_of(cursors);
-    let with_ranges = &with_ranges[..newer.len()];
-    let newer = effect_of_newer::<O>(alloc, newer, heads, with_ranges, least, at)?;
+    let newer = effect_of_newer::<O>(alloc, newer_of(cursors), heads, least, at)?;
     if newer.is_set() {
         return Ok(newer);
     }
@@ -209,13 +191,13 @@ fn effect_of_all<'a, O: Operator>(
     compose::<O>(alloc, older, newer.into_effect(alloc)?)
 }
 
-/// Whether none of some runs has range deletions.
+/// Whether none of the cursors' runs has range deletions.
 #[inline]
-fn are_without_ranges(with_ranges: &[bool]) -> bool
-    ensures { IsTrue result → All (λ b. b ≡ false) with_ranges.now }
+fn are_plain(cursors: &[Cursor<'_>]) -> bool
+    ensures { IsTrue result → All (λ c. has_ranges c ≡ false) cursors.now }
 {
-    for has_ranges in with_ranges {
-        if *has_ranges {
+    for cursor in cursors {
+        if cursor.has_ranges() {
             return false;
         }
     }
@@ -256,7 +238,7 @@ fn next_alone<'a, O: Operator>(
 ) -> Option<(&'a [u8], &'a [u8])>
     requires of_runs { AllByRecursion IsOfRun cursors.old }
     requires least { IsLeast (map next_key (newer_of cursors.old)) (option_map (λ head. head.key.now) newer) }
-    requires without { AllByRecursion (λ b. b ≡ false) (map has_ranges cursors.old) }
+    requires plain { AllByRecursion (λ c. has_ranges c ≡ false) cursors.old }
     ensures next { IfSome result (λ row. (low : List ℕ) (strict : Bool) → AllByRecursion (StandsAt low strict) cursors.old →
         IsNextKey (points_of (runs_of cursors.old)) low strict (Some row.0.now)) }
     ensures below { IfSome result (λ row. answers.is_below row.0.now high.now ≡ true) }
@@ -296,13 +278,11 @@ impl<'a> Walkers<'a> {
         let cursors = cursors_from(alloc, runs, low)?;
         let heads = Heads::of_cursors(alloc, newer_of(&cursors))?;
         let newer = heads.least();
-        let with_ranges = ranges_of(alloc, &cursors)?;
-        let is_plain = are_without_ranges(&with_ranges);
+        let is_plain = are_plain(&cursors);
         Ok(Walkers {
             cursors,
             heads,
             newer,
-            with_ranges,
             is_plain,
         })
     }
@@ -332,14 +312,7 @@ impl<'a> Walkers<'a> {
             value ≡ value_of O.meaning (writes_of (runs_of self.now.cursors)) least.entry.key.now at) }
     {
         effect_gives_value::<O>();
-        let effect = effect_of_all::<O>(
-            alloc,
-            &self.cursors,
-            &self.heads,
-            &self.with_ranges,
-            least,
-            at,
-        )?;
+        let effect = effect_of_all::<O>(alloc, &self.cursors, &self.heads, least, at)?;
         effect.apply::<O>(alloc, None)
     }
 
@@ -450,6 +423,6 @@ impl<'a> Walkers<'a> {
         ensures { IfSome result (λ bound.
             AreDead O.meaning (writes_of (runs_of self.now.cursors)) at key.now bound.now) }
     {
-        dead_up_to::<O>(&self.cursors, &self.with_ranges, key, at)
+        dead_up_to::<O>(&self.cursors, key, at)
     }
 }

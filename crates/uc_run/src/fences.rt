@@ -17,7 +17,7 @@ use uc_bytes::Bytes;
 use uc_run_points::{PointRef, PointSlice, PointTest, Points, make_small};
 
 /// The number of points in each block; the last may have fewer. Each block is a quarter of what `Points` has the places of.
-const BLOCK_POINTS: usize = 4;
+pub(crate) const BLOCK_POINTS: usize = 4;
 
 /// The number of points that are passed one by one before the fences are searched.
 const FEW_POINTS: usize = 8;
@@ -48,6 +48,12 @@ impl Fences {
         ensures { result ≡ length self.now.prefixes.items }
     {
         self.prefixes.len()
+    }
+
+    /// The prefix of each fence after the common front.
+    #[inline]
+    pub(crate) fn prefixes(&self) -> &[u64] {
+        &self.prefixes
     }
 
     /// The common front of all fences.

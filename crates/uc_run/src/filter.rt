@@ -3,7 +3,7 @@ ghost use Rattle.std.specs.Prelude.{◌≡◌, ◌≤◌, ◌<◌, ◌↔◌, �
 ghost use Rattle.std.specs.Thread.{IsSync};
 ghost use Rattle.uc_run.specs.Filters.{HasBits, Admits, AdmitsAll};
 
-use crate::filter_bits::{BLOCK_WORDS, admit, is_admitted};
+use crate::filter_bits::{BLOCK_WORDS, admit, is_admitted, touch_words};
 use crate::sought_key::SoughtKey;
 use crate::texts::same_text;
 use std::alloc::{AllocError, Global};
@@ -45,6 +45,13 @@ impl Filter {
         ensures { IsTrue result ↔ Admits self.now key.now }
     {
         is_admitted(&self.words, key)
+    }
+
+    /// Reads a word that [`admits`](Filter::admits) will read. The result has no meaning; the caller must use it, so that the read
+    /// isn't removed.
+    #[inline]
+    pub(crate) fn touch(&self, key: &SoughtKey<'_>) -> u8 {
+        touch_words(&self.words, key)
     }
 }
 

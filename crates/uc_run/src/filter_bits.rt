@@ -96,6 +96,16 @@ pub(crate) fn is_admitted(words: &[u64], key: &SoughtKey<'_>) -> bool
         && has_bits(words, probes.second, probes.second_bits)
 }
 
+/// Reads a word of the block in which the bits of a key lie. The result has no meaning; the caller must use it, so that the
+/// read isn't removed.
+#[inline]
+pub(crate) fn touch_words(words: &[u64], key: &SoughtKey<'_>) -> u8 {
+    match words.get(probes_of(key.hash(), words.len()).first) {
+        Some(word) => (*word % 256) as u8,
+        None => 0,
+    }
+}
+
 /// Makes the words admit a key.
 #[inline]
 pub(crate) fn admit(words: &mut [u64], key: &[u8])

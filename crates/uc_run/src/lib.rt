@@ -7,7 +7,8 @@
 //! A [`Run`] is immutable. It keeps its points, packed, in blocks of 16 in order of key, and a Bloom filter of their keys
 //! (`filter.rt`). A contract sees it as its contents (`uc_run_entry`'s `specs/Run.antt`); only the contracts of [`Run::blocks`] and
 //! [`Run::fence`] speak of blocks. A [`Cursor`] moves forward over a run, a [`BackCursor`] backward, and [`Heads`] has the next
-//! keys of several cursors. Read `run.rt`, then `lookup.rt`, `cursor.rt`, `back_cursor.rt` and `heads.rt`.
+//! keys of several cursors. Read `run.rt`, then `lookup.rt`, `cursor.rt`, `back_cursor.rt` and `heads.rt`. Before lookups of many
+//! keys [`Run::touch`] reads ahead (`touching.rt`).
 //!
 //! This crate re-exports the public items of `uc_run_entry` that runs are made of.
 //!
@@ -46,6 +47,7 @@ mod slot_totals;
 mod slots;
 mod sought_key;
 mod texts;
+mod touching;
 
 pub use back_cursor::BackCursor;
 pub use cursor::Cursor;

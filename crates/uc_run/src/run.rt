@@ -25,6 +25,7 @@ use crate::places::points_from;
 use crate::run_size::size_of;
 use crate::same::same_points;
 use crate::sought_key::SoughtKey;
+use crate::touching::touch_points;
 use std::alloc::{AllocError, Global};
 use std::marker::{Model, Sync};
 use std::thread::{Threads, join};
@@ -328,6 +329,12 @@ impl Run {
         plain_list_does_what_is_found::<O>();
         let points = points_from(&self.points, &self.fences, &self.filter, key);
         effect_found::<O>(alloc, &points, self.fragments.as_slice(), key.key(), at)
+    }
+
+    /// Reads what lookups of these keys will read of the filter, the fences and the points, for all keys side by side, so that the
+    /// waits for memory overlap. The result has no meaning; the caller must use it, so that the reads aren't removed.
+    pub fn touch(&self, alloc: Global, keys: &[SoughtKey<'_>]) -> Result<u8, AllocError> {
+        touch_points(alloc, &self.points, &self.fences, &self.filter, keys)
     }
 
     /// Whether the runs have equal points, fragments and ranges.

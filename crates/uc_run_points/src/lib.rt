@@ -24,6 +24,7 @@ mod points;
 mod points_ahead;
 mod points_error;
 mod spelling;
+mod touching;
 
 pub use laws::{fault_is_no_spelling, numbers_differ, spelling_is_unique};
 pub use number::{push_number, read_number, spelled_number};

@@ -15,6 +15,7 @@ use crate::point_slice::PointSlice;
 use crate::points_ahead::PointsAhead;
 use crate::points_error::PointsError;
 use crate::spelling::{push_entry, read_entry};
+use crate::touching::{touch_quarter, touch_start};
 use std::alloc::{AllocError, Global};
 use std::marker::Model;
 use uc_run_entry::{Entry, WhatRef, make_small};
@@ -280,6 +281,20 @@ impl Points {
         ensures { result ≡ slice_get self.now place }
     {
         self.from(place).first()
+    }
+
+    /// Reads where the quarter of a place begins, ahead of [`touch`](Points::touch). The result has no meaning; the caller must
+    /// use it, so that the read isn't removed.
+    #[inline]
+    pub fn touch_start(&self, place: usize) -> u8 {
+        touch_start(&self.starts, place / QUARTER_POINTS)
+    }
+
+    /// Reads a byte in each of the first cache lines of the quarter of a place, ahead of a lookup that reads its points. The result
+    /// has no meaning; the caller must use it, so that the reads aren't removed.
+    #[inline]
+    pub fn touch(&self, place: usize) -> u8 {
+        touch_quarter(&self.bytes, &self.starts, place / QUARTER_POINTS)
     }
 
     /// Returns the slice of the points from index `place` on. Decodes the points before it in its quarter.

@@ -16,5 +16,5 @@ loop-length-preserved g c =
     record {
       left = c.split_at.ensures.back ∙ ap (drop n) before.left ∙ sym more.0;
       lengths = c.in_ok-push_value.ensures.lengths ∙ rw (before.lengths, found) (sym more.1);
-      bytes = c.in_ok-push_value.ensures.bytes ∙ rw (before.bytes, found) (sym more.2);
+      bytes = c.in_ok-push_value.ensures.bytes ∙ rw (c.in_ok-read_ahead.ensures, before.bytes, found) (sym more.2);
     }

@@ -6,7 +6,6 @@ use Rattle.uc_model.specs.Meaning.{effect_on}
 use Rattle.uc_compact.specs.Inputs.{writes_of}
 use Rattle.uc_run.specs.Cursors.{Standing, has_ranges}
 use Rattle.uc_query_read.specs.Walks.{runs_of, passed}
-use Rattle.uc_query_read.proofs.Alone.{without_each}
 use Rattle.uc_query_read.proofs.Effects.{set_stays}
 use Rattle.uc_query_read.proofs.Hiding.{all_taken}
 use Rattle.uc_query_read.proofs.Oldest.{last_moved}
@@ -14,7 +13,7 @@ use Rattle.uc_query_read.proofs.passing.take_all.Goals as goal
 
 pub take_there-requires-clause-plain : goal.take_there-requires-clause-plain
 take_there-requires-clause-plain g c =
-    all_taken (λ s. has_ranges s ≡ false) c.in_ok-last.last c.args.cursors.now (without_each c.args.cursors.now c.requires.without)
+    all_taken (λ s. has_ranges s ≡ false) c.in_ok-last.last c.args.cursors.now c.requires.plain
 
 pub returns-clause-value : goal.returns-clause-value
 returns-clause-value g c =

@@ -16,7 +16,7 @@ returns-then-is_set g c =
     let cursors = c.args.cursors.now in
     let key = c.args.least.key.now in
     let newer : c.in_ok-newer.newer ≡ effect_on m (writes_of (runs_of (newer_of cursors))) key c.args.at =
-    subst (λ (cs : List Standing). c.in_ok-newer.newer ≡ effect_on m (writes_of (runs_of cs)) key c.args.at) c.newer_of-newer.ensures c.in_ok-newer.ensures in
+    subst (λ (cs : List Standing). c.in_ok-newer.newer ≡ effect_on m (writes_of (runs_of cs)) key c.args.at) c.newer_of.ensures c.in_ok-newer.ensures in
     sym (set_stays (λ s. s.run) m c.effects_of_parts_compose.ensures key c.args.at cursors (length cursors - 1) c.in_ok-newer.newer (c.is_set.ensures.0 c.if-is_set.true) (sym newer))
 
 pub returns : goal.returns
@@ -29,7 +29,7 @@ returns g c =
     let there : slice_get cursors last ≡ Some oldest = sym c.in-Some.ensures.value in
     let lt : last < length cursors = slice_get_within cursors last oldest there in
     let newer : c.in_ok-newer.newer ≡ effect_on m (writes_of (runs_of (newer_of cursors))) key c.args.at =
-    subst (λ (cs : List Standing). c.in_ok-newer.newer ≡ effect_on m (writes_of (runs_of cs)) key c.args.at) c.newer_of-newer.ensures c.in_ok-newer.ensures in
+    subst (λ (cs : List Standing). c.in_ok-newer.newer ≡ effect_on m (writes_of (runs_of cs)) key c.args.at) c.newer_of.ensures c.in_ok-newer.ensures in
     let all : take (last + 1) cursors ≡ cursors = take_all (last + 1) cursors (omega arith) in
     IfOk-weaker c.compose-2.result _ _
     (λ effect made.

@@ -11,7 +11,7 @@ use Rattle.uc_run.specs.Cursors.{Standing, has_ranges}
 use Rattle.uc_run.specs.Heads.{next_key, IsLeast}
 use Rattle.uc_run.specs.NextKey.{IsNextKey}
 use Rattle.uc_query_read.specs.Walks.{runs_of, passed, StandsAt, IsOfRun}
-use Rattle.uc_query_read.proofs.Alone.{all_keep, below_least, lesser_below, runs_set, same_element, without_each, without_all}
+use Rattle.uc_query_read.proofs.Alone.{all_keep, below_least, lesser_below, runs_set, same_element, without_all}
 use Rattle.uc_query_read.proofs.Beside.{least_is_next}
 use Rattle.uc_query_read.proofs.Effects.{one_older}
 use Rattle.uc_query_read.proofs.Hiding.{all_taken}
@@ -60,7 +60,7 @@ returns-clause-value g c stand =
     let newers = take last cursors in
     let least = subst (λ (n : ℕ). IsLeast (map next_key (take n cursors)) newer) before_it c.requires.least in
     let others = all_next (λ k. k ≢ Some key) newers (below_least key (map next_key newers) newer least (sym c.is_before.ensures ∙ c.if-not-is_before.false)) in
-    let plain : AllByRecursion (λ s. has_ranges s ≡ false) cursors = without_each cursors c.requires.without in
+    let plain : AllByRecursion (λ s. has_ranges s ≡ false) cursors = c.requires.plain in
     let kept : effect_on m (writes_of (runs_of newers)) key at ≡ Keep =
     all_keep m c.effects_of_parts_compose.ensures c.other_keys_are_kept.ensures c.keys_at_places_are_next.ensures key at newers
     (all_taken (StandsAt key false) last cursors stand) (all_taken IsOfRun last cursors c.requires.of_runs) others

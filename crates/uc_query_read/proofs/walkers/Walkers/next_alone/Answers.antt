@@ -1,4 +1,4 @@
-use Rattle.std.proofs.Common.{rules, ◌≡◌, ℕ, Bool, List, Some, length, map, take, drop, ◌++◌, sym, ap, ◌∙◌, subst}
+use Rattle.std.proofs.Common.{rules, ◌≡◌, false, ℕ, Bool, List, Some, length, map, take, drop, ◌++◌, sym, ap, ◌∙◌, subst}
 use Rattle.std.specs.Prelude.{IfSome}
 use Rattle.std.specs.List.{AllByRecursion}
 use Rattle.std.proofs.lemmas.List.{length-map, take_at}
@@ -8,7 +8,7 @@ use Rattle.uc_run.specs.Cursors.{Standing, has_ranges}
 use Rattle.uc_run.specs.Heads.{next_key}
 use Rattle.uc_run.specs.NextKey.{IsNextKey}
 use Rattle.uc_query_read.specs.Walks.{Numbered, runs_of, newer_of, StandsAt, IsOfRun}
-use Rattle.uc_query_read.proofs.Alone.{same_of_runs, same_ranges}
+use Rattle.uc_query_read.proofs.Alone.{plain_alike, same_of_runs}
 use Rattle.uc_query_read.proofs.walkers.Walkers.next_alone.Goals as goal
 
 pub invariant_of-self : goal.invariant_of-self
@@ -26,8 +26,7 @@ invariant_of-self g c =
       heads = c.self.invariant.heads ∙ ap (map next_key) (ap newer_of (sym c.deref_mut.ensures.value) ∙ sym c.next_alone.ensures.newer ∙ ap newer_of (sym back));
       least = c.self.invariant.least;
       number = c.self.invariant.number;
-      ranges = c.self.invariant.ranges ∙ sym (same_ranges items new runs) ∙ ap (map has_ranges) (sym back);
-      plain = c.self.invariant.plain;
+      plain = λ plain. subst (AllByRecursion (λ s. has_ranges s ≡ false)) (sym back) (plain_alike items new runs (c.self.invariant.plain plain));
     }
 
 pub returns-clause-next : goal.returns-clause-next

@@ -1,10 +1,11 @@
-use Rattle.std.proofs.Common.{rules, ◌≡◌, length, map, sym, ap, ◌∙◌, subst, refl, List}
+use Rattle.std.proofs.Common.{rules, ◌≡◌, false, length, map, sym, ap, ◌∙◌, subst, refl, List}
 use Rattle.std.specs.List.{AllByRecursion}
 use Rattle.uc_run.specs.Cursors.{Standing, has_ranges}
 use Rattle.uc_run.specs.Heads.{next_key}
 use Rattle.uc_query_read.specs.Walks.{newer_of, sought, IsOfRun}
 use Rattle.uc_query_read.proofs.Standing.{come_back}
-use Rattle.uc_query_read.proofs.Beside.{moved_of_runs, moved_ranges}
+use Rattle.uc_query_read.proofs.Alone.{plain_moved}
+use Rattle.uc_query_read.proofs.Beside.{moved_of_runs}
 use Rattle.uc_query_read.proofs.walkers.Walkers.seek.Goals as goal
 
 pub invariant_of-self : goal.invariant_of-self
@@ -19,6 +20,5 @@ invariant_of-self c =
       heads = c.seek_all.ensures.heads ∙ ap (λ (cs : List Standing). map next_key (newer_of cs)) moved;
       least = c.least-self-inside.ensures.least;
       number = c.least-self-inside.ensures.number;
-      ranges = c.self.invariant.ranges ∙ sym (moved_ranges moves (λ c. refl) w.cursors.items) ∙ ap (map has_ranges) (sym back);
-      plain = c.self.invariant.plain;
+      plain = λ plain. subst (AllByRecursion (λ s. has_ranges s ≡ false)) (sym back) (plain_moved moves (λ s. refl) w.cursors.items (c.self.invariant.plain plain));
     }
