@@ -10,8 +10,9 @@ use Rattle.uc_c.specs.declared.status.TheConstants.{OK, OUT_OF_MEMORY, RUN_DAMAG
 use Rattle.uc_c.specs.Replies.{Names}
 use Rattle.uc_c.specs.Runs.{AddSays, IsDamaged, fault_offset}
 
--- A file whose run is the one of these bytes, and the range of sequences of that run.
+-- A file whose run is the one of these bytes, which it has no more, and the range of sequences of that run.
 pub record IsReadAs (bytes : List ℕ) (f : ReadFile) (low high : ℕ) : Type 0 where
+  pub empty : f.bytes ≡ []
   pub run : Contents
   pub held : f.run ≡ Some run
   pub bytes_are : bytes ≡ file_text run

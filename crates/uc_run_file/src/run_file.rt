@@ -67,6 +67,7 @@ impl RunFile {
     pub fn read(&mut self, alloc: Global) -> Result<(), RunFileError>
         ensures run { OnOk result (IsSomeAnd self.new.run (λ run. self.old.bytes ≡ file_text run)) }
         ensures fault { IfErr result (IsRefusal self.old.bytes) }
+        ensures kept { IfErr result (λ _. self.new.run ≡ self.old.run) }
         ensures bytes { self.new.bytes ≡ [] }
     {
         let bytes = replace(&mut self.bytes, Vec::new(alloc));
@@ -77,7 +78,9 @@ impl RunFile {
 
     /// Takes the run out, if it was read.
     pub fn take_run(&mut self) -> Option<Run>
-        ensures { result ≡ self.old.run }
+        ensures run { result ≡ self.old.run }
+        ensures left { self.new.run ≡ None }
+        ensures bytes { self.new.bytes ≡ self.old.bytes }
     {
         replace(&mut self.run, None)
     }
