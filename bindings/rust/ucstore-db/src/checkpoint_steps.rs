@@ -74,9 +74,13 @@ impl Shared {
             let Some(outcome) = steps.act(action) else {
                 break;
             };
+            let are_named = action == RunFolderAction::OfFolder(FolderAction::SyncNames);
+            // The machine begins no list while the writer cuts back or ends the log, which it does with `log` held.
+            let log = (are_named && !steps.is_renamed).then(|| lock(&self.log));
             lock(&begun.machine).told_checkpoint(outcome.is_ok());
+            drop(log);
             outcome?;
-            if action == RunFolderAction::OfFolder(FolderAction::SyncNames) && steps.is_renamed {
+            if are_named && steps.is_renamed {
                 is_there = true;
                 *run_files = steps.run_files(begun.store);
             }
@@ -87,7 +91,8 @@ impl Shared {
         }
         if !is_told {
             // The log failed meanwhile.
-            return self.check();
+            self.check()?;
+            return Err(Error::Closed);
         }
         steps.clean_up()?;
         begun.remove_runs(run_files, &mut steps.removal)
