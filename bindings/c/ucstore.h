@@ -7,7 +7,8 @@
  * Each function of a store takes a pointer to the handle first. Each function except `ucstore_version` returns one of the statuses
  * below. On any status but UCSTORE_OK no write takes effect and no output is written, except as stated at `ucstore_prepare`,
  * `ucstore_prepare_bytes`, `ucstore_prepare_marked`, `ucstore_prepare_if`, `ucstore_checkpoint_next`, `ucstore_run`, `ucstore_add_run`,
- * `ucstore_log_next`, `ucstore_replay`, `ucstore_log_mark_bytes` and `ucstore_operand`.
+ * `ucstore_run_file_open`, `ucstore_run_file_read`, `ucstore_add_run_file`, `ucstore_log_next`, `ucstore_replay`, `ucstore_log_mark_bytes` and
+ * `ucstore_operand`.
  *
  * Writes go to a memtable, which is flushed to a run when it is full, and runs are compacted. By default the calling thread does
  * both, automatically. With jobs, other threads do.

@@ -53,23 +53,25 @@ impl Shared {
     /// If it fails, what was logged is where it was: a crash at any step loses nothing.
     pub(crate) fn checkpoint(&self) -> Result<(), Error> {
         self.checkpoint_by(|run_files| self.begin_checkpoint(run_files))
+            .map(drop)
     }
 
     /// Writes what a view of this database has. Removes the logs that have nothing after it.
     pub(crate) fn checkpoint_to(&self, view: &View) -> Result<(), Error> {
         self.checkpoint_by(|run_files| self.begin_checkpoint_to(run_files, view))
+            .map(drop)
     }
 
-    /// Writes the runs that there are, while writes go on. What isn't flushed stays in logs.
-    fn checkpoint_runs(&self) -> Result<(), Error> {
+    /// Writes the runs that there are, while writes go on. Writes in memtables stay in logs. Returns whether a checkpoint was made.
+    fn checkpoint_runs(&self) -> Result<bool, Error> {
         self.checkpoint_by(|run_files| self.begin_checkpoint_of_runs(run_files))
     }
 
-    /// Makes a checkpoint that a function begins, unless it says that there is none.
+    /// Makes a checkpoint that a function begins, unless it says that there is none. Returns whether one was made.
     fn checkpoint_by(
         &self,
         begin: impl FnOnce(&RunFiles) -> Result<Option<Begun>, Error>,
-    ) -> Result<(), Error> {
+    ) -> Result<bool, Error> {
         let outcome = self.make_checkpoint(begin);
         self.events.tell();
         outcome
@@ -79,18 +81,19 @@ impl Shared {
     fn make_checkpoint(
         &self,
         begin: impl FnOnce(&RunFiles) -> Result<Option<Begun>, Error>,
-    ) -> Result<(), Error> {
+    ) -> Result<bool, Error> {
         let begun_at = Instant::now();
         let mut run_files = lock(&self.checkpointing);
         let Some(begun) = begin(&run_files)? else {
-            return Ok(());
+            return Ok(false);
         };
         // After a failure it isn't tried again before as much more was logged.
         let due = self
             .log_bytes()
             .saturating_add(self.options.checkpoint_least);
         self.checkpoint_due.store(due, Ordering::Relaxed);
-        self.write_checkpoint(&mut run_files, begun, begun_at)
+        self.write_checkpoint(&mut run_files, begun, begun_at)?;
+        Ok(true)
     }
 
     /// Goes on in a new log, flushes what was logged before, and takes a view of that. Writes wait for the flush, so that the new log has
@@ -252,7 +255,8 @@ impl Shared {
                 thread::park();
             } else if self.is_log_long() {
                 match self.checkpoint_runs() {
-                    Ok(()) => self.forget_noted(),
+                    Ok(true) => self.forget_noted(),
+                    Ok(false) => {}
                     // The close doesn't wait for the rest of it.
                     Err(Error::Closed) => {}
                     Err(error) => self.note(error),
@@ -365,7 +369,7 @@ pub(crate) fn remove_for(
     }
 }
 
-/// Removes the run files that a machine says may go. It isn't locked while a file is removed: the writer asks it too.
+/// Removes the run files that a machine says may go.
 pub(crate) fn remove_runs(
     folder: &dyn Folder,
     next_removal: impl Fn(u64) -> RunFolderAction,

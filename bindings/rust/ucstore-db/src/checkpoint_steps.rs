@@ -55,7 +55,7 @@ impl Shared {
     ) -> Result<(), Error> {
         let outcome = self.write_steps(run_files, &begun, begun_at);
         if outcome.is_err() {
-            // Runs that no list names take space. What can't be removed is left to the next checkpoint.
+            // Runs that no list names take space. The next checkpoint removes those that can't be removed now.
             let _ = begun.remove_runs(run_files, &mut None);
         }
         outcome
@@ -256,8 +256,8 @@ impl<C: Fn() -> Result<(), Error>> Steps<'_, C> {
         Ok(())
     }
 
-    /// Checks that the list is read under its name as it was written, and that each run file is there. What was written was read before;
-    /// kept files were read by the checkpoint that has written them, or by the opening.
+    /// Checks that the list is read under its name as it was written, and that each run file is there. New files were read when they were
+    /// synced, and kept ones by the checkpoint that wrote them, or by the opening.
     fn read_back(&self) -> Result<(), Error> {
         match &self.list {
             Some((list, _)) => {

@@ -14,8 +14,8 @@ pub trait Folder: Send + Sync {
     fn length(&self, name: &str) -> io::Result<u64>;
     /// The bytes of a file.
     fn read(&self, name: &str) -> io::Result<Vec<u8>>;
-    /// The bytes of a file from an offset on: `length` of them, or as many as there are. Logs and bases are read so, a window at a
-    /// time. Unless it is defined, it takes them from all of the file's.
+    /// The bytes of a file from an offset on: `length` of them, or as many as there are. Logs, bases and run files are read so, a window at
+    /// a time. Unless it is defined, it takes them from all of the file's.
     fn read_at(&self, name: &str, offset: u64, length: usize) -> io::Result<Vec<u8>> {
         let mut bytes = self.read(name)?;
         let begin = bytes

@@ -18,7 +18,8 @@ const WINDOW: usize = 256 << 10;
 /// The number of bytes after which a run file is synced while it is written. A log's sync waits for no more of it.
 const SYNCED_BYTES: u64 = 8 << 20;
 
-/// The number of the last bytes of a file by which its list knows it: the file's footer, which has a checksum of those of all pieces.
+/// The number of the last bytes of a file by which its list knows it: the file's footer, which has a checksum of those of all pieces. The
+/// list's checksum differs if that one does; the footer's other fields are compared with the list's, or with the points.
 const LAST_BYTES: usize = 64;
 
 /// The run files of the newest checkpoint. Protected by `checkpointing`.

@@ -17,7 +17,7 @@ type Placed = (usize, Result<LoadedRun, Error>);
 
 /// Adds the runs of a list to an empty store, the oldest first, and tells of each one that was added. Returns their IDs.
 ///
-/// As many threads as there are processors read the files. What they read is the memory of the runs, so nothing is held twice. If a file is
+/// As many threads as there are processors read the files. The bytes are read into the memory of the runs, so nothing is held twice. If a file is
 /// damaged, the store has the runs before it.
 pub(crate) fn add_runs(
     folder: &dyn Folder,
@@ -59,7 +59,7 @@ pub(crate) fn add_runs(
 /// The runs that were read, in any order.
 struct Loaded {
     receiver: Receiver<Placed>,
-    /// Those that came before their turn.
+    /// The runs that came before their turn.
     early: BTreeMap<usize, Result<LoadedRun, Error>>,
 }
 

@@ -94,7 +94,7 @@ fn each_damaged_byte_is_named() {
                 bytes[place] ^= flipped;
                 let (file, offset) = refused(&with(&files, name, bytes));
                 assert_eq!(file, name);
-                // A fault of a run's table or footer is told at the end of its file.
+                // A fault of a run's table or footer is reported at the end of its file.
                 let is_end = name.ends_with(".run") && offset == files[name].len() as u64;
                 assert!(offset <= place as u64 || is_end, "{name} {place}: {offset}");
             }
@@ -180,7 +180,7 @@ fn a_checkpoint_is_read_alone() {
         let error = verify_checkpoint(&device, name).unwrap_err();
         assert!(matches!(error, Error::Missing { .. }), "{error}");
     }
-    // Each of several faults is told.
+    // Each of several faults is reported.
     let mut both = with(&files, "000002.run", "other");
     both.remove("000001.run");
     let read = verify_checkpoint(&Device::of(&both), "000002-6.runs").unwrap();

@@ -21,7 +21,7 @@ use ucstore_db::{
   run NAME bytes SIZE sequences FIRST LAST STATE
 
 where a checkpoint of the second form is a list of run files, and STATE is `whole`, `torn OFFSET` after a crash, which an opening cuts off, `damaged OFFSET`, or `unneeded` if no opening reads the \
-file, or `unlisted` for a run file if the list is damaged. Then come the other files, and `total rows R last SEQUENCE`. Takes as much memory as an opening.
+file, or `unlisted` for a run file if the list is damaged. Then come the other files, and `total rows R last SEQUENCE`. Takes as much memory as an opening, and the largest run file.
 
 While another process has the database open, the files are read as they were at one moment, and `torn OFFSET` may be a write in progress.
 
