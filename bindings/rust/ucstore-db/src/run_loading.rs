@@ -25,13 +25,22 @@ pub(crate) fn add_runs(
     store: &Store,
     mut tell: impl FnMut(&ListedRun),
 ) -> Result<Vec<(u64, ListedRun)>, Error> {
+    let mut add = |run: &ListedRun, loaded: Result<LoadedRun, Error>| {
+        let id = add_run(store, run, loaded?)?;
+        tell(run);
+        Ok((id, *run))
+    };
     let processors = thread::available_parallelism().map_or(1, usize::from);
     let threads = processors.min(list.runs.len());
+    if threads < 2 {
+        let runs = list.runs.iter();
+        return runs.map(|run| add(run, load_run(folder, run))).collect();
+    }
     let next = AtomicUsize::new(0);
     let (sender, receiver) = mpsc::channel();
     thread::scope(|scope| {
         let mut is_started = false;
-        for _ in 0..if threads > 1 { threads } else { 0 } {
+        for _ in 0..threads {
             let (next, sender) = (&next, sender.clone());
             let reader = thread::Builder::new().name("ucstore-reader".into());
             let started = reader.spawn_scoped(scope, move || load_all(folder, list, next, &sender));
@@ -47,12 +56,8 @@ pub(crate) fn add_runs(
             early: BTreeMap::new(),
         };
         let runs = list.runs.iter().enumerate();
-        let added = runs.map(|(place, run)| {
-            let id = add_run(store, run, loaded.take(place)?)?;
-            tell(run);
-            Ok((id, *run))
-        });
-        added.collect()
+        runs.map(|(place, run)| add(run, loaded.take(place)))
+            .collect()
     })
 }
 
