@@ -2,7 +2,7 @@
 
 mod common;
 
-use common::{map_of, seed, Device, Map, Numbers};
+use common::{is_long, map_of, seed, Device, Map, Numbers};
 use std::collections::BTreeMap;
 use std::sync::atomic::{AtomicBool, AtomicU64, Ordering};
 use std::sync::Arc;
@@ -294,9 +294,12 @@ fn checkpoints_beside_writers_end_with_a_batch() {
             scope.spawn(move || write_numbers(db, thread, acknowledged))
         }));
         scope.spawn(|| {
+            let mut numbers = Numbers(seed(23));
             while !is_over.load(Ordering::SeqCst) {
                 let least = acknowledged.each_ref().map(|it| it.load(Ordering::SeqCst));
                 check_numbers(&device.restarted(), &least);
+                // No write is synced, so a crash may lose the last ones.
+                check_numbers(&device.crash(&mut numbers), &[0; 4]);
             }
         });
         for writer in writers {
@@ -311,7 +314,7 @@ fn checkpoints_beside_writers_end_with_a_batch() {
 
 /// Writes numbers, each to two keys of a thread: by small batches, by one that is larger than a memtable, and by transactions.
 fn write_numbers(db: &Db, thread: u8, acknowledged: &AtomicU64) {
-    for number in 1..=150u64 {
+    for number in 1..=if is_long() { 5000 } else { 500u64 } {
         let bytes = number.to_le_bytes();
         let (one, other) = ([thread, b'a'], [thread, b'b']);
         if number % 5 == 0 {

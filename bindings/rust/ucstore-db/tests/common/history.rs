@@ -3,7 +3,7 @@
 use super::{Device, Numbers};
 use std::collections::BTreeMap;
 use std::sync::Arc;
-use ucstore_db::{Batch, Db, Error, Operator, Options, Sync};
+use ucstore_db::{Batch, Db, Error, Operator, Options, Snapshot, Sync};
 
 pub type Map = BTreeMap<Vec<u8>, Vec<u8>>;
 
@@ -25,6 +25,10 @@ pub enum Step {
     Flush,
     Compact,
     Checkpoint,
+    /// A snapshot is taken, for the next checkpoint of one.
+    Hold,
+    /// A checkpoint of the snapshot that was taken last, if there is one.
+    CheckpointTo,
     Reopen,
 }
 
@@ -55,6 +59,8 @@ pub struct Run {
     pub db: Option<Db>,
     /// The first refusal.
     pub error: Option<Error>,
+    /// The snapshot that was taken last.
+    held: Option<Snapshot>,
 }
 
 impl Operation {
@@ -110,12 +116,14 @@ impl Histories {
 
 impl History {
     fn add(&mut self, numbers: &mut Numbers) {
-        let step = match numbers.below(20) {
+        let step = match numbers.below(22) {
             0 => Step::Sync,
             1 => Step::Flush,
             2 => Step::Compact,
             3..=4 => Step::Checkpoint,
             5 => Step::Reopen,
+            6 => Step::Hold,
+            7 => Step::CheckpointTo,
             _ => Step::Write(self.batches.len(), numbers.below(3) > 0),
         };
         if let Step::Write(..) = step {
@@ -151,6 +159,7 @@ impl History {
         run.db = Some(open(device)?);
         for step in &self.steps {
             if let Step::Reopen = step {
+                run.held = None;
                 run.db.take().expect("a database").close()?;
                 run.kept = run.acknowledged;
                 run.db = Some(open(device)?);
@@ -184,6 +193,18 @@ impl History {
                 }
                 outcome => outcome?,
             },
+            Step::Hold => {
+                run.held = Some(db.snapshot()?);
+                return Ok(());
+            }
+            Step::CheckpointTo => {
+                let outcome = run.held.take().map(|held| db.checkpoint_to(&held));
+                match outcome.unwrap_or(Ok(())) {
+                    Err(error @ Error::File { .. }) => drop(run.error.get_or_insert(error)),
+                    outcome => outcome?,
+                }
+                return Ok(());
+            }
             Step::Reopen => {}
         }
         run.kept = run.acknowledged;
