@@ -35,7 +35,7 @@ static uint64_t now(void) {
     return (uint64_t)time.tv_sec * 1000000000 + (uint64_t)time.tv_nsec;
 }
 
-/* The time that processors have spent on the process, in microseconds. */
+/* Processor time of the process in microseconds. */
 static uint64_t processor_time(void) {
     struct rusage usage;
     getrusage(RUSAGE_SELF, &usage);
@@ -43,7 +43,7 @@ static uint64_t processor_time(void) {
            (uint64_t)(usage.ru_utime.tv_usec + usage.ru_stime.tv_usec);
 }
 
-/* A line of the process's status, in kB. */
+/* Returns a figure of the process's status in kB. */
 static uint64_t memory(const char *name) {
     char line[256];
     uint64_t found = 0;
@@ -59,7 +59,7 @@ static uint64_t memory(const char *name) {
     return found;
 }
 
-/* The next number of a sequence of drawn ones. */
+/* Draws the next number. */
 static uint64_t draw(uint64_t *state) {
     *state ^= *state << 13;
     *state ^= *state >> 7;
@@ -67,7 +67,7 @@ static uint64_t draw(uint64_t *state) {
     return *state;
 }
 
-/* How often another thread took this one's processor. */
+/* Returns the number of times that another thread took this one's processor. */
 static long preemptions(void) {
     struct rusage usage;
     getrusage(RUSAGE_THREAD, &usage);
