@@ -46,6 +46,10 @@ STEPS = (
     ("unlink", ".run"), ("unlink", ".runs"), ("unlink", ".log"), ("unlink", ".base"))
 
 
+# The parts of the states that calls have which change names. Other calls have 1.
+PARTS = {"rename": 6, "unlink": 6, "create": 2, "syncdir": 2}
+
+
 class Plan(NamedTuple):
     """The kind of a job."""
 
@@ -131,16 +135,16 @@ class Job:
         """Crashes after each call of a trace."""
         with trace.open("rb") as file:
             calls = list(calls_of(file))
-        count = sum(call.kind != "mark" for call in calls) or 1
+        parts = sum(PARTS.get(call.kind, 1) for call in calls if call.kind != "mark") or 1
         # Some were seen before, so more are made, as long as each call has its part.
-        share = self.plan.states / count / (1 if depth == 0 else 4)
+        share = self.plan.states / parts / (1 if depth == 0 else 4)
         left = 0.0
         for call in calls:
             if call.kind == "mark":
                 self._hear(promise, call)
                 continue
             device.apply(call)
-            left += share
+            left += share * PARTS.get(call.kind, 1)
             for _ in range(math.ceil(2 * left)):
                 if left > 0 and (left >= 1 or self.drawn.random() < left):
                     left -= self._crash(device, promise, depth)
@@ -153,7 +157,7 @@ class Job:
 
     def _crash(self, device: Device, promise: Promise, depth: int) -> bool:
         """Makes a state, and opens it, unless that was done before. Returns whether it was new."""
-        kind = self.drawn.choice(Device.KINDS)
+        kind = "names" if device.changes and self.drawn.random() < 0.3 else self.drawn.choice(Device.KINDS)
         files = device.crashed(kind, self.drawn)
         digest = hashlib.sha256(repr((depth, promise.key(), kind == "process")).encode())
         for name, data in sorted((files or {}).items()):

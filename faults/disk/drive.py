@@ -2,8 +2,8 @@
 
     drive.py STORE FOLDER MODE SEED STEPS
 
-Batch N puts a value under a key of its own, and N under one key. It puts a second key of its own, and deletes those of the batches
-before it. The marks are `try N`, `ack N SYNCED`, `refused N FINAL`, `synced` once all that was acknowledged is on the device, and
+Batch N puts a value under a key of its own. Two of three also put N under one key and under a second key of their own, and delete the
+second keys of the batches before. The marks are `try N`, `ack N SYNCED`, `refused N FINAL`, `synced` once all that was acknowledged is on the device, and
 `opened N..` with the batches that an opening found.
 """
 
@@ -30,9 +30,10 @@ def rows_of(seed: int, number: int) -> Dict[bytes, Optional[bytes]]:
     most = drawn.choices((200, 5_000, 70_000), (14, 5, 1))[0]
     text = b"%d." % number
     size = drawn.randint(1, most)
-    found: Dict[bytes, Optional[bytes]] = {b"t%06d" % before: None for before in range(max(number - DELETED, 0), number)}
-    found[b"k%06d" % number] = (text * (size // len(text) + 1))[:size]
-    found[b"t%06d" % number] = found[LAST] = b"%d" % number
+    found: Dict[bytes, Optional[bytes]] = {b"k%06d" % number: (text * (size // len(text) + 1))[:size]}
+    if number % 3 != 1:
+        found.update({b"t%06d" % before: None for before in range(max(number - DELETED, 0), number)})
+        found[b"t%06d" % number] = found[LAST] = b"%d" % number
     return found
 
 
