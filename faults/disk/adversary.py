@@ -107,7 +107,11 @@ class Job:
             return [{"DISK_FAIL": self._fault(self.drawn.choice(FAULTS), "*", 60)}, {}]
         if kind < 0.5:
             return [{"DISK_FAIL": self._fault(*self.drawn.choice(STEPS), 6)}, {}]
-        if kind < 0.7:
+        if kind < 0.57:
+            # The next opening finds what a killed process left, and a call of its own fails.
+            fault = self._fault(self.drawn.choice(FAULTS), "*", 20)
+            return [{"DISK_STOP": str(self.drawn.randint(20, 150))}, {"DISK_FAIL": fault}, {}]
+        if kind < 0.75:
             return [{"DISK_STOP": str(self.drawn.randint(3, 120))}, {"DISK_STOP": str(self.drawn.randint(3, 120))}, {}]
         return [{}]
 
@@ -203,7 +207,8 @@ class Job:
         device = Device(str(root), files, self.plan.lie)
         device.adopt()
         try:
-            trace = self._record(root, [{}], self.drawn.randint(3, 12))
+            history = {"DISK_FAIL": self._fault(self.drawn.choice(FAULTS), "*", 10)} if self.drawn.random() < 0.3 else {}
+            trace = self._record(root, [history], self.drawn.randint(3, 12))
         except Wrong as wrong:
             self._tell("on", str(wrong), files)
             return
