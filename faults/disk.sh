@@ -2,16 +2,17 @@
 # Tries the durable database on what a disk may hold after a crash, from outside: its calls are recorded, and so is what file
 # systems write.
 #
-#     faults/disk.sh [control] [lies] [model] [backups] [machines]
+#     faults/disk.sh [control] [lies] [model] [calls] [backups] [machines]
 #
-# Without words it does all five.
+# Without words it does all six.
 # - control: a small log of the test's own, which is right, passes.
 # - lies: if a device keeps less than it says, that is found.
 # - model: the database, on a device that keeps any sectors, pages and names of what wasn't synced.
+# - calls: the same, where each call of a checkpoint fails, by EIO, by ENOSPC, and by EIO after its work.
 # - backups: backups on such a device while the database is written to, linked and copied: each is absent or whole.
 # - machines: the database on ext4 and xfs in files that are mounted. That needs root, loop devices and FUSE; else it says so.
 #
-# It takes about two minutes, and with LONG=1 it opens 70,000 states. SEED (1) is the seed. Each part ends with `N states,
+# It takes about three minutes, and with LONG=1 it opens 70,000 states. SEED (1) is the seed. Each part ends with `N states,
 # M wrong`, and the status is 1 where a state was wrong. Needs cc, python3 and cargo. UCSTORE_LIB_DIR may name the directory of
 # libucstore.a and libucstore.so.2; else tools/install puts them into a temporary one. UCSTORE_DB_LIBRARY may name the
 # database's own library.
@@ -26,6 +27,7 @@ export PATH=$PATH:${CARGO_HOME:-$HOME/.cargo}/bin
 seed=${SEED:-1}
 few=400
 most=6000
+each=1
 backups=2000
 images=20
 steps=80
@@ -33,6 +35,7 @@ histories=1
 if [ -n "${LONG:-}" ]; then
     few=3000
     most=50000
+    each=6
     backups=20000
     images=250
     steps=250
@@ -108,6 +111,10 @@ try_model() {
     try model adversary --states "$most"
 }
 
+try_calls() {
+    try calls adversary --each "$each" --most 20
+}
+
 try_backups() {
     try backups backups --states "$backups"
 }
@@ -121,10 +128,10 @@ check_needs
 find_library
 build
 parts=("$@")
-if [ $# -eq 0 ]; then parts=(control lies model backups machines); fi
+if [ $# -eq 0 ]; then parts=(control lies model calls backups machines); fi
 for part in "${parts[@]}"; do
     case $part in
-        control | lies | model | backups | machines) "try_$part" ;;
+        control | lies | model | calls | backups | machines) "try_$part" ;;
         *) fail "there is no part $part" ;;
     esac
 done

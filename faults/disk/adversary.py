@@ -1,10 +1,11 @@
 """Opens what a device may hold after each call of a store, and compares it with what was acknowledged.
 
-    adversary.py [--store NAME] [--states N] [--seed N] [--jobs N] [--lie data|names] [--keep FOLDER]
+    adversary.py [--store NAME] [--states N] [--seed N] [--jobs N] [--lie data|names] [--each N] [--keep FOLDER]
 
 A store is driven in a process whose calls are recorded (record.c). Some of these fail, and some processes are killed and started
-again. At each call device.py makes what a crash may leave, and that is opened. Some of it is driven on, and crashes again. With
---lie the device doesn't keep what it says: then something has to be found. The last line is `N states, M wrong`, and the status is
+again. At each call device.py makes what a crash may leave, and that is opened. Some of it is driven on, and crashes again. Some histories
+begin with a directory that an older version wrote. With --each, N calls of each step of a checkpoint fail, each in a process of its
+own. With --lie the device doesn't keep what it says: then something has to be found. The last line is `N states, M wrong`, and the status is
 1 if there is a wrong one.
 """
 
@@ -14,6 +15,8 @@ import argparse
 import collections
 import concurrent.futures
 import hashlib
+import itertools
+import math
 import os
 import random
 import re
@@ -25,12 +28,26 @@ from pathlib import Path
 from typing import Any, Callable, Counter, Dict, Iterator, List, NamedTuple, Optional
 
 from device import Call, Device, Files, calls_of
+from drive import rows_after
+from leftovers import leftovers_of
 from promise import Promise, Wrong, open_batches
-from stores import STORES
+from stores import MODES, STORES, Database
 
 HERE = Path(__file__).parent
 
-MODES = ("always", "every", "never")
+# The kinds of calls that fail, and the errors.
+FAULTS = ("sync", "sync", "syncdir", "write", "create", "rename", "unlink", "read", "any")
+ERRORS = ("io", "space", "late")
+
+# The calls of a checkpoint, by their kinds and the endings of their paths.
+STEPS = (
+    ("create", ".run"), ("write", ".run"), ("sync", ".run"), ("read", ".run"), ("syncdir", "*"), ("create", ".runs.new"),
+    ("write", ".runs.new"), ("sync", ".runs.new"), ("rename", ".runs"), ("read", ".runs"), ("rename", ".base"), ("create", ".log"),
+    ("unlink", ".run"), ("unlink", ".runs"), ("unlink", ".log"), ("unlink", ".base"))
+
+
+# The parts of the states that calls have which change names. Other calls have 1.
+PARTS = {"rename": 6, "unlink": 6, "create": 2, "syncdir": 2}
 
 
 class Plan(NamedTuple):
@@ -41,6 +58,8 @@ class Plan(NamedTuple):
     states: int
     lie: str
     keep: Optional[str]
+    # The call that fails, as record.c reads it.
+    fault: Optional[str] = None
 
 
 class Told(NamedTuple):
@@ -48,6 +67,8 @@ class Told(NamedTuple):
 
     counts: Counter[str]
     wrong: List[str]
+    # The numbers of states that have files of a kind.
+    files: Counter[str] = collections.Counter()
 
 
 class Job:
@@ -58,30 +79,46 @@ class Job:
         self.drawn = random.Random(f"{plan.store} {plan.seed}")
         self.mode = self.drawn.choice(MODES)
         self.counts: Counter[str] = collections.Counter()
+        self.files: Counter[str] = collections.Counter()
         self.wrong: List[str] = []
         self.seen: Dict[bytes, None] = {}
 
     def run(self) -> Told:
         root = self.work / "root"
-        root.mkdir()
+        number = self.drawn.randint(1, 30) if self.plan.store == "database" and self.drawn.random() < 0.15 else 0
+        written = list(range(1, number + 1))
+        files = Database.older(rows_after(self.plan.seed, written)) if written else None
+        self._write(root, files)
+        device = Device(str(root), files, self.plan.lie)
+        device.adopt()
         trace = self._record(root, self._histories(), self.drawn.randint(15, 60))
-        self._try(trace, Device(str(root), lie=self.plan.lie), Promise([]), 0)
-        return Told(self.counts, self.wrong)
+        self._try(trace, device, Promise(written), 0)
+        return Told(self.counts, self.wrong, self.files)
 
     def _histories(self) -> List[Dict[str, str]]:
         """The fates of the processes of a history, one after the other."""
+        if self.plan.fault is not None:
+            return [{"DISK_FAIL": self.plan.fault}, {}]
         kind = self.drawn.random()
-        fault = self.drawn.choice(("sync", "sync", "syncdir", "write", "any"))
-        # An opening fails rather often.
-        left = self.drawn.choice((self.drawn.randint(0, 6), self.drawn.randint(0, 60)))
         if kind < 0.05:
             # The directory's own name isn't synced, and the next opening finds the directory.
-            return [{"DISK_FAIL": "syncdir:0"}, {}]
-        if kind < 0.35:
-            return [{"DISK_FAIL": f"{fault}:{left}"}, {}]
-        if kind < 0.7:
+            return [{"DISK_FAIL": "syncdir:0:1:io:*"}, {}]
+        if kind < 0.25:
+            return [{"DISK_FAIL": self._fault(self.drawn.choice(FAULTS), "*", 60)}, {}]
+        if kind < 0.5:
+            return [{"DISK_FAIL": self._fault(*self.drawn.choice(STEPS), 6)}, {}]
+        if kind < 0.57:
+            # The next opening finds what a killed process left, and a call of its own fails.
+            fault = self._fault(self.drawn.choice(FAULTS), "*", 20)
+            return [{"DISK_STOP": str(self.drawn.randint(20, 150))}, {"DISK_FAIL": fault}, {}]
+        if kind < 0.75:
             return [{"DISK_STOP": str(self.drawn.randint(3, 120))}, {"DISK_STOP": str(self.drawn.randint(3, 120))}, {}]
         return [{}]
+
+    def _fault(self, kind: str, ending: str, most: int) -> str:
+        """A call that fails, as record.c reads it. An opening fails rather often."""
+        left = self.drawn.choice((self.drawn.randint(0, 6), self.drawn.randint(0, most)))
+        return f"{kind}:{left}:{self.drawn.choice((1, 1, 2, 20))}:{self.drawn.choice(ERRORS)}:{ending}"
 
     def _record(self, root: Path, histories: List[Dict[str, str]], steps: int) -> Path:
         """Drives the store in a directory, by processes one after the other. Returns their trace."""
@@ -102,20 +139,19 @@ class Job:
         """Crashes after each call of a trace."""
         with trace.open("rb") as file:
             calls = list(calls_of(file))
-        share = self._share(calls, depth)
+        parts = sum(PARTS.get(call.kind, 1) for call in calls if call.kind != "mark") or 1
+        # Some were seen before, so more are made, as long as each call has its part.
+        share = self.plan.states / parts / (1 if depth == 0 else 4)
+        left = 0.0
         for call in calls:
             if call.kind == "mark":
                 self._hear(promise, call)
                 continue
             device.apply(call)
-            for _ in range(int(share) + (self.drawn.random() < share % 1)):
-                if len(self.seen) < self.plan.states:
-                    self._crash(device, promise, depth)
-
-    def _share(self, calls: List[Call], depth: int) -> float:
-        """The number of states that are made after a call."""
-        count = sum(call.kind != "mark" for call in calls) or 1
-        return (2 if depth == 0 else 0.5) * self.plan.states / count
+            left += share * PARTS.get(call.kind, 1)
+            for _ in range(math.ceil(2 * left)):
+                if left > 0 and (left >= 1 or self.drawn.random() < left):
+                    left -= self._crash(device, promise, depth)
 
     def _hear(self, promise: Promise, call: Call) -> None:
         try:
@@ -123,25 +159,31 @@ class Job:
         except Wrong as wrong:
             self._tell("live", f"an opening finds otherwise: {wrong}", {})
 
-    def _crash(self, device: Device, promise: Promise, depth: int) -> None:
-        """Makes a state, and opens it, unless that was done before."""
-        kind = self.drawn.choice(Device.KINDS)
+    def _crash(self, device: Device, promise: Promise, depth: int) -> bool:
+        """Makes a state, and opens it, unless that was done before. Returns whether it was new."""
+        kind = "names" if device.changes and self.drawn.random() < 0.3 else self.drawn.choice(Device.KINDS)
         files = device.crashed(kind, self.drawn)
         digest = hashlib.sha256(repr((depth, promise.key(), kind == "process")).encode())
         for name, data in sorted((files or {}).items()):
             digest.update(b"%s %d " % (name.encode(), len(data)) + data)
         if digest.digest() in self.seen:
-            return
+            return False
         self.seen[digest.digest()] = None
         self.counts[kind] += 1
+        has_leftovers = bool(leftovers_of(files or {}))
+        for name in {name.rpartition(".")[2] for name in files or {} if "." in name}:
+            self.files[f".{name}"] += 1
+        self.files["leftovers"] += has_leftovers
         try:
             found = self._open(files)
             promise.check(found, kind == "process")
         except Wrong as wrong:
             self._tell(kind, str(wrong), files or {})
-            return
-        if depth < 2 and self.drawn.random() < 0.02:
+            return True
+        # The next process removes what is left over, and crashes at each call of that too.
+        if depth < 2 and self.drawn.random() < (0.05 if has_leftovers else 0.02):
             self._go_on(files or {}, found, depth)
+        return True
 
     def _write(self, root: Path, files: Optional[Files]) -> None:
         shutil.rmtree(root, ignore_errors=True)
@@ -165,14 +207,15 @@ class Job:
         device = Device(str(root), files, self.plan.lie)
         device.adopt()
         try:
-            trace = self._record(root, [{}], self.drawn.randint(3, 12))
+            history = {"DISK_FAIL": self._fault(self.drawn.choice(FAULTS), "*", 10)} if self.drawn.random() < 0.3 else {}
+            trace = self._record(root, [history], self.drawn.randint(3, 12))
         except Wrong as wrong:
             self._tell("on", str(wrong), files)
             return
         self._try(trace, device, Promise(found), depth + 1)
 
     def _tell(self, kind: str, text: str, files: Files) -> None:
-        name = f"{self.plan.store} seed {self.plan.seed} {self.mode} {kind}"
+        name = f"{self.plan.store} seed {self.plan.seed} {self.mode} {self.plan.fault or ''} {kind}"
         self.wrong.append(f"{name}: {text}")
         if self.plan.keep is not None:
             kept = Path(self.plan.keep) / f"{name.replace(' ', '-')}-{len(self.wrong)}"
@@ -193,11 +236,14 @@ def run_job(plan: Plan) -> Told:
 
 
 def plans_of(arguments: argparse.Namespace) -> Iterator[Plan]:
-    """Jobs without end."""
-    number = 0
-    while True:
-        yield Plan(arguments.store, 100_000 * arguments.seed + number, arguments.most, arguments.lie, arguments.keep)
-        number += 1
+    """Jobs without end, or one for each call that fails and each error."""
+    seed = 100_000 * arguments.seed
+    if arguments.each == 0:
+        for number in itertools.count():
+            yield Plan(arguments.store, seed + number, arguments.most, arguments.lie, arguments.keep)
+    for number, (kind, ending), error in itertools.product(range(arguments.each), STEPS, ERRORS):
+        fault = f"{kind}:{number}:1:{error}:{ending}"
+        yield Plan(arguments.store, seed + number, arguments.most, arguments.lie, arguments.keep, fault)
 
 
 def tell_wrong(wrong: List[str]) -> None:
@@ -213,9 +259,10 @@ def read_arguments() -> argparse.Namespace:
     parser = argparse.ArgumentParser(description="Opens what a device may hold after each call of a store.")
     parser.add_argument("--store", choices=sorted(STORES), default="database")
     parser.add_argument("--states", type=int, default=2000, help="how many states are opened at least")
-    parser.add_argument("--most", type=int, default=250, help="how many of them a history has at most")
+    parser.add_argument("--most", type=int, default=100, help="about how many of them a history has")
     parser.add_argument("--seed", type=int, default=1)
     parser.add_argument("--jobs", type=int, default=2)
+    parser.add_argument("--each", type=int, default=0, help="number of calls of each step that fail")
     parser.add_argument("--lie", choices=("", "data", "names"), default="", help="which syncs do nothing")
     parser.add_argument("--keep", help="where wrong states are kept")
     return parser.parse_args()
@@ -224,25 +271,29 @@ def read_arguments() -> argparse.Namespace:
 def run_all(run: Callable[[Any], Told], plans: Iterator[Any], states: int, jobs: int) -> int:
     """Does jobs until they have opened a number of states, and tells what they found. Returns the status of the program."""
     counts: Counter[str] = collections.Counter()
+    files: Counter[str] = collections.Counter()
     wrong: List[str] = []
     with concurrent.futures.ProcessPoolExecutor(jobs) as pool:
-        waiting = {pool.submit(run, next(plans)) for _ in range(2 * jobs)}
+        waiting = {pool.submit(run, plan) for plan in itertools.islice(plans, 2 * jobs)}
         while waiting:
             done, waiting = concurrent.futures.wait(waiting, return_when=concurrent.futures.FIRST_COMPLETED)
             for told in (future.result() for future in done):
                 counts.update(told.counts)
+                files.update(told.files)
                 wrong.extend(told.wrong)
                 if sum(counts.values()) < states:
-                    waiting.add(pool.submit(run, next(plans)))
+                    waiting.update(pool.submit(run, plan) for plan in itertools.islice(plans, 1))
     tell_wrong(wrong)
-    print(", ".join(f"{kind} {count}" for kind, count in sorted(counts.items())))
+    for shown in filter(None, (counts, files)):
+        print(", ".join(f"{kind} {count}" for kind, count in sorted(shown.items())))
     print(f"{sum(counts.values())} states, {len(wrong)} wrong")
     return 1 if wrong else 0
 
 
 def main() -> int:
     arguments = read_arguments()
-    return run_all(run_job, plans_of(arguments), arguments.states, arguments.jobs)
+    states = arguments.states if arguments.each == 0 else sys.maxsize
+    return run_all(run_job, plans_of(arguments), states, arguments.jobs)
 
 
 if __name__ == "__main__":

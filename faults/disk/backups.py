@@ -21,10 +21,10 @@ import tempfile
 from pathlib import Path
 from typing import Callable, Counter, Dict, Iterator, List, NamedTuple, Optional
 
-from adversary import MODES, Told, run_all
+from adversary import Told, run_all
 from device import Call, calls_of
 from promise import Promise, Wrong, open_batches
-from stores import Database
+from stores import MODES, Database
 from tree import Tree
 
 HERE = Path(__file__).parent

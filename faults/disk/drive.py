@@ -2,8 +2,9 @@
 
     drive.py STORE FOLDER MODE SEED STEPS
 
-Batch N puts a value under a key of its own, and N under one key. The marks are `try N`, `ack N SYNCED`, `refused N FINAL`,
-`synced` once all that was acknowledged is on the device, and `opened N..` with the batches that an opening found.
+Batch N puts a value under a key of its own. Two of three also put N under one key and under a second key of their own, and delete the
+second keys of the batches before. The marks are `try N`, `ack N SYNCED`, `refused N FINAL`, `synced` once all that was acknowledged is on the device, and
+`opened N..` with the batches that an opening found.
 """
 
 from __future__ import annotations
@@ -13,29 +14,45 @@ import os
 import random
 import sys
 from pathlib import Path
-from typing import Callable, Dict, List
+from typing import Callable, Dict, List, Optional
 
 from stores import STORES, Refused
 
 LAST = b"last"
 
+# The number of batches whose second key a batch deletes. As many in a row may be refused.
+DELETED = 4
 
-def rows_of(seed: int, number: int) -> Dict[bytes, bytes]:
-    """The rows of a batch. Few are long."""
+
+def rows_of(seed: int, number: int) -> Dict[bytes, Optional[bytes]]:
+    """The rows of a batch, with None for a key that it deletes. Few are long."""
     drawn = random.Random(f"{seed} {number}")
     most = drawn.choices((200, 5_000, 70_000), (14, 5, 1))[0]
     text = b"%d." % number
     size = drawn.randint(1, most)
-    return {b"k%06d" % number: (text * (size // len(text) + 1))[:size], LAST: b"%d" % number}
+    found: Dict[bytes, Optional[bytes]] = {b"k%06d" % number: (text * (size // len(text) + 1))[:size]}
+    if number % 3 != 1:
+        found.update({b"t%06d" % before: None for before in range(max(number - DELETED, 0), number)})
+        found[b"t%06d" % number] = found[LAST] = b"%d" % number
+    return found
+
+
+def rows_after(seed: int, numbers: List[int]) -> Dict[bytes, bytes]:
+    """The rows after batches."""
+    rows: Dict[bytes, bytes] = {}
+    for number in numbers:
+        for key, value in rows_of(seed, number).items():
+            if value is None:
+                rows.pop(key, None)
+            else:
+                rows[key] = value
+    return rows
 
 
 def batches_of(seed: int, rows: Dict[bytes, bytes]) -> List[int]:
     """The batches that rows are of. Raises ValueError if they are of parts."""
-    numbers = sorted(int(key[1:]) for key in rows if key != LAST)
-    wanted: Dict[bytes, bytes] = {}
-    for number in numbers:
-        wanted.update(rows_of(seed, number))
-    if wanted != rows:
+    numbers = sorted(int(key[1:]) for key in rows if key.startswith(b"k"))
+    if rows_after(seed, numbers) != rows:
         raise ValueError("the rows are of no batches")
     return numbers
 
@@ -82,10 +99,10 @@ class Drive:
             if refused.is_final:
                 self._reopen()
         else:
-            self._mark(f"ack {number} {int(is_synced or self._mode == 'always')}")
+            self._mark(f"ack {number} {int(is_synced or self._mode.startswith('always'))}")
 
-    def _sync(self) -> None:
-        if self._store.sync():
+    def _sync(self, is_done: bool) -> None:
+        if is_done:
             self._mark("synced")
 
     def run(self, steps: int, drawn: random.Random) -> None:
@@ -94,12 +111,21 @@ class Drive:
             step = drawn.random()
             if step < 0.03:
                 self._reopen()
-            elif step < 0.06:
-                self._store.checkpoint()
-            elif step < 0.08:
-                self._store.next_log()
+            elif step < 0.07:
+                # It ends a log, as the next step does: so all of that is on the device.
+                self._sync(self._store.checkpoint())
+            elif step < 0.09:
+                self._sync(self._store.next_log())
             elif step < 0.11:
-                self._sync()
+                self._sync(self._store.sync())
+            elif step < 0.14:
+                self._store.hold()
+            elif step < 0.17:
+                self._store.checkpoint_to()
+            elif step < 0.19:
+                self._store.flush()
+            elif step < 0.21:
+                self._store.compact()
             else:
                 self._write(drawn.random() < 0.3)
         if self._store.close():

@@ -39,7 +39,7 @@ class Backups:
             is_synced = drawn.random() < 0.2
             self._mark(f"try {number}")
             self._db.write(rows_of(self._seed, number), is_synced)
-            self._mark(f"ack {number} {int(is_synced or self._mode == 'always')}")
+            self._mark(f"ack {number} {int(is_synced or self._mode.startswith('always'))}")
             self._last = number
             self._is_over.wait(drawn.choice((0, 0.001, 0.003)))
 

@@ -22,9 +22,9 @@ from contextlib import contextmanager
 from pathlib import Path
 from typing import BinaryIO, Iterator, List, NamedTuple, Tuple
 
-from adversary import MODES, tell_wrong
+from adversary import tell_wrong
 from promise import Promise, Wrong, open_batches
-from stores import STORES
+from stores import MODES, STORES
 
 HERE = Path(__file__).parent
 

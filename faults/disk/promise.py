@@ -7,6 +7,7 @@ from pathlib import Path
 from typing import List, Optional, Tuple
 
 from drive import batches_of
+from leftovers import leftovers_of
 from stores import STORES
 
 # The longest time of an opening, in seconds.
@@ -59,14 +60,29 @@ class Promise:
 
 
 def open_batches(store: str, folder: Path, mode: str, seed: int) -> List[int]:
-    """The batches that an opening finds."""
+    """The batches that an opening finds. A second one finds the same, also if the first one changed the directory."""
     # One that hangs ends all.
     signal.alarm(PATIENCE)
     try:
         opened = STORES[store](folder, mode)
         found = batches_of(seed, opened.rows())
+        # By the first of these an opening removes what is left over.
+        work = (None, opened.next_log, opened.checkpoint)[len(found) % 3]
+        is_done = work is None or work()
         opened.close()
+        if not is_done:
+            raise Wrong("a directory can't be written to")
+        left = leftovers_of({file.name: file.read_bytes() for file in folder.iterdir()}) if work == opened.checkpoint else []
+        if left:
+            raise Wrong(f"a checkpoint leaves {left}")
+        again = STORES[store](folder, mode)
+        second = batches_of(seed, again.rows())
+        again.close()
+        if second != found:
+            raise Wrong(f"a second opening has {len(second)} batches, and not {len(found)}")
         return found
+    except Wrong:
+        raise
     except Exception as error:
         raise Wrong(f"{type(error).__name__}: {error}") from None
     finally:

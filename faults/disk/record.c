@@ -6,9 +6,11 @@
  *     create INODE PATH   write INODE OFFSET LENGTH   cut INODE LENGTH   sync INODE   lost INODE
  *     mkdir PATH   syncdir PATH   rename FROM TO   link FROM TO   unlink PATH   mark TEXT
  *
- * `lost` is a sync that failed. DISK_FAIL=KIND:N lets the Nth call of a kind fail by EIO: sync, syncdir, write, or any. A write
- * that fails has written its first half. DISK_STOP=N ends the process after its Nth call, as signal 9 does. With DISK_LINKS=no a link
- * fails by EXDEV, as between file systems. One call goes at a time, so that the order of the lines is the order of the calls. */
+ * `lost` is a sync that failed. DISK_FAIL=KIND:N:COUNT:ERROR:ENDING lets COUNT calls of a kind fail, after N of them: sync, syncdir, write,
+ * create, rename, unlink, read, or any of these. Calls whose path has another ENDING don't count; `*` has each. They fail by EIO if
+ * ERROR is `io`, and by ENOSPC if it is `space`; if it is `late`, by EIO after they have done their work. A write that fails else has written
+ * its first half. DISK_STOP=N ends the process after its Nth call, as signal 9 does. With DISK_LINKS=no a link fails by EXDEV, as between
+ * file systems. One call goes at a time, so that the order of the lines is the order of the calls. */
 #define _GNU_SOURCE
 #include <dlfcn.h>
 #include <errno.h>
@@ -29,8 +31,8 @@
 static pthread_mutex_t one_at_a_time = PTHREAD_MUTEX_INITIALIZER;
 static char root[PATH_MAX];
 static int trace = -1;
-static char fail_kind[16];
-static long fail_left = -1, stop_left = -1;
+static char fail_kind[16], fail_error[16], fail_ending[16];
+static long fail_left = -1, fail_count, stop_left = -1;
 
 /* Work that is done without a record. */
 static int real_open(const char *path, int flags, mode_t mode) {
@@ -52,7 +54,7 @@ __attribute__((constructor)) static void begin(void) {
     if (trace < 0) {
         die(name);
     }
-    if (fail != NULL && sscanf(fail, "%15[a-z]:%ld", fail_kind, &fail_left) != 2) {
+    if (fail != NULL && sscanf(fail, "%15[a-z]:%ld:%ld:%15[a-z]:%15s", fail_kind, &fail_left, &fail_count, fail_error, fail_ending) != 5) {
         errno = EINVAL;
         die("DISK_FAIL");
     }
@@ -87,12 +89,31 @@ static void count_call(void) {
     }
 }
 
-/* Whether this call is the one that fails. */
-static bool fails(const char *kind) {
-    if (fail_left < 0 || (strcmp(fail_kind, kind) != 0 && strcmp(fail_kind, "any") != 0)) {
+static bool ends(const char *path) {
+    size_t length = strlen(path), ending = strlen(fail_ending);
+    return strcmp(fail_ending, "*") == 0 || (length >= ending && strcmp(path + length - ending, fail_ending) == 0);
+}
+
+/* Whether this call is one that fails. */
+static bool fails(const char *kind, const char *path) {
+    if (fail_count <= 0 || (strcmp(fail_kind, kind) != 0 && strcmp(fail_kind, "any") != 0) || !ends(path)) {
         return false;
     }
-    return fail_left-- == 0;
+    if (fail_left > 0) {
+        fail_left--;
+        return false;
+    }
+    fail_count--;
+    return true;
+}
+
+/* Whether a call that fails does its work. */
+static bool is_late(void) {
+    return strcmp(fail_error, "late") == 0;
+}
+
+static int failure(void) {
+    return strcmp(fail_error, "space") == 0 ? ENOSPC : EIO;
 }
 
 static bool is_below(const char *path) {
@@ -159,9 +180,12 @@ static int open_told(int directory, const char *name, int flags, mode_t mode) {
         return (int)syscall(SYS_openat, directory, name, flags, mode);
     }
     pthread_mutex_lock(&one_at_a_time);
-    bool was_there = access(path, F_OK) == 0, is_directory;
-    int file = (int)syscall(SYS_openat, directory, name, flags, mode);
-    int error = errno;
+    bool was_there = access(path, F_OK) == 0, is_directory, is_failing = !was_there && fails("create", path);
+    int file = -1, error = failure();
+    if (!is_failing || is_late()) {
+        file = (int)syscall(SYS_openat, directory, name, flags, mode);
+        error = errno;
+    }
     if (file >= 0) {
         uint64_t inode = inode_of(file, &is_directory);
         if (!was_there) {
@@ -170,6 +194,11 @@ static int open_told(int directory, const char *name, int flags, mode_t mode) {
         } else if ((flags & O_TRUNC) != 0) {
             tell("cut\t%" PRIu64 "\t0\n", inode);
             count_call();
+        }
+        if (is_failing) {
+            close(file);
+            file = -1;
+            error = failure();
         }
     }
     pthread_mutex_unlock(&one_at_a_time);
@@ -205,10 +234,10 @@ ssize_t write(int file, const void *bytes, size_t length) {
         return syscall(SYS_write, file, bytes, length);
     }
     pthread_mutex_lock(&one_at_a_time);
-    bool is_directory, is_failing = fails("write");
+    bool is_directory, is_failing = fails("write", path);
     int flags = fcntl(file, F_GETFL);
     off_t offset = lseek(file, 0, (flags & O_APPEND) ? SEEK_END : SEEK_CUR);
-    ssize_t count = syscall(SYS_write, file, bytes, is_failing ? length / 2 : length);
+    ssize_t count = syscall(SYS_write, file, bytes, is_failing && !is_late() ? length / 2 : length);
     int error = errno;
     if (count >= 0) {
         tell("write\t%" PRIu64 "\t%jd\t%zd\n", inode_of(file, &is_directory), (intmax_t)offset, count);
@@ -217,7 +246,7 @@ ssize_t write(int file, const void *bytes, size_t length) {
     }
     if (is_failing) {
         count = -1;
-        error = EIO;
+        error = failure();
     }
     pthread_mutex_unlock(&one_at_a_time);
     errno = error;
@@ -232,6 +261,30 @@ ssize_t writev(int file, const struct iovec *pieces, int count) {
     /* As many as it likes: the caller goes on. */
     return count == 0 ? 0 : write(file, pieces[0].iov_base, pieces[0].iov_len);
 }
+
+/* Whether a read fails. It isn't in the trace. */
+static bool read_fails(int file) {
+    char path[PATH_MAX];
+    if (!path_of_open(file, path)) {
+        return false;
+    }
+    pthread_mutex_lock(&one_at_a_time);
+    bool is_failing = fails("read", path);
+    pthread_mutex_unlock(&one_at_a_time);
+    errno = EIO;
+    return is_failing;
+}
+
+ssize_t read(int file, void *bytes, size_t length) {
+    return read_fails(file) ? -1 : syscall(SYS_read, file, bytes, length);
+}
+
+#define PREAD(NAME)                                                                                \
+    ssize_t NAME(int file, void *bytes, size_t length, off_t offset) {                             \
+        return read_fails(file) ? -1 : (ssize_t)syscall(SYS_pread64, file, bytes, length, offset); \
+    }
+PREAD(pread)
+PREAD(pread64)
 
 #define FTRUNCATE(NAME)                                                              \
     int NAME(int file, off_t length) {                                               \
@@ -262,15 +315,15 @@ static int sync_told(int file, long call) {
     pthread_mutex_lock(&one_at_a_time);
     bool is_directory;
     uint64_t inode = inode_of(file, &is_directory);
-    bool is_failing = fails(is_directory ? "syncdir" : "sync");
-    if (is_directory && !is_failing) {
+    bool is_failing = fails(is_directory ? "syncdir" : "sync", path);
+    if (is_directory && (!is_failing || is_late())) {
         tell("syncdir\t%s\n", path);
     } else if (!is_directory) {
-        tell("%s\t%" PRIu64 "\n", is_failing ? "lost" : "sync", inode);
+        tell("%s\t%" PRIu64 "\n", is_failing && !is_late() ? "lost" : "sync", inode);
     }
     count_call();
     pthread_mutex_unlock(&one_at_a_time);
-    errno = EIO;
+    errno = failure();
     return is_failing ? -1 : 0;
 }
 
@@ -288,10 +341,19 @@ static int rename_told(int from_directory, const char *from, int to_directory, c
         return (int)syscall(SYS_renameat2, from_directory, from, to_directory, to, flags);
     }
     pthread_mutex_lock(&one_at_a_time);
-    int told = (int)syscall(SYS_renameat2, from_directory, from, to_directory, to, flags), error = errno;
+    bool is_failing = fails("rename", behind);
+    int told = -1, error = failure();
+    if (!is_failing || is_late()) {
+        told = (int)syscall(SYS_renameat2, from_directory, from, to_directory, to, flags);
+        error = errno;
+    }
     if (told == 0) {
         tell("rename\t%s\t%s\n", before, behind);
         count_call();
+    }
+    if (is_failing) {
+        told = -1;
+        error = failure();
     }
     pthread_mutex_unlock(&one_at_a_time);
     errno = error;
@@ -341,10 +403,19 @@ static int unlink_told(int directory, const char *name, int flags) {
         return (int)syscall(SYS_unlinkat, directory, name, flags);
     }
     pthread_mutex_lock(&one_at_a_time);
-    int told = (int)syscall(SYS_unlinkat, directory, name, flags), error = errno;
+    bool is_failing = fails("unlink", path);
+    int told = -1, error = failure();
+    if (!is_failing || is_late()) {
+        told = (int)syscall(SYS_unlinkat, directory, name, flags);
+        error = errno;
+    }
     if (told == 0) {
         tell("unlink\t%s\n", path);
         count_call();
+    }
+    if (is_failing) {
+        told = -1;
+        error = failure();
     }
     pthread_mutex_unlock(&one_at_a_time);
     errno = error;

@@ -8,9 +8,21 @@ import zlib
 from pathlib import Path
 from typing import Callable, Dict, List, Optional
 
-from ucstore import Db, DbOptions, FileFault, ReadOnly, Sync
+from ucstore import Db, DbOptions, DbSnapshot, FileFault, Operator, ReadOnly, Store, Sync
 
 Rows = Dict[bytes, bytes]
+
+# The rows of a batch, with None for a key that it deletes.
+Writes = Dict[bytes, Optional[bytes]]
+
+# Sizes of memtables and logs, by the second word of a mode: few runs, many, logs that are shorter than memtables, and threads.
+SIZES = {
+    "few": DbOptions(write_buffer_size=20_000, checkpoint_least=60_000, compactors=0),
+    "many": DbOptions(write_buffer_size=3_000, checkpoint_least=10_000, compactors=0, compaction_trigger=5),
+    "short": DbOptions(write_buffer_size=60_000, checkpoint_least=15_000, compactors=0),
+    "threads": DbOptions(write_buffer_size=6_000, checkpoint_least=20_000, compactors=2),
+}
+MODES = tuple(f"{sync}-{sizes}" for sync in ("always", "every", "never") for sizes in SIZES)
 
 
 class Refused(Exception):
@@ -25,19 +37,29 @@ class Database:
     """The database in a directory."""
 
     def __init__(self, folder: Path, mode: str) -> None:
-        sync = {"always": Sync.ALWAYS, "every": Sync.EVERY, "never": Sync.NEVER}[mode]
-        self._is_always = mode == "always"
-        self._db = Db(
-            folder,
-            options=DbOptions(
-                sync=sync, sync_milliseconds=3, write_buffer_size=20_000, compactors=0, checkpoint_least=60_000, checkpoint_ratio=0),
-        )
+        word, _, sizes = mode.partition("-")
+        sync = {"always": Sync.ALWAYS, "every": Sync.EVERY, "never": Sync.NEVER}[word]
+        self._is_always = word == "always"
+        self._db = Db(folder, options=SIZES[sizes]._replace(sync=sync, sync_milliseconds=3))
+        self._held: Optional[DbSnapshot] = None
 
-    def write(self, rows: Rows, is_synced: bool) -> None:
+    @staticmethod
+    def older(rows: Rows) -> Dict[str, bytes]:
+        """The files that an older version leaves of rows: its checkpoints are bases."""
+        with Store(Operator.MIXED) as store:
+            for key, value in rows.items():
+                store[key] = value
+            with store.view() as view, view.checkpoint() as checkpoint:
+                return {"OPERATOR": b"mixed\n", f"000002-{store.last}.base": b"".join(checkpoint), "000002.log": b""}
+
+    def write(self, rows: Writes, is_synced: bool) -> None:
         """Takes rows together."""
         batch = self._db.write_batch()
         for key, value in rows.items():
-            batch.put(key, value)
+            if value is None:
+                batch.delete(key)
+            else:
+                batch.put(key, value)
         try:
             self._db.write(batch, is_synced or self._is_always)
         except ReadOnly:
@@ -57,6 +79,25 @@ class Database:
     def next_log(self) -> bool:
         return self._tries(self._db.next_log)
 
+    def flush(self) -> bool:
+        return self._tries(self._db.flush)
+
+    def compact(self) -> bool:
+        return self._tries(self._db.compact)
+
+    def hold(self) -> None:
+        """Takes a snapshot, which `checkpoint_to` writes later."""
+        self._release()
+        self._held = self._db.snapshot()
+
+    def checkpoint_to(self) -> bool:
+        held = self._held
+        return held is not None and self._tries(lambda: self._db.checkpoint_to(held))
+
+    def _release(self) -> None:
+        if self._held is not None:
+            self._held.close()
+
     @staticmethod
     def _tries(call: Callable[[], None]) -> bool:
         try:
@@ -73,15 +114,19 @@ class Database:
         return dict(self._db.items())
 
     def close(self) -> bool:
+        self._release()
         return self._tries(self._db.close)
 
 
 class Control:
     """A log of records with checksums. It is read up to the first one that isn't whole, and written anew at each opening."""
 
+    # The size of a value that stands for a deletion.
+    DELETED = 0xffffffff
+
     def __init__(self, folder: Path, mode: str) -> None:
         folder.mkdir(exist_ok=True)
-        self._folder, self._is_always = folder, mode == "always"
+        self._folder, self._is_always = folder, mode.startswith("always")
         self._sync_directory(folder.parent)
         self._rows: Rows = {}
         self._failed = False
@@ -122,7 +167,10 @@ class Control:
             while body:
                 key_size, value_size = struct.unpack("<II", body[:8])
                 key, body = body[8:8 + key_size], body[8 + key_size:]
-                self._rows[key], body = body[:value_size], body[value_size:]
+                if value_size == self.DELETED:
+                    self._rows.pop(key, None)
+                else:
+                    self._rows[key], body = body[:value_size], body[value_size:]
 
     @staticmethod
     def _next(data: bytes) -> Optional[bytes]:
@@ -132,10 +180,12 @@ class Control:
         body = data[8:8 + size]
         return data[:8 + size] if size and len(body) == size and zlib.crc32(body) == checksum else None
 
-    def write(self, rows: Rows, is_synced: bool) -> None:
+    def write(self, rows: Writes, is_synced: bool) -> None:
         if self._failed:
             raise Refused(True)
-        body = b"".join(struct.pack("<II", len(key), len(value)) + key + value for key, value in rows.items())
+        body = b"".join(
+            struct.pack("<II", len(key), self.DELETED if value is None else len(value)) + key + (value or b"")
+            for key, value in rows.items())
         try:
             self._put(self._log, struct.pack("<II", len(body), zlib.crc32(body)) + body)
             if is_synced or self._is_always:
@@ -143,7 +193,11 @@ class Control:
         except OSError:
             self._failed = True
             raise Refused(True) from None
-        self._rows.update(rows)
+        for key, value in rows.items():
+            if value is None:
+                self._rows.pop(key, None)
+            else:
+                self._rows[key] = value
 
     def sync(self) -> bool:
         try:
@@ -156,7 +210,10 @@ class Control:
     def checkpoint(self) -> bool:
         return self.sync()
 
-    next_log = checkpoint
+    next_log = checkpoint_to = flush = compact = checkpoint
+
+    def hold(self) -> None:
+        pass
 
     def rows(self) -> Rows:
         return dict(self._rows)
