@@ -157,7 +157,7 @@ class Job:
         try:
             promise.hear(call.words[0])
         except Wrong as wrong:
-            self._tell("live", f"an opening finds otherwise: {wrong}", {})
+            self._tell("live", str(wrong), {})
 
     def _crash(self, device: Device, promise: Promise, depth: int) -> bool:
         """Makes a state, and opens it, unless that was done before. Returns whether it was new."""

@@ -126,7 +126,7 @@ class Job:
         try:
             promises.hear(call.words[0])
         except Wrong as wrong:
-            self._tell("live", f"an opening finds otherwise: {wrong}")
+            self._tell("live", str(wrong))
 
     def _crash(self, tree: Tree, promises: Promises) -> None:
         """Makes a state, and opens what it has, in any order."""

@@ -3,8 +3,8 @@
     drive.py STORE FOLDER MODE SEED STEPS
 
 Batch N puts a value under a key of its own. Two of three also put N under one key and under a second key of their own, and delete the
-second keys of the batches before. The marks are `try N`, `ack N SYNCED`, `refused N FINAL`, `synced` once all that was acknowledged is on the device, and
-`opened N..` with the batches that an opening found.
+second keys of the batches before. The marks are `try N`, `ack N SYNCED`, `refused N FINAL`, `synced` once all that was acknowledged is on
+the device, `opened N..` with the batches that an opening found, and `stuck` if more calls of the store fail than those of the system.
 """
 
 from __future__ import annotations
@@ -72,6 +72,8 @@ class Drive:
         self._mark_in_trace = mark_function()
         self._kind, self._folder, self._mode, self._seed = STORES[store], folder, mode, seed
         self._next = 1
+        # The number of calls that may fail yet.
+        self._faults = int(os.environ["DISK_FAIL"].split(":")[2]) if "DISK_FAIL" in os.environ else 0
         self._open()
 
     def _mark(self, text: str) -> None:
@@ -104,6 +106,10 @@ class Drive:
     def _sync(self, is_done: bool) -> None:
         if is_done:
             self._mark("synced")
+        elif not self._store.is_read_only:
+            self._faults -= 1
+            if self._faults < 0:
+                self._mark("stuck")
 
     def run(self, steps: int, drawn: random.Random) -> None:
         """Takes a number of steps, and closes the store."""

@@ -40,6 +40,8 @@ class Promise:
             self.pending = self.pending if rest[1] == "1" else None
         elif word == "synced":
             self.kept = len(self.acknowledged)
+        elif word == "stuck":
+            raise Wrong("a checkpoint or a sync fails once more than calls of the system")
         elif word == "opened":
             found = [int(number) for number in rest[0].split(",")] if rest else []
             self.check(found, True)

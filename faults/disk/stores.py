@@ -42,6 +42,7 @@ class Database:
         self._is_always = word == "always"
         self._db = Db(folder, options=SIZES[sizes]._replace(sync=sync, sync_milliseconds=3))
         self._held: Optional[DbSnapshot] = None
+        self.is_read_only = False
 
     @staticmethod
     def older(rows: Rows) -> Dict[str, bytes]:
@@ -98,11 +99,11 @@ class Database:
         if self._held is not None:
             self._held.close()
 
-    @staticmethod
-    def _tries(call: Callable[[], None]) -> bool:
+    def _tries(self, call: Callable[[], None]) -> bool:
         try:
             call()
-        except (ReadOnly, FileFault):
+        except (ReadOnly, FileFault) as error:
+            self.is_read_only |= isinstance(error, ReadOnly)
             return False
         return True
 
@@ -206,6 +207,10 @@ class Control:
         except OSError:
             self._failed = True
         return not self._failed
+
+    @property
+    def is_read_only(self) -> bool:
+        return self._failed
 
     def checkpoint(self) -> bool:
         return self.sync()
