@@ -58,12 +58,14 @@ overwriting() {
 }
 
 adding() {
-    local version
-    for version in "${versions[@]}"; do
-        measure "$version" "leave-$big" leave "$folder/$version-big" "$big"
-        measure "$version" "add-$big" add "$folder/$version-big" "$big" 10
-        rm -rf "$folder/$version-big"
+    local version turn
+    for version in "${versions[@]}"; do measure "$version" "leave-$big" leave "$folder/$version-big" "$big"; done
+    for ((turn = 0; turn < turns; turn++)); do
+        for version in "${versions[@]}"; do
+            measure "$version" "add-$big" add "$folder/$version-big" "$((big + 100000 * turn))" 10
+        done
     done
+    rm -rf "$folder"/*-big
 }
 
 [ $# -ge 1 ] || fail "it takes the folder of an installed version"
