@@ -157,7 +157,8 @@ static void overwrite(uint64_t rows) {
     struct ucstore_db_stats found = stats();
     printf("ms %" PRIu64 " longest_us %" PRIu64 " above_10ms %" PRIu64 " not_preempted_longest_us %" PRIu64
            " not_preempted_above_10ms %" PRIu64 " logged %" PRIu64 " written %" PRIu64 " checkpoints %" PRIu64
-           "\n", all / 1000000, longest / 1000, late, longest_running / 1000, late_running, found.logged_bytes, found.base_bytes, found.checkpoints);
+           "\n", all / 1000000, longest / 1000, late, longest_running / 1000, late_running, found.logged_bytes,
+           found.base_bytes, found.checkpoints);
 }
 
 static void add(uint64_t rows, uint64_t mebibytes) {

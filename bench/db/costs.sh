@@ -4,8 +4,8 @@
 #     bench/db/costs.sh PREFIX [OLDER]
 #
 # Each is a folder that `tools/install database` has installed to. ROWS (1000000) is the number of rows, MORE (none) a greater number to be
-# opened too, BIG (8000000) the number of rows that 10 MiB are added to, TURNS (3) how often each is measured, in turn, and FOLDERS (a temporary
-# folder) is where the databases are. PARTS (opening overwriting adding) names some parts. Each line is a measurement.
+# opened too, BIG (8000000) the number of rows that 10 MiB are added to, TURNS (3) how often each is measured, in turn, and FOLDERS (a
+# temporary folder) is where the databases are. PARTS (opening overwriting adding) names some parts. Each line is a measurement.
 set -u -o pipefail
 
 here=$(cd "$(dirname "${BASH_SOURCE[0]}")" && pwd) || exit 1

@@ -5,8 +5,8 @@
 A store is driven in a process whose calls are recorded (record.c). Some of these fail, and some processes are killed and started
 again. At each call device.py makes what a crash may leave, and that is opened. Some of it is driven on, and crashes again. Some histories
 begin with a directory that an older version wrote. With --each, N calls of each step of a checkpoint fail, each in a process of its
-own. With --lie the device doesn't keep what it says: then something has to be found. The last line is `N states, M wrong`, and the status is
-1 if there is a wrong one.
+own. With --lie the device doesn't keep what it says: then something has to be found. The last line is `N states, M wrong`, and the
+status is 1 if there is a wrong one.
 """
 
 from __future__ import annotations

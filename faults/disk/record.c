@@ -6,11 +6,11 @@
  *     create INODE PATH   write INODE OFFSET LENGTH   cut INODE LENGTH   sync INODE   lost INODE
  *     mkdir PATH   syncdir PATH   rename FROM TO   link FROM TO   unlink PATH   mark TEXT
  *
- * `lost` is a sync that failed. DISK_FAIL=KIND:N:COUNT:ERROR:ENDING lets COUNT calls of a kind fail, after N of them: sync, syncdir, write,
- * create, rename, unlink, read, or any of these. Calls whose path has another ENDING don't count; `*` has each. They fail by EIO if
- * ERROR is `io`, and by ENOSPC if it is `space`; if it is `late`, by EIO after they have done their work. A write that fails else has written
- * its first half. DISK_STOP=N ends the process after its Nth call, as signal 9 does. With DISK_LINKS=no a link fails by EXDEV, as between
- * file systems. One call goes at a time, so that the order of the lines is the order of the calls. */
+ * `lost` is a sync that failed. DISK_FAIL=KIND:N:COUNT:ERROR:ENDING lets COUNT calls of a kind fail, after N of them: sync, syncdir,
+ * write, create, rename, unlink, read, or any of these. Calls whose path has another ENDING don't count; `*` has each. They fail by EIO
+ * if ERROR is `io`, and by ENOSPC if it is `space`; if it is `late`, by EIO after they have done their work. A write that fails else has
+ * written its first half. DISK_STOP=N ends the process after its Nth call, as signal 9 does. With DISK_LINKS=no a link fails by EXDEV, as
+ * between file systems. One call goes at a time, so that the order of the lines is the order of the calls. */
 #define _GNU_SOURCE
 #include <dlfcn.h>
 #include <errno.h>
