@@ -223,7 +223,7 @@ impl Shared {
         Ok(guard)
     }
 
-    /// The size of the logs that no base holds in bytes.
+    /// The size of the logs that no checkpoint holds in bytes.
     pub(crate) fn log_bytes(&self) -> u64 {
         self.counts.log_bytes.get()
     }

@@ -29,7 +29,7 @@ pub(crate) struct Counts {
     pub(crate) user_bytes: Count,
     /// The bytes that were appended to logs.
     pub(crate) logged_bytes: Count,
-    /// The bytes that the logs have now and no base holds.
+    /// The bytes that the logs have now and no checkpoint holds.
     pub(crate) log_bytes: Count,
     /// The bytes of the lists, the run files and the bases that were written.
     pub(crate) base_bytes: Count,

@@ -392,8 +392,8 @@ impl Db {
         shared.checkpoint_to(view)
     }
 
-    /// Goes on in a new log, unless nothing is in this one: so a checkpoint of now will let the ones before it go, whatever is written until
-    /// then. Nothing has to call this. In memory it does nothing.
+    /// Goes on in a new log, unless nothing is in this one: so a checkpoint of now will let the ones before it go, whatever is
+    /// written until then. Nothing has to call this. In memory it does nothing.
     ///
     /// # Errors
     ///

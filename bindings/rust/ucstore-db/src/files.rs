@@ -68,8 +68,9 @@ pub struct WritesRead {
     pub length: u64,
 }
 
-/// Returns the files of a folder: first checkpoints and logs, in the order in which an opening reads them, then run files by number, and then
-/// the others by name. One that an owner removes meanwhile may be left out. If the newest list is damaged, all run files count as read.
+/// Returns the files of a folder: first checkpoints and logs, in the order in which an opening reads them, then run files by number, and
+/// then the others by name. One that an owner removes meanwhile may be left out. If the newest list is damaged, all run files count as
+/// read.
 ///
 /// # Errors
 ///

@@ -42,9 +42,9 @@ pub(crate) struct Log {
     is_closed: bool,
     /// Whether another log says what was acknowledged. Then a close writes nothing: who was taken for dead may be closed late.
     is_part: bool,
-    /// The logs before it that no base holds whole.
+    /// The logs before it that no checkpoint holds whole.
     older: Vec<Older>,
-    /// The last sequence of the newest base.
+    /// The last sequence of the newest checkpoint.
     based: u64,
     counts: Arc<Counts>,
 }
@@ -84,7 +84,7 @@ pub(crate) struct SyncApart {
 }
 
 impl Log {
-    /// The last one of logs that are there, after a base that goes up to a sequence.
+    /// The last one of logs that are there, after a checkpoint that goes up to a sequence.
     pub(crate) fn of(
         folder: Arc<dyn Folder>,
         last: Older,
@@ -274,14 +274,14 @@ impl Log {
         Ok(())
     }
 
-    /// The size of the logs that no base holds in bytes.
+    /// The size of the logs that no checkpoint holds in bytes.
     pub(crate) fn bytes(&self) -> u64 {
         let older: u64 = self.older.iter().map(|log| log.length).sum();
         older + self.length
     }
 
-    /// The place of a base that goes up to a sequence, if none does: the number of the log that goes on after it, and a number in the order
-    /// of the batches that it has of that.
+    /// The place of a checkpoint that goes up to a sequence, if none does: the number of the log that goes on after it, and a number in
+    /// the order of the batches that it has of that.
     pub(crate) fn place_behind(&self, sequence: u64) -> Option<(u64, u64)> {
         let older = self.older.iter().map(|log| (log.number, log.before));
         let mut all = older.chain([(self.number(), self.before)]);

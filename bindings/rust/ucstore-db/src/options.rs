@@ -43,8 +43,8 @@ pub struct Options {
     pub compact_when_idle: Option<Duration>,
     /// From how many runs on writes are slowed, by a millisecond each time.
     pub slow_trigger: u32,
-    /// By how many times the logs exceed the data when a checkpoint is made. A checkpoint writes only the runs that no older one has, so the
-    /// default is 0: `checkpoint_least` alone decides. With more, logs are longer, and so are openings.
+    /// By how many times the logs exceed the data when a checkpoint is made. A checkpoint writes only the runs that no older one has, so
+    /// the default is 0: `checkpoint_least` alone decides. With more, logs are longer, and so are openings.
     pub checkpoint_ratio: u64,
     /// The least size of the logs in bytes at which a checkpoint is made. With [`u64::MAX`] none is made by itself.
     pub checkpoint_least: u64,

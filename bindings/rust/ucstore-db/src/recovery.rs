@@ -63,7 +63,7 @@ pub(crate) struct Recovery {
     torn: Option<u64>,
     /// The logs before it.
     older: Vec<Older>,
-    /// The last sequence of the base.
+    /// The last sequence of the checkpoint.
     based: u64,
     /// Where the next log begins.
     begin: Begin,
@@ -85,7 +85,7 @@ pub(crate) struct Opened {
 }
 
 impl Files {
-    /// Finds the newest base, by the names alone. Of no log it is known that it is used.
+    /// Finds the newest checkpoint, by the names alone. Of no log it is known that it is used.
     fn of(folder: &dyn Folder) -> Result<Files, Error> {
         let texts = folder.names().map_err(Error::of_file(""))?;
         let has_operator = texts.iter().any(|text| text == operator_file::OPERATOR);
@@ -109,7 +109,7 @@ impl Files {
             .filter(|name| listed_base(name) == Some(newest));
         let base = Name::newest(are_newest.copied());
         if base.is_some() && !found.is_there {
-            // A log is made before the base of its number.
+            // A log is made before the checkpoint of its number.
             return Err(missing(found.log));
         }
         Ok(Files {
@@ -122,7 +122,7 @@ impl Files {
         })
     }
 
-    /// The numbers of the logs that aren't older than the base.
+    /// The numbers of the logs that aren't older than the checkpoint.
     fn logs(&self) -> Vec<u64> {
         let numbers = self.logs.iter().map(|log| log.number);
         numbers
