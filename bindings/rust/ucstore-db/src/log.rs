@@ -280,8 +280,8 @@ impl Log {
         older + self.length
     }
 
-    /// The place of a checkpoint that goes up to a sequence, if none does: the number of the log that goes on after it, and a number in the order
-    /// of the batches that it has of that.
+    /// The place of a checkpoint that goes up to a sequence, if none does: the number of the log that goes on after it, and a number in
+    /// the order of the batches that it has of that.
     pub(crate) fn place_behind(&self, sequence: u64) -> Option<(u64, u64)> {
         let older = self.older.iter().map(|log| (log.number, log.before));
         let mut all = older.chain([(self.number(), self.before)]);

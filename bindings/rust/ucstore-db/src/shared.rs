@@ -33,7 +33,7 @@ const LONG_GROUP: usize = 64 << 10;
 /// the batch is prepared until it is committed; the store is locked for each call alone, so that views and jobs are taken meanwhile.
 pub(crate) struct Shared {
     pub(crate) options: Options,
-    /// Held by a checkpoint.
+    /// Held by a checkpoint, with the run files of the newest one.
     pub(crate) checkpointing: Mutex<RunFiles>,
     /// Held while the next log is made.
     pub(crate) switching: Mutex<()>,

@@ -260,12 +260,14 @@ fn checkpoints_at_once_are_made_one_after_the_other() {
         }
     });
     db.checkpoint().unwrap();
-    let (map, stats) = (map_of(&db), db.stats());
-    assert_eq!((map.len(), stats.log_bytes), (120, 0));
+    let map = map_of(&db);
+    assert_eq!((map.len(), db.stats().log_bytes), (120, 0));
     drop(db);
-    let runs = names(&device).iter().filter(|it| it.ends_with("n")).count();
-    assert_eq!(runs as u64, stats.runs);
-    assert_eq!(map_of(&open_with(&device, &options(4)).unwrap()), map);
+    let again = open_with(&device, &options(4)).unwrap();
+    assert_eq!(map_of(&again), map);
+    let names = names(&device);
+    let runs = names.iter().filter(|name| name.ends_with(".run"));
+    assert_eq!(runs.count() as u64, again.stats().runs);
 }
 
 /// A checkpoint that the database makes by itself flushes nothing, if there are runs: its list ends where a batch ends, within a log.
