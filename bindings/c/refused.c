@@ -562,10 +562,98 @@ static void soak(size_t calls) {
     CHECK(live == 0);
 }
 
+/* A store with two runs, as a view. */
+static void open_runs(struct ucstore_view *view) {
+    struct ucstore from;
+    struct ucstore_options options;
+    from.at = view->at = NULL;
+    CHECK(ucstore_options_init(&options) == UCSTORE_OK && ucstore_create(&from, UCSTORE_APPEND, &options) == UCSTORE_OK);
+    for (size_t key = 0; key < KEYS; key++) {
+        CHECK(ucstore_merge(&from, keys + key, 1, keys, 3) == UCSTORE_OK);
+        if (key == KEYS / 2) {
+            CHECK(ucstore_delete_range(&from, keys, 1, NULL, 0) == UCSTORE_OK && ucstore_flush(&from) == UCSTORE_OK);
+        }
+    }
+    CHECK(ucstore_flush(&from) == UCSTORE_OK && ucstore_view(&from, view) == UCSTORE_OK && ucstore_close(&from) == UCSTORE_OK);
+}
+
+/* Reads the run of a view at a place, and adds it to a store, by one call or piece by piece. */
+static int32_t add_one(struct ucstore_view *view, size_t place, bool by_pieces, struct ucstore *opened) {
+    static uint8_t bytes[ROOM];
+    struct ucstore_run run;
+    struct ucstore_run_file file;
+    uint64_t id = 0, low = 0, high = 0;
+    size_t length = 0, offset = 0;
+    int32_t status;
+    run.at = file.at = NULL;
+    status = ucstore_run(view, place, &run);
+    if (status != UCSTORE_OK) {
+        CHECK(run.at == NULL);
+        return status;
+    }
+    CHECK(ucstore_run_read(&run, 0, bytes, sizeof bytes, &length) == UCSTORE_OK && ucstore_run_close(&run) == UCSTORE_OK);
+    if (!by_pieces) {
+        return ucstore_add_run(opened, bytes, length, &id, &offset);
+    }
+    status = ucstore_run_file_open(&file, 1);
+    if (status == UCSTORE_OK) {
+        status = ucstore_run_file_append(&file, bytes, length);
+        if (status != UCSTORE_OK) {
+            CHECK(file.at != NULL && ucstore_run_file_close(&file) == UCSTORE_OK);
+            return status;
+        }
+        status = ucstore_run_file_read(&file, &low, &high, &offset);
+    }
+    if (status == UCSTORE_OK) {
+        status = ucstore_add_run_file(opened, &file, &id);
+    }
+    CHECK(file.at == NULL);
+    return status;
+}
+
+/* Opens a store from the runs of a view, while each allocation fails in turn. A run that isn't added changes nothing. */
+static void refuse_runs(void) {
+    struct ucstore_view view;
+    struct ucstore opened;
+    struct ucstore_options options;
+    uint64_t last = 0;
+    open_runs(&view);
+    for (size_t way = 0; way < 4; way++) {
+        size_t allowed = 0, failed = 0;
+        bool is_whole = false;
+        while (!is_whole) {
+            int32_t status;
+            size_t before = refusals;
+            opened.at = NULL;
+            CHECK(ucstore_options_init(&options) == UCSTORE_OK && ucstore_create(&opened, UCSTORE_APPEND, &options) == UCSTORE_OK);
+            CHECK(add_one(&view, 1, false, &opened) == UCSTORE_OK && ucstore_last(&opened, &last) == UCSTORE_OK);
+            lasts = way % 2 == 1;
+            granted = allowed++;
+            refuses = true;
+            status = add_one(&view, 0, way >= 2, &opened);
+            refuses = false;
+            is_whole = refusals == before;
+            /* A block that isn't made smaller does no harm. */
+            CHECK(status == UCSTORE_OK || (status == UCSTORE_OUT_OF_MEMORY && !is_whole));
+            if (status != UCSTORE_OK) {
+                uint64_t still = 0;
+                failed++;
+                CHECK(ucstore_last(&opened, &still) == UCSTORE_OK && still == last && add_one(&view, 0, way >= 2, &opened) == UCSTORE_OK);
+            }
+            CHECK(ucstore_close(&opened) == UCSTORE_OK);
+        }
+        CHECK(failed > 3);
+    }
+    lasts = false;
+    CHECK(ucstore_view_close(&view) == UCSTORE_OK);
+}
+
 int main(int argc, char **argv) {
     size_t calls = argc > 1 ? (size_t)strtoull(argv[1], NULL, 10) : 1000;
     state = argc > 2 ? strtoull(argv[2], NULL, 10) : 1;
     lay_out_keys();
+    refuse_runs();
+    CHECK(live == 0);
     soak(calls);
     lasts = true;
     soak(calls);
