@@ -99,8 +99,11 @@ impl Shared {
     /// Goes on in a new log, flushes what was logged before, and takes a view of that. Writes wait for the flush, so that the new log has
     /// nothing of it.
     fn begin_checkpoint(&self, run_files: &RunFiles) -> Result<Option<Begun>, Error> {
-        let log = self.switch_if(|_| true)?;
-        let Some(log) = &*log else {
+        // Without a write since the newest list all stays as it is, also for those who read the directory meanwhile.
+        let is_covered =
+            |log: &Log| !run_files.named.is_empty() && log.is_covered(lock(&self.store).last());
+        let log = self.switch_if(|log| !is_covered(log))?;
+        let Some(log) = (*log).as_ref().filter(|log| !is_covered(log)) else {
             return Ok(None);
         };
         if lock(&self.store).report().gathered > 0 {

@@ -298,6 +298,11 @@ impl Log {
         self.place_behind(sequence).map(|place| (self, place))
     }
 
+    /// Whether the newest checkpoint has all up to a sequence, and no log has a byte.
+    pub(crate) fn is_covered(&self, last: u64) -> bool {
+        self.based == last && self.bytes() == 0
+    }
+
     /// Forgets the logs before one, which a checkpoint holds up to a sequence. Returns the size of the log of which it has a part in bytes.
     pub(crate) fn forget_before(&mut self, number: u64, based: u64) -> u64 {
         self.older.retain(|log| log.number >= number);

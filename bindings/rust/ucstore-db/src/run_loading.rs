@@ -12,12 +12,15 @@ use std::sync::mpsc::{self, Receiver, Sender};
 use std::thread;
 use ucstore::{LoadedRun, RunError, Store};
 
+/// The size of all files in bytes from which on several threads read them. Fewer bytes are read before a thread is there.
+const LEAST_BYTES: u64 = 4 << 20;
+
 /// A run, by its place in a list.
 type Placed = (usize, Result<LoadedRun, Error>);
 
 /// Adds the runs of a list to an empty store, the oldest first, and tells of each one that was added. Returns their IDs.
 ///
-/// As many threads as there are processors read the files. The bytes are read into the memory of the runs, so nothing is held twice. If a file is
+/// As many threads as there are processors read files of some size. The bytes are read into the memory of the runs, so nothing is held twice. If a file is
 /// damaged, the store has the runs before it.
 pub(crate) fn add_runs(
     folder: &dyn Folder,
@@ -32,7 +35,8 @@ pub(crate) fn add_runs(
     };
     let processors = thread::available_parallelism().map_or(1, usize::from);
     let threads = processors.min(list.runs.len());
-    if threads < 2 {
+    let size: u64 = list.runs.iter().map(|run| run.size).sum();
+    if threads < 2 || size < LEAST_BYTES {
         let runs = list.runs.iter();
         return runs.map(|run| add(run, load_run(folder, run))).collect();
     }

@@ -135,8 +135,8 @@ fn only_new_runs_are_written() {
     assert_eq!((stats.base_bytes, stats.checkpoints), (written, 3));
     // Nothing is new.
     db.checkpoint().unwrap();
-    assert_eq!(names(&device)[2], "000005-2.runs");
-    assert_eq!(db.stats().run_files, 2);
+    assert_eq!(names(&device), second);
+    assert_eq!(db.stats().checkpoints, 3);
     // The flush of a third one compacts all.
     write(3);
     db.flush().unwrap();
@@ -144,7 +144,7 @@ fn only_new_runs_are_written() {
     db.checkpoint().unwrap();
     assert_eq!(
         names(&device),
-        ["000003.run", "000006-3.runs", "000006.log"]
+        ["000003.run", "000005-3.runs", "000005.log"]
     );
     assert_eq!(db.stats().run_files, 3);
     let map = map_of(&db);
@@ -154,7 +154,7 @@ fn only_new_runs_are_written() {
     db.put("k", "v").unwrap();
     db.checkpoint().unwrap();
     assert_eq!(db.stats().run_files, 1);
-    let again = ["000003.run", "000004.run", "000007-4.runs", "000007.log"];
+    let again = ["000003.run", "000004.run", "000006-4.runs", "000006.log"];
     assert_eq!(names(&device), again);
     assert_eq!(map_of(&db).len(), map.len() + 1);
 }
