@@ -365,7 +365,7 @@ impl Db {
     }
 
     /// Writes the runs that no checkpoint has, and a list of all, and removes the logs before it. Others write meanwhile, and wait for a
-    /// flush of what no run has. In memory it does nothing.
+    /// flush of the memtables. It does nothing in memory, or if a list of runs has all writes.
     ///
     /// # Errors
     ///
