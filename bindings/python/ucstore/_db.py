@@ -360,7 +360,7 @@ class Db(Reader, MutableMapping[bytes, bytes], MergesParts):
         self._call("compact")
 
     def checkpoint(self) -> None:
-        """Writes a checkpoint, and deletes the logs that it covers. Writers are not stopped.
+        """Writes a checkpoint, and deletes the logs that it covers. Writers wait for a flush of the memtables.
 
         Raises `FileFault` if the checkpoint is not written: the logs are kept, and the database works as before. Raises
         `ReadOnly`.
